@@ -1,0 +1,52 @@
+-- Signs: what a sign means of two integers, both ways; then of negated, equal, added and multiplied ones.
+use mathlib.Core.Path.{_≡_, refl, sym, ap}
+use mathlib.Core.Bool.{Bool, true, false, cond}
+use lib.IntN.{ℤ, negℤ}
+use lib.Signed.{_≤ℤ_, _<ℤ_, ltZ}
+use Rattle.integers.specs.Sign.{Sign, less, equal, greater, sign, turned}
+use Rattle.integers.proofs.RingLaws.{zarith, ≤ℤ-antisym}
+use Rattle.integers.proofs.RangeLaws.{lt-test, lt-test-no, test-lt, test-lt-no}
+use Rattle.integers.proofs.DifferenceLaws.{neg-fact}
+
+-- s is how x stands to y: case on the sign, and the order is at hand
+abbrev pub Means : Sign → ℤ → ℤ → Type 0
+Means less x y = x <ℤ y
+Means equal x y = x ≡ y
+Means greater x y = y <ℤ x
+
+pub sign-means : (x y : ℤ) → Means (sign x y) x y
+unfolding sign
+sign-means x y = go (ltZ x y) refl (ltZ y x) refl
+  where
+    go : (s : Bool) → ltZ x y ≡ s → (t : Bool) → ltZ y x ≡ t → Means (cond s less (cond t greater equal)) x y
+    go true e t f = test-lt e
+    go false e true f = test-lt f
+    go false e false f = ≤ℤ-antisym (test-lt-no f) (test-lt-no e)
+
+pub means-sign : (s : Sign) (x y : ℤ) → Means s x y → sign x y ≡ s
+unfolding sign
+means-sign less x y h = ap (λ (t : Bool). cond t less (cond (ltZ y x) greater equal)) (lt-test h)
+means-sign equal x y h = let e : x ≤ℤ y = omega zarith in let f : y ≤ℤ x = omega zarith in rw (lt-test-no {a = x} {b = y} f, lt-test-no {a = y} {b = x} e)
+means-sign greater x y h = let f : y ≤ℤ x = omega zarith in rw (lt-test-no {a = x} {b = y} f, lt-test h)
+
+pub means-unique : (s t : Sign) (x y : ℤ) → Means s x y → Means t x y → s ≡ t
+means-unique s t x y h k = cc (means-sign s x y h, means-sign t x y k)
+
+pub sign-self : (x : ℤ) → sign x x ≡ equal
+sign-self x = means-sign equal x x refl
+
+pub sign-turned : (x y : ℤ) → sign y x ≡ turned (sign x y)
+sign-turned x y = means-sign (turned (sign x y)) y x (go (sign x y) (sign-means x y))
+  where
+    go : (s : Sign) → Means s x y → Means (turned s) y x
+    go less h = h
+    go equal h = sym h
+    go greater h = h
+
+pub sign-negated : (x y : ℤ) → sign (negℤ x) (negℤ y) ≡ turned (sign x y)
+sign-negated x y = means-sign (turned (sign x y)) (negℤ x) (negℤ y) (go (sign x y) (sign-means x y))
+  where
+    go : (s : Sign) → Means s x y → Means (turned s) (negℤ x) (negℤ y)
+    go less h = omega (zarith, neg-fact x, neg-fact y)
+    go equal h = ap negℤ h
+    go greater h = omega (zarith, neg-fact x, neg-fact y)

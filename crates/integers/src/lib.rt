@@ -1,0 +1,86 @@
+// Exact integers: the arithmetic of limits and subscripts. The solver for proofs over them is in proofs/.
+ghost use mathlib.Core.Path.{_≡_};
+ghost use Prim.Native.Nat.{_+_, _≤_};
+ghost use lib.IntN.{pos, _+ℤ_, _*ℤ_};
+ghost use lib.Signed.{_<ℤ_};
+ghost use Rattle.integers.specs.Difference.{size};
+ghost use Rattle.integers.specs.Division.{floorDiv, ceilDiv};
+ghost use Rattle.integers.specs.Gcd.{gcd};
+ghost use Rattle.integers.specs.Affine.{affine, AffineIn};
+ghost use Rattle.integers.specs.Sign.{sign, signValue};
+
+// a divided by b, rounded down: −3/4 is −1.
+pub fn floor_div(a: i64, b: i64) -> i64
+    requires { ⌜ pos 0 <ℤ b ⌝ }
+    ensures { λ r. ⌜ r ≡ floorDiv a b ⌝ }
+{
+    let q = a / b;
+    let r = a % b;
+    if r < 0 { q - 1 } else { q }
+}
+
+// a divided by b, rounded up: −3/4 is 0.
+pub fn ceil_div(a: i64, b: i64) -> i64
+    requires { ⌜ pos 0 <ℤ b ⌝ }
+    ensures { λ r. ⌜ r ≡ ceilDiv a b ⌝ }
+{
+    let q = a / b;
+    let r = a % b;
+    if r > 0 { q + 1 } else { q }
+}
+
+// The greatest common divisor; gcd(0, 0) is 0.
+pub fn gcd(x: u64, y: u64) -> u64
+    ensures { λ r. ⌜ r ≡ Rattle.integers.specs.Gcd.gcd x y ⌝ }
+{
+    let mut a = x;
+    let mut b = y;
+    while b != 0 {
+        let t = a % b;
+        a = b;
+        b = t;
+    }
+    a
+}
+
+// A number under way: in a struct, so that a loop's invariant sees the integer and not its bits.
+struct Whole {
+    value: i64,
+}
+
+// The sum and one coefficient times one index more.
+fn plus(sum: Whole, c: i64, x: i64) -> Whole
+    requires { ⌜ (size (sum .value) ≤ 36028797018963968) × (size c ≤ 2147483648) × (size x ≤ 1048576) ⌝ }
+    ensures { λ r. ⌜ r .value ≡ sum .value +ℤ c *ℤ x ⌝ }
+{
+    Whole {
+        value: sum.value + c * x,
+    }
+}
+
+// The constant and the coefficients times the indices.
+pub fn affine(constant: i64, coefficients: &[i64], indices: &[i64]) -> i64
+    requires { ⌜ AffineIn constant (now coefficients) (now indices) ⌝ }
+    ensures { λ r. ⌜ r ≡ Rattle.integers.specs.Affine.affine constant (now (coefficients .entry)) (now (indices .entry)) ⌝ }
+{
+    let mut sum = Whole { value: constant };
+    let mut i = 0;
+    while i < coefficients.len() {
+        sum = plus(sum, coefficients[i], indices[i]);
+        i += 1;
+    }
+    sum.value
+}
+
+// −1, 0 or 1 as a is below, equal to or above b.
+pub fn sign_of(a: i64, b: i64) -> i64
+    ensures { λ r. ⌜ r ≡ signValue (sign a b) ⌝ }
+{
+    if a < b {
+        return -1;
+    }
+    if b < a {
+        return 1;
+    }
+    0
+}
