@@ -1,9 +1,11 @@
--- Signs: what a sign means of two integers, both ways; then of negated, equal, added and multiplied ones.
+-- Signs: what a sign means of two integers, both ways; then of equal, turned and negated ones. Then the test of equality.
 use mathlib.Core.Path.{_≡_, refl, sym, ap}
 use mathlib.Core.Bool.{Bool, true, false, cond}
-use lib.IntN.{ℤ, negℤ}
+use lib.Dec.{T, eqb→eq, eqb-refl}
+use lib.IntN.{ℤ, pos, negsuc, negℤ}
+use Rattle.lists.specs.Tests.{Decides}
 use lib.Signed.{_≤ℤ_, _<ℤ_, ltZ}
-use Rattle.integers.specs.Sign.{Sign, less, equal, greater, sign, turned}
+use Rattle.integers.specs.Sign.{Sign, less, equal, greater, sign, turned, eqZ}
 use Rattle.integers.proofs.RingLaws.{zarith, ≤ℤ-antisym}
 use Rattle.integers.proofs.RangeLaws.{lt-test, lt-test-no, test-lt, test-lt-no}
 use Rattle.integers.proofs.DifferenceLaws.{neg-fact}
@@ -50,3 +52,18 @@ sign-negated x y = means-sign (turned (sign x y)) (negℤ x) (negℤ y) (go (sig
     go less h = omega (zarith, neg-fact x, neg-fact y)
     go equal h = ap negℤ h
     go greater h = omega (zarith, neg-fact x, neg-fact y)
+
+-- ---- the test of equality
+
+pub eqZ-decides : Decides eqZ
+eqZ-decides = record { equal = equal-when; itself = passes }
+  where
+    equal-when : (x y : ℤ) → T (eqZ x y) → x ≡ y
+    equal-when (pos a) (pos b) t = ap pos (eqb→eq a b t)
+    equal-when (pos a) (negsuc b) t = absurd t
+    equal-when (negsuc a) (pos b) t = absurd t
+    equal-when (negsuc a) (negsuc b) t = ap negsuc (eqb→eq a b t)
+
+    passes : (x : ℤ) → T (eqZ x x)
+    passes (pos a) = eqb-refl a
+    passes (negsuc a) = eqb-refl a

@@ -1,5 +1,6 @@
--- How one index stands to another, as data: <, = or >. The sign of a direction vector for one loop.
-use mathlib.Core.Bool.{cond}
+-- How one index stands to another, as data: <, = or >. The sign of a direction vector for one loop. Then equality as a test.
+use mathlib.Core.Bool.{Bool, false, cond}
+use lib.Dec.{eqb}
 use lib.IntN.{ℤ, pos, negsuc}
 use lib.Signed.{ltZ}
 
@@ -20,3 +21,9 @@ abbrev pub signValue : Sign → ℤ
 signValue less = negsuc 0
 signValue equal = pos 0
 signValue greater = pos 1
+
+abbrev pub eqZ : ℤ → ℤ → Bool
+eqZ (pos a) (pos b) = eqb a b
+eqZ (pos a) (negsuc b) = false
+eqZ (negsuc a) (pos b) = false
+eqZ (negsuc a) (negsuc b) = eqb a b

@@ -1,4 +1,4 @@
--- Laws of tests. In order: a test as a type (`T`) and as an equation; tests joined; a choice by a test; `all` and `any`; equality of
+-- Laws of tests. In order: a test as a type (`T`) and as an equation; tests joined; a choice by a test; `all` and `any`; `select`; equality of
 -- lists (`sameBy`); `without`; by a test that decides equality, membership and `unique`.
 -- Not here: negated tests (`T-not`, `not-T` of `lib.Dec`; `not-true`, `not-false` of `borrow.Author.Tests`), tests of numbers (both),
 -- equations of tests (`mathlib.Core.Bool`).
@@ -12,7 +12,7 @@ use lib.Dec.{T}
 use lib.ListN.{length, getD, take}
 use lib.Seq.{take-suc}
 use Rattle.lists.specs.Membership.{Mem, All, Distinct, SameMembers}
-use Rattle.lists.specs.Tests.{Decides, all, any, sameBy, without, unique}
+use Rattle.lists.specs.Tests.{Decides, all, any, select, sameBy, without, unique}
 use Rattle.lists.proofs.MembershipLaws.{all-nil, all-cons}
 
 -- ---- a test as a type and as an equation
@@ -114,6 +114,28 @@ module _ {A : Type 0} (t : A → Bool) where
   pub any-take-suc : (l : List A) (j : ℕ) (d : A) → j < length l → any t (take (suc j) l) ≡ any t (take j l) || t (getD l j d)
   unfolding any
   any-take-suc l j d h = rw (take-suc l j d h, any-join (take j l) (getD l j d ∷ []), or-false (t (getD l j d)))
+
+-- ---- the elements that pass
+
+module _ {A : Type 0} (t : A → Bool) where
+  pub select-mem : {x : A} (l : List A) → Mem x (select t l) → Mem x l × T (t x)
+  unfolding select
+  select-mem [] m = absurd (List·Memᴰ·not-nil m)
+  select-mem {x} (y ∷ l) m = go (T-cases (t y)) m (λ j. select-mem l j)
+    where
+      Found : Type 0
+      Found = Mem x (y ∷ l) × T (t x)
+
+      go : T (t y) ⊎ (T (t y) → ⊥) → Mem x (cond (t y) (y ∷ select t l) (select t l)) → (Mem x (select t l) → Mem x l × T (t x)) → Found
+      go (inl h) j rest = ⊎-elim (λ e. (List·Memᴰ·head e, subst (λ z. T (t z)) (sym e) h)) (λ k. let r = rest k in (List·Memᴰ·tail (r .0), r .1))
+          (List·Memᴰ·cases-cons (subst (λ b. Mem x (cond b (y ∷ select t l) (select t l))) (T-true (t y) h) j))
+      go (inr h) j rest = let r = rest (subst (λ b. Mem x (cond b (y ∷ select t l) (select t l))) (not-T-false (t y) h) j) in (List·Memᴰ·tail (r .0), r .1)
+
+  pub mem-select : {x : A} (l : List A) → Mem x l → T (t x) → Mem x (select t l)
+  unfolding select
+  mem-select {x} (y ∷ l) (List·Memᴰ·head e) h =
+      subst (λ b. Mem x (cond b (y ∷ select t l) (select t l))) (sym (T-true (t y) (subst (λ z. T (t z)) e h))) (List·Memᴰ·head e)
+  mem-select {x} (y ∷ l) (List·Memᴰ·tail m) h = let r = mem-select l m h in cond-cases (λ k. Mem x k) (t y) (y ∷ select t l) (select t l) (λ _. List·Memᴰ·tail r) (λ _. r)
 
 -- ---- equal lists
 

@@ -18,6 +18,11 @@ unfoldable pub any {ℓ} : {A : Type ℓ} → (A → Bool) → List A → Bool
 any t [] = false
 any t (x ∷ l) = t x || any t l
 
+-- the elements that pass
+unfoldable pub select {ℓ} : {A : Type ℓ} → (A → Bool) → List A → List A
+select t [] = []
+select t (x ∷ l) = cond (t x) (x ∷ select t l) (select t l)
+
 -- equal lists, by a test of elements
 unfoldable pub sameBy {ℓ} : {A : Type ℓ} → (A → A → Bool) → List A → List A → Bool
 sameBy t [] [] = true

@@ -1,0 +1,69 @@
+-- The judgement: steps one by one with 10, 11 and 12, then 13 on the new nest.
+use mathlib.Core.Bool.{Bool, not, _&&_}
+use mathlib.Core.List.{List, [], _∷_}
+use Prim.Native.Nat.{ℕ, suc}
+use lib.Dec.{leb}
+use lib.IntN.{ℤ, natAbs}
+use lib.ListN.{length}
+use Rattle.integers.specs.Sign.{Sign}
+use Rattle.lists.specs.Tests.{all}
+use Rattle.model.specs.Answer.{Answer, accepted, require, _>>=_, _>>_}
+use Rattle.model.specs.Ticket.{Limit, Loop, Access, Step, Nest, Ticket}
+use Rattle.model.specs.Grammar.{decode}
+use Rattle.model.specs.Points.{iterations}
+use Rattle.model.specs.Bounds.{admitted, sprawl, accessesOf}
+use Rattle.model.specs.Machine.{accesses, instances}
+use Rattle.model.specs.Directions.{directions}
+use Rattle.model.specs.Steps.{vectorsAfter, somePointsBack}
+use Rattle.model.specs.Limits.{nestAfter}
+
+-- at most 16 limits a side
+unfoldable pub fewLimits : List Loop → Bool
+fewLimits N = all (λ L. leb (length (L .lower)) 16 && leb (length (L .upper)) 16) N
+
+-- every number of the nest within ±32767
+unfoldable pub small : ℤ → Bool
+small x = leb (natAbs x) 32767
+
+unfoldable pub smallLimit : Limit → Bool
+smallLimit l = leb (l .multiplier) 32767 && (small (l .constant) && all small (l .coefficients))
+
+unfoldable pub smallLoop : Loop → Bool
+smallLoop L = all smallLimit (L .lower) && all smallLimit (L .upper)
+
+unfoldable pub smallAccess : Access → Bool
+smallAccess a = all (λ s. small (s .constant) && all small (s .coefficients)) (a .subscripts)
+
+unfoldable pub smallNumbers : Nest → Bool
+smallNumbers N = all smallLoop (N .loops) && all (λ s. all smallAccess (accessesOf s)) (N .statements)
+
+-- from step k on: the set of vectors and the nest go through each step, which is judged when it is taken
+unfoldable pub judgeSteps : ℕ → List Step → List (List Sign) → Nest → Answer Nest
+judgeSteps k [] vs N = accepted N
+judgeSteps k (t ∷ ts) vs N =
+    require (not (somePointsBack (vectorsAfter t vs))) 10 k
+    >> require (fewLimits (nestAfter t N .loops)) 11 k
+    >> require (smallNumbers (nestAfter t N)) 12 k
+    >> judgeSteps (suc k) ts (vectorsAfter t vs) (nestAfter t N)
+
+-- the directions of a nest
+unfoldable pub directionsOf : Nest → List (List Sign)
+directionsOf N = directions (accesses (N .statements)) (instances (length (N .statements)) (iterations (N .loops)))
+
+-- 1 to 9
+unfoldable pub admit : List ℕ → Answer Ticket
+admit bytes = decode bytes >>= (λ T. admitted (T .nest) >> accepted T)
+
+pub record Judged : Type 0 where
+  pub ticket : Ticket
+  pub new : Nest
+
+-- 10 to 13
+unfoldable pub judgeTicket : Ticket → Answer Judged
+judgeTicket T =
+    judgeSteps 1 (T .steps) (directionsOf (T .nest)) (T .nest)
+    >>= (λ N. sprawl (N .loops) >> accepted (record { ticket = T; new = N }))
+
+-- 1 to 13
+unfoldable pub judged : List ℕ → Answer Judged
+judged bytes = admit bytes >>= judgeTicket

@@ -1,0 +1,109 @@
+-- The steps: what each makes of a point, how it is undone, and what it makes of a vector of signs (Wolfe's tables).
+use mathlib.Core.Bool.{Bool, true, false}
+use mathlib.Core.List.{List, [], _∷_, _++_, map, flatMap}
+use Prim.Native.Nat.{ℕ}
+use lib.IntN.{ℤ, pos, negℤ, _+ℤ_, _-ℤ_, _*ℤ_}
+use Rattle.integers.specs.Division.{floorDiv}
+use Rattle.integers.specs.Sign.{Sign, less, equal, greater, turned}
+use Rattle.lists.specs.Place.{under, underEach, onHead, swapped}
+use Rattle.lists.specs.Tests.{any}
+use Rattle.model.specs.Ticket.{Step, exchange, reversal, skew, section}
+use Rattle.model.specs.Directions.{backwards}
+
+-- ---- points
+
+-- c × x, for c = 1 (true) or −1
+abbrev pub signed : Bool → ℤ → ℤ
+signed true x = x
+signed false x = negℤ x
+
+-- the loop d + 1 places inside: new b = old b + c × a
+unfoldable pub skewed : ℕ → Bool → List ℤ → List ℤ
+skewed d c [] = []
+skewed d c (x ∷ p) = x ∷ under d (onHead (λ y. y +ℤ signed c x)) p
+
+unfoldable pub unskewed : ℕ → Bool → List ℤ → List ℤ
+unskewed d c [] = []
+unskewed d c (x ∷ p) = x ∷ under d (onHead (λ y. y -ℤ signed c x)) p
+
+-- index = w × S + E, E from 0 to w − 1
+unfoldable pub sectioned : ℕ → List ℤ → List ℤ
+sectioned w [] = []
+sectioned w (x ∷ p) = floorDiv x (pos w) ∷ (x -ℤ pos w *ℤ floorDiv x (pos w)) ∷ p
+
+unfoldable pub unsectioned : ℕ → List ℤ → List ℤ
+unsectioned w [] = []
+unsectioned w (s ∷ []) = s ∷ []
+unsectioned w (s ∷ e ∷ p) = (pos w *ℤ s +ℤ e) ∷ p
+
+unfoldable pub forward : Step → List ℤ → List ℤ
+forward (exchange a) = under a swapped
+forward (reversal a) = under a (onHead negℤ)
+forward (skew a d c) = under a (skewed d c)
+forward (section a w) = under a (sectioned w)
+
+unfoldable pub undo : Step → List ℤ → List ℤ
+undo (exchange a) = under a swapped
+undo (reversal a) = under a (onHead negℤ)
+undo (skew a d c) = under a (unskewed d c)
+undo (section a w) = under a (unsectioned w)
+
+unfoldable pub forwardAll : List Step → List ℤ → List ℤ
+forwardAll [] p = p
+forwardAll (t ∷ ts) p = forwardAll ts (forward t p)
+
+-- the original iteration: the steps undone, last first
+unfoldable pub undoAll : List Step → List ℤ → List ℤ
+undoAll [] p = p
+undoAll (t ∷ ts) p = undo t (undoAll ts p)
+
+-- ---- vectors
+
+unfoldable pub anySign : List Sign
+anySign = less ∷ equal ∷ greater ∷ []
+
+-- the signs that a sum may have: all three where it is unknown
+unfoldable pub sumSigns : Sign → Sign → List Sign
+sumSigns equal t = t ∷ []
+sumSigns less less = less ∷ []
+sumSigns less equal = less ∷ []
+sumSigns less greater = anySign
+sumSigns greater less = anySign
+sumSigns greater equal = greater ∷ []
+sumSigns greater greater = greater ∷ []
+
+-- the sign at b becomes that of a sum of the signs at a and b, or of b minus a
+abbrev pub signedSign : Bool → Sign → Sign
+signedSign true s = s
+signedSign false s = turned s
+
+unfoldable pub headSum : Sign → List Sign → List (List Sign)
+headSum s [] = [] ∷ []
+headSum s (t ∷ v) = map (λ r. r ∷ v) (sumSigns t s)
+
+unfoldable pub skewSigns : ℕ → Bool → List Sign → List (List Sign)
+skewSigns d c [] = [] ∷ []
+skewSigns d c (s ∷ v) = map (λ r. s ∷ r) (underEach d (headSum (signedSign c s)) v)
+
+-- = becomes (=,=); < becomes (=,<) and (<, each of three); > becomes (=,>) and (>, each of three)
+unfoldable pub splitSign : Sign → List (List Sign)
+splitSign equal = (equal ∷ equal ∷ []) ∷ []
+splitSign less = (equal ∷ less ∷ []) ∷ map (λ s. less ∷ s ∷ []) anySign
+splitSign greater = (equal ∷ greater ∷ []) ∷ map (λ s. greater ∷ s ∷ []) anySign
+
+unfoldable pub splitSigns : List Sign → List (List Sign)
+splitSigns [] = [] ∷ []
+splitSigns (s ∷ v) = map (λ r. r ++ v) (splitSign s)
+
+unfoldable pub vectors : Step → List Sign → List (List Sign)
+vectors (exchange a) v = under a swapped v ∷ []
+vectors (reversal a) v = under a (onHead turned) v ∷ []
+vectors (skew a d c) v = underEach a (skewSigns d c) v
+vectors (section a w) v = underEach a splitSigns v
+
+-- the set of vectors after a step
+unfoldable pub vectorsAfter : Step → List (List Sign) → List (List Sign)
+vectorsAfter t vs = flatMap (vectors t) vs
+
+unfoldable pub somePointsBack : List (List Sign) → Bool
+somePointsBack vs = any backwards vs

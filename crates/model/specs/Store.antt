@@ -1,0 +1,66 @@
+-- The store: one list of unsigned 32-bit words, arrays following one another, last subscript fastest; and the ticket's own rules on it.
+use mathlib.Core.Bool.{cond}
+use mathlib.Core.List.{List, [], _∷_, map}
+use Prim.Native.Nat.{ℕ, zero, suc, _+_, _*_, _%_, _^_}
+use lib.Dec.{eqb, ltb}
+use lib.IntN.{ℤ, pos, natAbs}
+use lib.ListN.{getD, set, length}
+use Rattle.model.specs.Ticket.{Statement, Nest}
+use Rattle.model.specs.Grammar.{elements, extents}
+use Rattle.model.specs.Points.{iterations}
+use Rattle.model.specs.Machine.{Element, Instance, Rules, accesses, bodyAt, instances, run}
+
+-- where an array begins
+unfoldable pub base : List (List ℕ) → ℕ → ℕ
+base [] a = 0
+base (ns ∷ rest) zero = 0
+base (ns ∷ rest) (suc a) = elements ns + base rest a
+
+-- the place of subscripts in an array, o the place of the first ones
+unfoldable pub placeFrom : ℕ → List ℕ → List ℤ → ℕ
+placeFrom o [] xs = o
+placeFrom o (n ∷ ns) [] = o
+placeFrom o (n ∷ ns) (x ∷ xs) = placeFrom (o * n + natAbs x) ns xs
+
+unfoldable pub placeOf : List (List ℕ) → Element → ℕ
+placeOf as′ e = base as′ (e .array) + placeFrom 0 (extents as′ (e .array)) (e .subscripts)
+
+-- ---- rules
+
+unfoldable pub sum : List ℕ → ℕ
+sum [] = 0
+sum (v ∷ vs) = v + sum vs
+
+unfoldable pub most : ℕ → List ℕ → ℕ
+most m [] = m
+most m (v ∷ vs) = most (cond (ltb m v) v m) vs
+
+unfoldable pub firstOf : List ℕ → ℕ
+firstOf [] = 0
+firstOf (v ∷ vs) = v
+
+-- rule 1: the sum modulo 2^32 of reads and constant; rule 2: the largest of reads and constant; rule 3: the first read
+unfoldable pub make : ℕ → ℕ → List ℕ → ℕ
+make r c vs = cond (eqb r 1) ((c + sum vs) % 2 ^ 32) (cond (eqb r 2) (most c vs) (cond (eqb r 3) (firstOf vs) 0))
+
+-- ---- runs
+
+unfoldable pub storeWords : List (List ℕ) → ℕ → List Element → List ℕ → List ℕ
+storeWords as′ v [] w = w
+storeWords as′ v (e ∷ es) w = storeWords as′ v es (set w (placeOf as′ e) v)
+
+-- one instance on the words: fetch, make, store
+unfoldable pub performOn : List (List ℕ) → List Statement → Instance → List ℕ → List ℕ
+performOn as′ ss i w =
+    storeWords as′
+    (make (bodyAt ss (i .statement) .rule) (bodyAt ss (i .statement) .constant) (map (λ e. getD w (placeOf as′ e) 0) (accesses ss .reads i)))
+    (accesses ss .writes i)
+    w
+
+-- the nest in its order
+unfoldable pub runNest : Nest → List ℕ → List ℕ
+runNest N w = run (performOn (N .arrays) (N .statements)) (instances (length (N .statements)) (iterations (N .loops))) w
+
+-- the ticket's own rules, as the plain machine is fed them
+unfoldable pub ownRules : List Statement → Rules
+ownRules ss = λ s k vs it. pos (make (bodyAt ss s .rule) (bodyAt ss s .constant) (map natAbs vs))
