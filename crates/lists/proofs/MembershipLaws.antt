@@ -7,7 +7,7 @@ use mathlib.Core.List.{List, [], _∷_, _++_, map, List·Memᴰ·head, List·Mem
 use Prim.Native.Nat.{ℕ, zero, suc, _≤_, _<_}
 use native.Mathlib.Nat.{le-antisymm}
 use native.Mathlib.Omega.{arith}
-use lib.ListN.{length, getD, take, drop, length-append, take-append-drop}
+use lib.ListN.{length, getD, take, drop, set, length-append, take-append-drop}
 use Rattle.lists.specs.Membership.{Mem, All, Distinct, SameMembers}
 
 -- ---- a member cuts the list in two
@@ -98,6 +98,16 @@ all-map f P Q l h = (
 pub map-same : {A B : Type 0} (f g : A → B) (l : List A) → ((x : A) → Mem x l → f x ≡ g x) → map f l ≡ map g l
 map-same f g [] h = refl
 map-same f g (x ∷ l) h = rw (h x (List·Memᴰ·head refl), map-same f g l (λ y m. h y (List·Memᴰ·tail m)))
+
+pub all-set : {A : Type 0} (P : A → Type 0) (l : List A) (i : ℕ) (a : A) → P a → All P l → All P (set l i a)
+all-set P [] i a h k = all-nil P
+all-set P (x ∷ l) zero a h k = all-cons P h (λ y m. k y (List·Memᴰ·tail m))
+all-set P (x ∷ l) (suc i) a h k = all-cons P (k x (List·Memᴰ·head refl)) (all-set P l i a h (λ y m. k y (List·Memᴰ·tail m)))
+
+pub all-getD-default : {A : Type 0} (P : A → Type 0) (l : List A) (i : ℕ) (d : A) → P d → All P l → P (getD l i d)
+all-getD-default P [] i d h k = h
+all-getD-default P (x ∷ l) zero d h k = k x (List·Memᴰ·head refl)
+all-getD-default P (x ∷ l) (suc i) d h k = all-getD-default P l i d h (λ y m. k y (List·Memᴰ·tail m))
 
 -- ---- the same members
 
