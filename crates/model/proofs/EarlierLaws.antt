@@ -1,6 +1,6 @@
--- The order of points, by first index, then second and so on: irreflexive, transitive, asymmetric; total on points of one length.
--- Then a vector of signs points backwards exactly if the second point is the earlier one.
-use mathlib.Core.Path.{_≡_, refl, sym, ap, ap₂, _∙_, subst}
+-- The order of points, by rising first index, then second and so on: what it says of the first indices; irreflexive, transitive, asymmetric;
+-- total on points of one length; and vectors that point backwards.
+use mathlib.Core.Path.{_≡_, refl, sym, ap, ap₂, _∙_}
 use mathlib.Core.Bool.{true, false}
 use mathlib.Core.Logic.{_⊎_, inl, inr, ⊎-elim}
 use mathlib.Core.List.{List, [], _∷_}
@@ -8,58 +8,61 @@ use native.Mathlib.Omega.{arith}
 use lib.Dec.{T}
 use lib.IntN.{ℤ}
 use lib.ListN.{length}
+use lib.Signed.{_<ℤ_}
 use Rattle.integers.specs.Sign.{Sign, less, equal, greater, sign, turned}
 use Rattle.integers.proofs.RingLaws.{zarith}
-use Rattle.integers.proofs.SignLaws.{Means, sign-means, means-sign, sign-self, sign-turned}
+use Rattle.integers.proofs.SignLaws.{Means, sign-means, means-sign, sign-turned}
 use Rattle.model.specs.Directions.{signs, bySign, backwards, earlier}
 use Rattle.model.specs.Inside.{Earlier}
 
--- ---- belongs to PointLaws
+module _ (x y : ℤ) (p q : List ℤ) where
+  pub earlier-cases : Earlier (x ∷ p) (y ∷ q) → (x <ℤ y) ⊎ ((x ≡ y) × Earlier p q)
+  unfolding earlier
+  earlier-cases h = go (sign x y) (sign-means x y) h
+    where
+      go : (s : Sign) → Means s x y → T (bySign s true (earlier p q) false) → (x <ℤ y) ⊎ ((x ≡ y) × Earlier p q)
+      go less m h = inl m
+      go equal m h = inr (m, h)
+      go greater m h = absurd h
+
+  pub earlier-first : x <ℤ y → Earlier (x ∷ p) (y ∷ q)
+  unfolding earlier
+  earlier-first h = rw (means-sign less x y h) tt
+
+  pub earlier-rest : x ≡ y → Earlier p q → Earlier (x ∷ p) (y ∷ q)
+  unfolding earlier
+  earlier-rest e h = rw (means-sign equal x y e) h
 
 pub earlier-irreflexive : (p : List ℤ) → Earlier p p → ⊥
 unfolding earlier
 earlier-irreflexive [] h = h
-earlier-irreflexive (x ∷ p) h = earlier-irreflexive p (subst (λ s. T (bySign s true (earlier p p) false)) (sign-self x) h)
+earlier-irreflexive (x ∷ p) h = ⊎-elim (λ l. omega zarith) (λ r. earlier-irreflexive p (r .1)) (earlier-cases x x p p h)
 
 pub earlier-transitive : (p q r : List ℤ) → Earlier p q → Earlier q r → Earlier p r
 unfolding earlier
 earlier-transitive [] q r h k = absurd h
 earlier-transitive (x ∷ p) [] r h k = absurd h
 earlier-transitive (x ∷ p) (y ∷ q) [] h k = absurd k
-earlier-transitive (x ∷ p) (y ∷ q) (z ∷ r) h k = go (λ a b. earlier-transitive p q r a b) (sign x y) (sign-means x y) (sign y z) (sign-means y z) h k
-  where
-    after : (s : Sign) → Means s x z → T (bySign s true (earlier p r) false) → T (bySign (sign x z) true (earlier p r) false)
-    after s m t = subst (λ w. T (bySign w true (earlier p r) false)) (sym (means-sign s x z m)) t
-
-    go : (Earlier p q → Earlier q r → Earlier p r) → (s : Sign) → Means s x y → (t : Sign) → Means t y z
-        → T (bySign s true (earlier p q) false) → T (bySign t true (earlier q r) false) → T (bySign (sign x z) true (earlier p r) false)
-    go ih less m less n a b = after less (omega zarith) tt
-    go ih less m equal n a b = after less (omega zarith) tt
-    go ih less m greater n a b = absurd b
-    go ih equal m less n a b = after less (omega zarith) tt
-    go ih equal m equal n a b = after equal (m ∙ n) (ih a b)
-    go ih equal m greater n a b = absurd b
-    go ih greater m t n a b = absurd a
+earlier-transitive (x ∷ p) (y ∷ q) (z ∷ r) h k = ⊎-elim
+    (λ l. earlier-first x z p r (⊎-elim (λ m. omega zarith) (λ m. let e = m .0 in omega zarith) (earlier-cases y z q r k)))
+    (λ l. ⊎-elim (λ m. let e = l .0 in earlier-first x z p r (omega zarith)) (λ m. earlier-rest x z p r (l .0 ∙ m .0) (earlier-transitive p q r (l .1) (m .1))) (earlier-cases y z q r k))
+    (earlier-cases x y p q h)
 
 pub earlier-asymmetric : (p q : List ℤ) → Earlier p q → Earlier q p → ⊥
 earlier-asymmetric p q h k = earlier-irreflexive p (earlier-transitive p q p h k)
 
-pub earlier-total : (p q : List ℤ) → length p ≡ length q → Earlier p q ⊎ ((p ≡ q) ⊎ Earlier q p)
-unfolding earlier
-earlier-total [] [] e = inr (inl refl)
+pub earlier-total : (p q : List ℤ) → length p ≡ length q → (p ≡ q) ⊎ (Earlier p q ⊎ Earlier q p)
+earlier-total [] [] e = inl refl
 earlier-total [] (y ∷ q) e = absurd (omega arith)
 earlier-total (x ∷ p) [] e = absurd (omega arith)
-earlier-total (x ∷ p) (y ∷ q) e = subst (λ t. T (bySign (sign x y) true (earlier p q) false) ⊎ ((x ∷ p ≡ y ∷ q) ⊎ T (bySign t true (earlier q p) false))) (sym (sign-turned x y))
-    (go (earlier-total p q (omega arith)) (sign x y) (sign-means x y))
+earlier-total (x ∷ p) (y ∷ q) e = go (sign x y) (sign-means x y) (earlier-total p q (omega arith))
   where
-    go : Earlier p q ⊎ ((p ≡ q) ⊎ Earlier q p) → (s : Sign) → Means s x y
-        → T (bySign s true (earlier p q) false) ⊎ ((x ∷ p ≡ y ∷ q) ⊎ T (bySign (turned s) true (earlier q p) false))
-    go ih less m = inl tt
-    go ih equal m = ⊎-elim inl (λ c. inr (⊎-elim (λ r. inl (ap₂ _∷_ m r)) inr c)) ih
-    go ih greater m = inr (inr tt)
+    go : (s : Sign) → Means s x y → (p ≡ q) ⊎ (Earlier p q ⊎ Earlier q p) → (x ∷ p ≡ y ∷ q) ⊎ (Earlier (x ∷ p) (y ∷ q) ⊎ Earlier (y ∷ q) (x ∷ p))
+    go less m r = inr (inl (earlier-first x y p q m))
+    go equal m r = ⊎-elim (λ f. inl (ap₂ _∷_ m f)) (λ c. inr (⊎-elim (λ h. inl (earlier-rest x y p q m h)) (λ h. inr (earlier-rest y x q p (sym m) h)) c)) r
+    go greater m r = inr (inr (earlier-first y x q p m))
 
--- ---- belongs to VectorLaws
-
+-- a vector points backwards exactly if the second point comes first
 pub backwards-earlier : (p q : List ℤ) → backwards (signs p q) ≡ earlier q p
 unfolding backwards signs earlier
 backwards-earlier [] [] = refl
@@ -68,6 +71,6 @@ backwards-earlier (x ∷ p) [] = refl
 backwards-earlier (x ∷ p) (y ∷ q) = go (backwards-earlier p q) (sign x y) ∙ ap (λ s. bySign s true (earlier q p) false) (sym (sign-turned x y))
   where
     go : backwards (signs p q) ≡ earlier q p → (s : Sign) → bySign s false (backwards (signs p q)) true ≡ bySign (turned s) true (earlier q p) false
-    go ih less = refl
-    go ih equal = ih
-    go ih greater = refl
+    go rest less = refl
+    go rest equal = rest
+    go rest greater = refl

@@ -1,15 +1,34 @@
 -- Theorems about the definitions of `specs/`.
 pub mod CaseLaws
--- the plain machine: conflicts, instances and their order, runs in another order
-pub mod ElementLaws
 pub mod EarlierLaws
+pub mod LoopLaws
+pub mod PointLaws
+pub mod SplitLaws
+pub mod VectorLaws
+pub mod LengthLaws
+pub mod SubscriptLaws
+pub mod InsideLaws
+pub mod ReversalLaws
+pub mod TidyLaws
+pub mod ExchangePartLaws
+pub mod CombineLaws
+pub mod ExchangeLaws
+pub mod SkewLaws
+pub mod SectionLaws
+pub mod UndoLaws
+pub mod ShapeLaws
+pub mod RunsLaws
+pub mod StepLaws
+pub mod WellFormedLaws
+pub mod KeepLaws
+pub mod AccessLaws
+pub mod ElementLaws
 pub mod InstanceLaws
 pub mod DirectionLaws
 pub mod ReorderLaws
 pub mod CommuteLaws
 pub mod SameRunLaws
 pub mod OrderedRunLaws
--- the store against the plain machine
 pub mod PlaceLaws
 pub mod RuleLaws
 pub mod StoreLaws
