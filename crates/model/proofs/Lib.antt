@@ -33,3 +33,17 @@ pub mod PlaceLaws
 pub mod RuleLaws
 pub mod StoreLaws
 pub mod NewStoreLaws
+pub mod AnswerLaws
+pub mod WordLaws
+pub mod ReaderLaws
+pub mod AcceptedLaws
+pub mod LoopReading
+pub mod ArrayReading
+pub mod StatementReading
+pub mod StepReading
+pub mod GrammarLaws
+pub mod RefusalLaws
+pub mod YieldLaws
+pub mod NestYields
+pub mod RoundTripLaws
+pub mod TicketLaws
