@@ -25,7 +25,7 @@ pub record SameElements (A B : Accesses) (k : ℕ) (p q : List ℤ) : Type 0 whe
 
 -- ---- the body
 
-body-after : (t : Step) (ss : List Statement) (k : ℕ) → bodyAt (map (statementAfter t) ss) k ≡ statementAfter t (bodyAt ss k)
+pub body-after : (t : Step) (ss : List Statement) (k : ℕ) → bodyAt (map (statementAfter t) ss) k ≡ statementAfter t (bodyAt ss k)
 unfolding bodyAt statementAfter
 body-after t [] k = refl
 body-after t (s ∷ ss) zero = refl

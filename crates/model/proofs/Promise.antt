@@ -1,0 +1,4 @@
+-- What is promised of accepted tickets.
+pub mod TradeLaws
+pub mod KeptLaws
+pub mod PromiseLaws
