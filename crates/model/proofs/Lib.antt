@@ -1,4 +1,5 @@
 -- Theorems about the definitions of `specs/`. `Demands` states what is promised; the rest proves it.
+pub mod Demands
 pub mod CaseLaws
 pub mod Answers
 pub mod Grammar

@@ -2,3 +2,4 @@
 pub mod TradeLaws
 pub mod KeptLaws
 pub mod PromiseLaws
+pub mod ReasonLaws

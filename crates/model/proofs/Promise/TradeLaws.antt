@@ -60,7 +60,7 @@ turns-proper (reversal a) h = tt
 turns-proper (skew a d c) h = absurd h
 turns-proper (section a w) h = absurd h
 
-turns-signs : (t : Step) → Turns t → (p q : List ℤ) → length p ≡ length q → vectors t (signs p q) ≡ signs (forward t p) (forward t q) ∷ []
+pub turns-signs : (t : Step) → Turns t → (p q : List ℤ) → length p ≡ length q → vectors t (signs p q) ≡ signs (forward t p) (forward t q) ∷ []
 turns-signs (exchange a) h p q e = exchange-signs a p q e
 turns-signs (reversal a) h p q e = reversal-signs a p q e
 turns-signs (skew a d c) h p q e = absurd h
