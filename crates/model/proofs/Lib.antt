@@ -9,3 +9,4 @@ pub mod Store
 pub mod Listing
 pub mod Quick
 pub mod Verdict
+pub mod Promise

@@ -1,0 +1,2 @@
+-- What is promised of accepted tickets.
+pub mod WrittenLaws
