@@ -7,6 +7,7 @@ use native.Mathlib.Omega.{arith}
 use lib.ListN.{length, length-map}
 use Rattle.integers.specs.Sign.{Sign}
 use Rattle.lists.specs.Membership.{All}
+use Rattle.lists.proofs.MembershipLaws.{map-all}
 use Rattle.lists.proofs.FlatMapLaws.{mem-flatMap}
 use Rattle.model.specs.Answer.{accepted}
 use Rattle.model.specs.Ticket.{Limit, Loop, Access, Statement, Step, exchange, reversal, skew, section, Nest, Ticket}
@@ -18,7 +19,6 @@ use Rattle.model.specs.Shape.{Runs, WellFormed}
 use Rattle.model.specs.Ranges.{InRange, Small, LimitRanges, LoopRanges, ArrayRanges, SubscriptRanges, AccessRanges, StatementRanges, NestRanges, StepThere, StepsThere, TicketRanges}
 use Rattle.model.specs.Judge.{Judged, judged}
 use Rattle.model.proofs.Steps.LengthLaws.{There, depth-after}
-use Rattle.model.proofs.Steps.ShapeLaws.{map-all}
 use Rattle.model.proofs.Steps.WellFormedLaws.{well-formed-after-all}
 use Rattle.model.proofs.Grammar.StepReading.{depth-there}
 use Rattle.model.proofs.Grammar.GrammarLaws.{ranges-wider, steps-proper, decode-ranges, decode-formed}
