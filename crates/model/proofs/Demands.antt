@@ -12,7 +12,7 @@ use Rattle.lists.specs.Order.{Ordered, Precedes}
 use Rattle.model.specs.Answer.{accepted, refused}
 use Rattle.model.specs.Words.{bytesOf}
 use Rattle.model.specs.Ticket.{Loop, Step, Nest, Ticket}
-use Rattle.model.specs.Grammar.{decode}
+use Rattle.model.specs.Grammar.{decode, decodeNest}
 use Rattle.model.specs.Points.{partialPoints, iterations}
 use Rattle.model.specs.Machine.{Instance, Accesses, State, Rules, perform, run}
 use Rattle.model.specs.Directions.{signs, backwards, earlier, conflict, Line}
@@ -51,7 +51,7 @@ worked-cases = CaseLaws.cases-hold
 pub grammar-exact : (b : List ℕ) (K : Ticket) → All (λ x. x < 256) b → (decode b ≡ accepted K) ↔ ((b ≡ bytesOf (ticketWords K)) × TicketRanges K × WellFormed (K .nest))
 grammar-exact = TicketLaws.decode-iff
 
--- ---- points
+-- ---- points; the count that judge answers is that of the partial points of full depth
 
 pub points-rise : (N : List Loop) → Ordered Earlier (iterations N)
 points-rise = PointLaws.iterations-rise
@@ -59,7 +59,6 @@ points-rise = PointLaws.iterations-rise
 pub points-inside : (k : ℕ) (N : List Loop) → All Runs N → (y : List ℤ) → Mem y (partialPoints k N) ↔ Inside (take k N) [] y
 points-inside = PointLaws.partial-inside
 
--- the count that judge answers is that of the partial points of full depth
 pub iterations-counted : (b : List ℕ) {c : ℕ} → judge b ≡ accepted c → (j : Judged) × (judged b ≡ accepted j) × (c ≡ length (iterations (j .ticket .nest .loops)))
 iterations-counted = EntryLaws.judge-accepted
 
@@ -139,8 +138,9 @@ reordering = CommuteLaws.reordering
 pub demand-3 : (b : List ℕ) {j : Judged} → judged b ≡ accepted j → PromiseLaws.Promise (j .ticket .steps) (j .ticket .nest) (j .new)
 demand-3 = PromiseLaws.judged-promise
 
-pub written-nest : (b buffer : List ℕ) {c : ℕ} → write b buffer .answer ≡ accepted c → (j : Judged) × (judged b ≡ accepted j) × EntryLaws.HandedOut (encode (j .new)) buffer c (write b buffer .memory)
-written-nest = EntryLaws.write-accepted
+pub written-nest : (b buffer : List ℕ) {c : ℕ} → write b buffer .answer ≡ accepted c
+    → (j : Judged) × (judged b ≡ accepted j) × EntryLaws.HandedOut (encode (j .new)) buffer c (write b buffer .memory) × (decodeNest (encode (j .new)) ≡ accepted (j .new))
+written-nest = PromiseLaws.write-hands
 
 pub listed-text : (b buffer : List ℕ) {c : ℕ} → list b buffer .answer ≡ accepted c → (K : Ticket) × (admit b ≡ accepted K) × EntryLaws.HandedOut (listing (K .nest)) buffer c (list b buffer .memory)
 listed-text = EntryLaws.list-accepted

@@ -1,5 +1,4 @@
 -- Steps: what each makes of signs, points, limits and subscripts, and that every step keeps the points.
-pub mod SplitLaws
 pub mod VectorLaws
 pub mod LengthLaws
 pub mod SubscriptLaws

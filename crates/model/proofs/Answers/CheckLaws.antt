@@ -9,9 +9,10 @@ use lib.Dec.{T, T-not, not-T}
 use lib.ListN.{length}
 use Rattle.lists.specs.Membership.{All}
 use Rattle.lists.proofs.MembershipLaws.{all-nil, all-cons, all-imp}
+use Rattle.lists.proofs.TestLaws.{refuted}
 use Rattle.model.specs.Answer.{Answer, accepted, refused, require, _>>_}
 use Rattle.model.proofs.Answers.AnswerLaws.{not-both, then-accepted, then-refused, require-accepted, require-refused}
-use Rattle.model.proofs.Answers.PassLaws.{then-pass, then-stop, require-pass, require-stop, refuted}
+use Rattle.model.proofs.Answers.PassLaws.{then-pass, then-stop, require-pass, require-stop}
 
 -- the item with number p, of those from number k on, is bad and all before it are good
 pub record FirstBad {A : Type 0} (Bad Good : A → Type 0) (k : ℕ) (xs : List A) (p : ℕ) : Type 0 where

@@ -1,7 +1,6 @@
--- Answers put together: what passes goes on with the rest, what stops stays; then a test whose contrary fails. Answers taken apart are in
--- `AnswerLaws`.
+-- Answers put together: what passes goes on with the rest, what stops stays. Answers taken apart are in `AnswerLaws`.
 use mathlib.Core.Path.{_≡_, refl}
-use mathlib.Core.Bool.{Bool, true, false, not}
+use mathlib.Core.Bool.{Bool, true, false}
 use Prim.Native.Nat.{ℕ}
 use lib.Dec.{T}
 use Rattle.model.specs.Answer.{Answer, accepted, refused, _>>=_, _>>_, require}
@@ -32,7 +31,3 @@ pub require-stop : (t : Bool) (n p : ℕ) → (T t → ⊥) → require t n p �
 unfolding require
 require-stop true n p h = absurd (h tt)
 require-stop false n p h = refl
-
-pub refuted : (t : Bool) → (T (not t) → ⊥) → T t
-refuted true h = tt
-refuted false h = absurd (h tt)

@@ -2,23 +2,19 @@
 use mathlib.Core.Path.{_≡_, refl, ap, _∙_}
 use mathlib.Core.List.{List, [], _∷_, _++_, flatMap, append-nil}
 use Prim.Native.Nat.{ℕ, zero, suc}
-use lib.IntN.{ℤ, pos}
+use lib.IntN.{pos}
 use lib.ListN.{length}
 use Rattle.lists.specs.Membership.{All}
 use Rattle.lists.proofs.MembershipLaws.{all-nil, all-cons}
+use Rattle.lists.proofs.FlatMapLaws.{flatMap-alone}
 use Rattle.model.specs.Ticket.{Limit, Loop}
 use Rattle.model.specs.Grammar.{times, limit, side, loop, loopsFrom, loops, number}
 use Rattle.model.specs.Encode.{counted, limitWords, loopWords}
 use Rattle.model.specs.Shape.{Sized, Shaped}
 use Rattle.model.specs.Ranges.{Small, LimitRanges, LoopRanges, CountRange, WordRange}
-use Rattle.model.proofs.Grammar.ReaderLaws.{Meets, As, bind, done-meets, meets-map, alone, Long, Few, counted-meets, natural-meets, number-meets, times-meets}
+use Rattle.model.proofs.Grammar.ReaderLaws.{Meets, As, bind, done-meets, meets-map, Long, Few, counted-meets, natural-meets, number-meets, times-meets}
 
 -- ---- numbers
-
-pub flatMap-alone : (l : List ℤ) → flatMap alone l ≡ l
-unfolding flatMap
-flatMap-alone [] = refl
-flatMap-alone (x ∷ l) = ap (x ∷_) (flatMap-alone l)
 
 pub numbers-meet : (n : ℕ) → Meets (times n number) (As (Long n (All Small)) (λ l. l))
 numbers-meet n = meets-map (λ l ws h. record { holds = h .holds; words = h .words ∙ flatMap-alone l }) (times-meets n number-meets)

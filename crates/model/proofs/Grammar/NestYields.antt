@@ -9,6 +9,8 @@ use lib.IntN.{ℤ, pos}
 use lib.ListN.{length}
 use borrow.Author.Tests.{eqb-true}
 use Rattle.lists.specs.Membership.{Mem, All}
+use Rattle.lists.proofs.MembershipLaws.{length-one}
+use Rattle.lists.proofs.FlatMapLaws.{flatMap-alone}
 use Rattle.lists.proofs.TestLaws.{cond-cases}
 use Rattle.model.specs.Ticket.{Limit, Loop, Subscript, Access, Statement, Nest}
 use Rattle.model.specs.Grammar.{number, times, limit, side, loop, loopsFrom, loops, elements, total, arraysFrom, arrays, extents, subscript, access, statement, statements, nest, mostStatements}
@@ -16,15 +18,8 @@ use Rattle.model.specs.Encode.{counted, limitWords, loopWords, arrayWord
 use Rattle.model.specs.Shape.{Sized, Shaped, Fits, FitsAll, WellFormed}
 use Rattle.model.specs.Ranges.{InRange, nestSections, Small, LimitRanges, LoopRanges, ArrayRanges, SubscriptRanges, AccessRanges, StatementRanges, NestRanges}
 use Rattle.model.proofs.Grammar.ReaderLaws.{alone, one}
-use Rattle.model.proofs.Grammar.LoopReading.{flatMap-alone}
 use Rattle.model.proofs.Grammar.StatementReading.{subscriptWords}
 use Rattle.model.proofs.Grammar.YieldLaws.{Yields, yields-cast, yields-value, yields-done, yields-bind, yields-last, yields-must, yields-count, yields-natural, yields-number, yields-times, yields-counted}
-
--- a list of one element
-length-one : {A : Type 0} (l : List A) → length l ≡ 1 → (x : A) × (l ≡ x ∷ [])
-length-one [] e = absurd (omega arith)
-length-one (x ∷ []) e = (x, refl)
-length-one (x ∷ y ∷ l) e = absurd (omega arith)
 
 -- ---- loops
 

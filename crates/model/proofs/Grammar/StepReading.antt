@@ -1,7 +1,7 @@
 -- The readers of the steps: the loops that a step names are there, its width is in range, its words; off the nest, what is wrong with the word.
 use mathlib.Core.Path.{_≡_, refl, sym, ap, ap₂, _∙_, subst}
-use mathlib.Core.Bool.{Bool, true, false, cond, not, _&&_}
-use mathlib.Core.Logic.{_⊎_, inl, inr, ⊎-elim}
+use mathlib.Core.Bool.{Bool, cond, not, _&&_}
+use mathlib.Core.Logic.{⊎-elim}
 use mathlib.Core.List.{List, [], _∷_, _++_, flatMap, append-nil}
 use Prim.Native.Nat.{ℕ, zero, suc, _+_, _-_, _≤_}
 use native.Mathlib.Omega.{arith}
@@ -9,7 +9,7 @@ use lib.Dec.{T, eqb, ltb, leb→le, ltb→lt, nltb→le, eqb→eq, not-T}
 use lib.IntN.{ℤ, pos, negsuc, natAbs}
 use lib.Signed.{leZ, ltZ, ltZ-no}
 use borrow.Author.Tests.{eqb-true, eqb-false}
-use Rattle.lists.proofs.TestLaws.{and-both, cond-cases}
+use Rattle.lists.proofs.TestLaws.{and-both, cond-cases, refuted, and-fails}
 use Rattle.integers.specs.Sign.{eqZ}
 use Rattle.integers.proofs.SignLaws.{eqZ-decides}
 use Rattle.model.specs.Ticket.{Step, exchange, reversal, skew, section}
@@ -18,16 +18,6 @@ use Rattle.model.specs.Encode.{counted}
 use Rattle.model.specs.Ranges.{InRange, kindOf, directionWord, arguments, stepWords, StepThere, StepsThere, Spells, CountRange, WordRange, WordIs, BadLoop, missing, notNext, notInside, seventh, Explained, noSkew, offNest}
 use Rattle.model.proofs.Grammar.WordLaws.{Reaches, spells-reach}
 use Rattle.model.proofs.Grammar.ReaderLaws.{Meets, MeetsAt, As, Long, Few, bind, bind-at, must-at, mustAt-at, done-at, done-meets, meets-map, meets-at-map, alone, one, between-natural, counted-meets, natural-meets, number-meets, within-meets}
-
--- ---- tests that fail
-
-not-not-T : (x : Bool) → (T (not x) → ⊥) → T x
-not-not-T true f = tt
-not-not-T false f = absurd (f tt)
-
-and-fails : (x y : Bool) → (T (x && y) → ⊥) → (T x → ⊥) ⊎ (T y → ⊥)
-and-fails true y f = inr f
-and-fails false y f = inl (λ h. h)
 
 -- ---- single words
 
@@ -119,7 +109,7 @@ module _ (k m : ℕ) (few : InRange 1 8 k) (deep : InRange 1 6 m) where
   }
     where
       zero-skew : (b : List ℕ) (p : ℕ) (c : ℤ) → WordIs b p c → (T (not (eqZ c (pos 0))) → ⊥) → Explained b 4 (p + 1 - 1)
-      zero-skew b p c e f = let i : p ≡ p + 1 - 1 = omega arith in subst (Explained b 4) i (noSkew (subst (WordIs b p) (eqZ-decides .equal c (pos 0) (not-not-T (eqZ c (pos 0)) f)) e))
+      zero-skew b p c e f = let i : p ≡ p + 1 - 1 = omega arith in subst (Explained b 4) i (noSkew (subst (WordIs b p) (eqZ-decides .equal c (pos 0) (refuted (eqZ c (pos 0)) f)) e))
 
   section-meets : Meets (sectionStep k m) (As (StepRead 4 m) arguments)
   unfolding sectionStep

@@ -13,9 +13,9 @@ use lib.ListN.{length}
 use Rattle.integers.specs.Sign.{Sign, less, equal, greater}
 use Rattle.lists.specs.Membership.{Mem, All, Distinct}
 use Rattle.lists.specs.Order.{Ordered}
-use Rattle.lists.specs.Tests.{Decides, any, select, sameBy}
+use Rattle.lists.specs.Tests.{Decides, any, sameBy}
 use Rattle.lists.proofs.OrderLaws.{ordered-distinct, precedes-mem}
-use Rattle.lists.proofs.TestLaws.{and-both, and-intro, cond-cases, any-some, some-any, select-mem, mem-select, same-decides, equal-test}
+use Rattle.lists.proofs.TestLaws.{and-both, and-intro, any-some, some-any, select-mem, mem-select, same-decides, equal-test, select-ordered}
 use Rattle.model.specs.Ticket.{Access, Statement}
 use Rattle.model.specs.Machine.{element, Instance, Accesses, bodyAt, accesses, instances}
 use Rattle.model.specs.Inside.{Earlier}
@@ -24,12 +24,6 @@ use Rattle.model.proofs.Machine.ElementLaws.{sourceOf, sinkOf, conflict
 use Rattle.model.proofs.Machine.InstanceLaws.{instances-mem, mem-instances, precedes-comesFirst, comesFirst-precedes}
 use Rattle.model.proofs.Machine.DirectionLaws.{directions-mem, mem-directions}
 use Rattle.model.proofs.Listing.LineOrderLaws.{LineBefore, line-irreflexive, allLines-mem, mem-allLines, allLines-ordered}
-
-select-ordered : {A : Type 0} (R : A → A → Type 0) (t : A → Bool) (l : List A) → Ordered R l → Ordered R (select t l)
-unfolding select
-select-ordered R t [] o = tt
-select-ordered R t (x ∷ l) o = let later = select-ordered R t l (o .1) in
-    cond-cases (Ordered R) (t x) (x ∷ select t l) (select t l) (λ _. (λ y m. o .0 y ((select-mem t l m) .0), later)) (λ _. later)
 
 -- ---- signs compared
 

@@ -3,7 +3,7 @@
 use mathlib.Core.Path.{_≡_, refl, sym, _∙_, subst}
 use mathlib.Core.Bool.{Bool, not}
 use mathlib.Core.Logic.{_⊎_, inl, inr, ⊎-elim}
-use mathlib.Core.List.{List, []}
+use mathlib.Core.List.{List}
 use Prim.Native.Nat.{ℕ, zero, suc, _+_, _≤_, _<_}
 use native.Mathlib.Omega.{arith}
 use native.Mathlib.Nat.{eq-or-lt-of-le}
@@ -12,13 +12,13 @@ use lib.IntN.{ℤ, natAbs}
 use lib.ListN.{length}
 use Rattle.lists.specs.Membership.{Mem, All}
 use Rattle.lists.specs.Tests.{any}
-use Rattle.lists.proofs.TestLaws.{any-some, some-any}
+use Rattle.lists.proofs.TestLaws.{any-some, some-any, refuted}
 use Rattle.model.specs.Answer.{Answer, accepted, refused, require, _>>_}
 use Rattle.model.specs.Ticket.{Loop}
 use Rattle.model.specs.Points.{partialPoints}
 use Rattle.model.specs.Bounds.{lastOf, beyond, survey, space, sprawl}
 use Rattle.model.proofs.Answers.AnswerLaws.{not-both, then-accepted, then-refused, require-accepted, require-refused}
-use Rattle.model.proofs.Answers.PassLaws.{then-pass, then-stop, require-pass, require-stop, refuted}
+use Rattle.model.proofs.Answers.PassLaws.{then-pass, then-stop, require-pass, require-stop}
 
 -- ---- the partial points of depth k
 

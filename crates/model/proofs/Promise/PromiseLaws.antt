@@ -1,5 +1,5 @@
 -- Demand 3 on the definitions: from steps that pass on a well-formed nest to equal iterations and equal values; then for the bytes of a ticket;
--- then the store that run leaves.
+-- then what write hands out and the store that run leaves.
 use mathlib.Core.Path.{_≡_, refl, sym, ap, _∙_, subst}
 use mathlib.Core.List.{List, [], map}
 use Prim.Native.Nat.{ℕ}
@@ -10,14 +10,15 @@ use Rattle.lists.specs.Membership.{All, Distinct, SameMembers}
 use Rattle.lists.proofs.TestLaws.{false-not-T}
 use Rattle.model.specs.Answer.{accepted}
 use Rattle.model.specs.Ticket.{Step, Nest}
-use Rattle.model.specs.Grammar.{decode, total}
+use Rattle.model.specs.Grammar.{decode, decodeNest, total}
 use Rattle.model.specs.Points.{iterations}
 use Rattle.model.specs.Machine.{Element, State, Rules, accesses, instances, order, exec, originally, run}
 use Rattle.model.specs.Steps.{forwardAll, undoAll}
 use Rattle.model.specs.Limits.{nestAfterAll}
 use Rattle.model.specs.Judge.{Judged, directionsOf, judged}
 use Rattle.model.specs.Store.{placeOf, performOn, runNest, ownRules}
-use Rattle.model.specs.Entries.{runEntry}
+use Rattle.model.specs.Encode.{encode}
+use Rattle.model.specs.Entries.{write, runEntry}
 use Rattle.model.specs.Shape.{Proper, WellFormed}
 use Rattle.model.proofs.Grammar.GrammarLaws.{decode-formed, decode-proper}
 use Rattle.model.proofs.Points.PointLaws.{iterations-rise}
@@ -32,6 +33,8 @@ use Rattle.model.proofs.Store.StoreLaws.{stateOf, stateOf-shown, run-sh
 use Rattle.model.proofs.Store.NewStoreLaws.{NoneStrays, instances-in-store, new-store}
 use Rattle.model.proofs.Verdict.JudgeLaws.{StepsPass}
 use Rattle.model.proofs.Verdict.VerdictLaws.{admitted-accepted, admit-accepted, judgeTicket-accepted, judged-accepted}
+use Rattle.model.proofs.Verdict.EntryLaws.{HandedOut, write-accepted}
+use Rattle.model.proofs.Promise.WrittenLaws.{judged-written}
 use Rattle.model.proofs.Verdict.RunLaws.{run-accepted}
 use Rattle.model.proofs.Promise.TradeLaws.{pass-forwards, pair-lengths, pair-forwards}
 use Rattle.model.proofs.Promise.KeptLaws.{arrays-kept, statements-kept, rules-kept, constants-kept}
@@ -123,6 +126,12 @@ judged-gives bytes {j} e =
 pub judged-promise : (bytes : List ℕ) {j : Judged} → judged bytes ≡ accepted j → Promise (j .ticket .steps) (j .ticket .nest) (j .new)
 judged-promise bytes {j} e = let a = judged-gives bytes e in
     subst (Promise (j .ticket .steps) (j .ticket .nest)) (sym (a .new)) (promise (j .ticket .steps) (a .proper) (j .ticket .nest) (a .formed) (a .pass))
+
+-- ---- what write hands out
+
+pub write-hands : (bytes buffer : List ℕ) {c : ℕ} → write bytes buffer .answer ≡ accepted c
+    → (j : Judged) × (judged bytes ≡ accepted j) × HandedOut (encode (j .new)) buffer c (write bytes buffer .memory) × (decodeNest (encode (j .new)) ≡ accepted (j .new))
+write-hands bytes buffer e = let r = write-accepted bytes buffer e in (r .0, r .1, r .2, judged-written bytes (r .1))
 
 -- ---- the store that run leaves
 

@@ -12,7 +12,7 @@ use lib.Signed.{_≤ℤ_}
 use Rattle.lists.specs.Membership.{All}
 use Rattle.lists.proofs.MembershipLaws.{all-nil, all-cons}
 use Rattle.integers.specs.Affine.{dot, affine}
-use Rattle.integers.proofs.AffineLaws.{dot-append, dot-neg, dot-mixed}
+use Rattle.integers.proofs.AffineLaws.{dot-neg, dot-mixed, dot-more, dot-last}
 use Rattle.integers.proofs.RingLaws.{zarith}
 use Rattle.integers.proofs.Polynomial.{_⊕_, _⊖_, _⊗_, ⊝, #}
 use Rattle.integers.proofs.Linear.{lin, _⊑_, _≐_, _⟶_, _▹_⟹_}
@@ -21,21 +21,6 @@ use Rattle.model.specs.Points.{value}
 use Rattle.model.specs.Inside.{AtLeast, AtMost, InLimits}
 use Rattle.model.specs.Limits.{outerCoefficient, kept, combined, outerPart, solvedPositive, solvedNegative, whenPositive, whenNegative, widened}
 use Rattle.model.specs.Shape.{Sized}
-
--- ---- sums of products
-
--- one coefficient and one index more
-pub dot-more : (cs : List ℤ) (c : ℤ) (xs : List ℤ) (x : ℤ) → length cs ≡ length xs → dot (cs ++ (c ∷ [])) (xs ++ (x ∷ [])) ≡ dot cs xs +ℤ c *ℤ x
-unfolding dot
-dot-more cs c xs x e = dot-append cs (c ∷ []) xs (x ∷ []) e ∙ lin (dot cs xs ∷ c ∷ x ∷ []) (λ d c x. d ⊕ (c ⊗ x ⊕ # 0) ≐ d ⊕ c ⊗ x) tt
-
-dot-last : (cs xs : List ℤ) (x : ℤ) → length cs ≡ suc (length xs) → dot cs (xs ++ (x ∷ [])) ≡ dot (take (length xs) cs) xs +ℤ getD cs (length xs) (pos 0) *ℤ x
-unfolding dot
-dot-last [] xs x e = absurd (omega arith)
-dot-last (c ∷ []) [] x e = lin (c ∷ x ∷ []) (λ c x. c ⊗ x ⊕ # 0 ≐ # 0 ⊕ c ⊗ x) tt
-dot-last (c ∷ d ∷ cs) [] x e = absurd (omega arith)
-dot-last (c ∷ cs) (y ∷ xs) x e = ap (λ d. c *ℤ y +ℤ d) (dot-last cs xs x (omega arith))
-    ∙ lin ((c *ℤ y) ∷ dot (take (length xs) cs) xs ∷ (getD cs (length xs) (pos 0) *ℤ x) ∷ []) (λ a d b. a ⊕ (d ⊕ b) ≐ a ⊕ d ⊕ b) tt
 
 -- ---- values
 

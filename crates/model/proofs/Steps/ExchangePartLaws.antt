@@ -3,18 +3,10 @@ use mathlib.Core.Logic.{_↔_, Iff·and}
 use mathlib.Core.List.{List, _++_, map, flatMap}
 use Prim.Native.Nat.{ℕ}
 use Rattle.lists.specs.Membership.{Mem, All}
-use Rattle.lists.proofs.MembershipLaws.{all-append, all-left, all-right}
-use Rattle.lists.proofs.FlatMapLaws.{mem-flatMap, all-flatMap}
+use Rattle.lists.proofs.MembershipLaws.{append-iff}
+use Rattle.lists.proofs.FlatMapLaws.{flatMap-iff}
 use Rattle.model.specs.Ticket.{Limit, Loop}
 use Rattle.model.specs.Limits.{outerCoefficient, outerPart, whenPositive, whenNegative, widened, newOuter, newInner}
-
--- ---- lists
-
-append-iff : {A : Type 0} (P : A → Type 0) (l m : List A) → All P (l ++ m) ↔ (All P l × All P m)
-append-iff P l m = (λ a. (all-left P l m a, all-right P l m a), λ a. all-append P l m (a .0) (a .1))
-
-flatMap-iff : {A B : Type 0} (P : B → Type 0) (f : A → List B) (l : List A) → All P (flatMap f l) ↔ ((x : A) → Mem x l → All P (f x))
-flatMap-iff P f l = (λ a x m y i. a y (mem-flatMap f l m i), all-flatMap f P l)
 
 -- ---- what a limit of the old inner loop gives
 
@@ -40,18 +32,18 @@ module _ (P : Limit → Type 0) (a : ℕ) (I J : Loop) where
 
   pub outer-lower : All P (newOuter a I J .lower) ↔ Each (outerLower a I) (J .lower)
   unfolding newOuter
-  outer-lower = flatMap-iff P (outerLower a I) (J .lower)
+  outer-lower = flatMap-iff (outerLower a I) P (J .lower)
 
   pub outer-upper : All P (newOuter a I J .upper) ↔ Each (outerUpper a I) (J .upper)
   unfolding newOuter
-  outer-upper = flatMap-iff P (outerUpper a I) (J .upper)
+  outer-upper = flatMap-iff (outerUpper a I) P (J .upper)
 
   three : (f g : Limit → List Limit) (ls : List Limit)
       → All P (map widened ls ++ (flatMap f (J .lower) ++ flatMap g (J .upper))) ↔ (All P (map widened ls) × (Each f (J .lower) × Each g (J .upper)))
   three f g ls =
       let rest = flatMap f (J .lower) ++ flatMap g (J .upper) in
       let both = append-iff P (flatMap f (J .lower)) (flatMap g (J .upper)) in
-      let each = Iff·and (flatMap-iff P f (J .lower)) (flatMap-iff P g (J .upper)) in
+      let each = Iff·and (flatMap-iff f P (J .lower)) (flatMap-iff g P (J .upper)) in
       let all = append-iff P (map widened ls) rest in
       (λ h. (all .0 h .0, each .0 (both .0 (all .0 h .1))), λ h. all .1 (h .0, both .1 (each .1 (h .1))))
 

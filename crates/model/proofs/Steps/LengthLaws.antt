@@ -3,33 +3,16 @@
 use mathlib.Core.Path.{_≡_, refl, sym, ap, _∙_}
 use mathlib.Core.Bool.{Bool}
 use mathlib.Core.List.{List, [], _∷_}
-use Prim.Native.Nat.{ℕ, zero, suc, _+_, _<_}
+use Prim.Native.Nat.{ℕ, suc, _+_, _<_}
 use native.Mathlib.Omega.{arith}
 use lib.IntN.{ℤ, negℤ, _+ℤ_}
 use lib.ListN.{length, length-map}
 use Rattle.lists.specs.Place.{under, onHead, swapped}
-use Rattle.lists.proofs.PlaceLaws.{under-length, length-onHead, length-swapped}
+use Rattle.lists.proofs.PlaceLaws.{under-length, under-lengths, under-longer, length-onHead, length-swapped}
 use Rattle.model.specs.Ticket.{Loop, Step, exchange, reversal, skew, section}
 use Rattle.model.specs.Grammar.{depthAfter}
 use Rattle.model.specs.Steps.{signed, skewed, sectioned, forward}
 use Rattle.model.specs.Limits.{onLimits, onCoefficients, deeper, reverseAt, skewCoefficients, skewInner, skewAt, splitCoefficients, sectionAt, exchangeAt, loopsAfter, coefficientsAfter}
-
--- ---- a change at a place
-
-under-lengths : {A B : Type 0} (f : List A → List A) (g : List B → List B) → ((l : List A) (m : List B) → length l ≡ length m → length (f l) ≡ length (g m))
-    → (n : ℕ) (l : List A) (m : List B) → length l ≡ length m → length (under n f l) ≡ length (under n g m)
-unfolding under
-under-lengths f g h zero l m e = h l m e
-under-lengths f g h (suc n) [] [] e = refl
-under-lengths f g h (suc n) [] (y ∷ m) e = absurd (omega arith)
-under-lengths f g h (suc n) (x ∷ l) [] e = absurd (omega arith)
-under-lengths f g h (suc n) (x ∷ l) (y ∷ m) e = ap suc (under-lengths f g h n l m (omega arith))
-
-pub under-longer : {A : Type 0} (f : List A → List A) → ((x : A) (l : List A) → length (f (x ∷ l)) ≡ suc (suc (length l))) → (n : ℕ) (l : List A) → n < length l → length (under n f l) ≡ suc (length l)
-unfolding under
-under-longer f h n [] e = absurd (omega arith)
-under-longer f h zero (x ∷ l) e = h x l
-under-longer f h (suc n) (x ∷ l) e = ap suc (under-longer f h n l (omega arith))
 
 -- ---- each change
 

@@ -9,14 +9,13 @@ use lib.IntN.{ℤ, pos, negsuc, negℤ}
 use Rattle.lists.specs.Membership.{All}
 use Rattle.lists.specs.Place.{under, onHead, swapped}
 use Rattle.lists.specs.Tests.{unique}
-use Rattle.lists.proofs.MembershipLaws.{all-nil, all-cons, all-append}
+use Rattle.lists.proofs.MembershipLaws.{all-nil, all-cons, all-append, map-all}
 use Rattle.lists.proofs.FlatMapLaws.{all-flatMap}
 use Rattle.model.specs.Ticket.{Limit, Loop, Step, exchange, reversal, skew, section}
 use Rattle.model.specs.Limits.{onCoefficients, onLimits, deeper, negated, reverseAt, outerCoefficient, kept, combined, outerPart, solvedPositive, solvedNegative, whenPositive, whenNegative, widened, newOuter, newInner, sameLimit, tidy, exchangeAt, skewCoefficients, skewLimit, skewInner, skewAt, sectionLower, sectionUpper, elementLimit, constantLimit, splitCoefficients, sectionAt, loopsAfter}
 use Rattle.model.specs.Shape.{Runs, Proper}
 use Rattle.model.proofs.Steps.ExchangePartLaws.{outerLower, outerUpper, inner-lower, inner-upper}
 use Rattle.model.proofs.Steps.TidyLaws.{all-unique}
-use Rattle.model.proofs.Steps.ShapeLaws.{map-all}
 
 abbrev Positive : Limit → Type 0
 Positive l = 0 < l .multiplier

@@ -11,7 +11,8 @@ use lib.Signed.{_≤ℤ_, _<ℤ_}
 use Rattle.lists.specs.Place.{under}
 use Rattle.lists.proofs.MembershipLaws.{all-cons, all-map}
 use Rattle.integers.specs.Affine.{dot, affine}
-use Rattle.integers.proofs.AffineLaws.{dot-zeros}
+use Rattle.integers.proofs.AffineLaws.{dot-zeros, dot-more}
+use Rattle.integers.proofs.DivisionLaws.{quotient, rest, rejoin, rest-low, rest-high, joined-quotient, joined-rest}
 use Rattle.integers.proofs.RingLaws.{zarith}
 use Rattle.integers.proofs.Polynomial.{_⊕_, _⊖_, _⊗_, ⊝, #}
 use Rattle.integers.proofs.Linear.{lin, _⊑_, _≐_, _⟶_, _▹_⟹_}
@@ -21,10 +22,8 @@ use Rattle.model.specs.Inside.{AtLeast, AtMost, Inside}
 use Rattle.model.specs.Steps.{sectioned, unsectioned}
 use Rattle.model.specs.Limits.{deeper, sectionLower, sectionUpper, elementLimit, constantLimit, splitCoefficients, sectionAt}
 use Rattle.model.specs.Shape.{Shaped}
-use Rattle.model.proofs.Steps.SplitLaws.{quotient, rest, rejoin, rest-low, rest-high, joined-quotient, joined-rest}
 use Rattle.model.proofs.Steps.SubscriptLaws.{dot-split}
 use Rattle.model.proofs.Steps.InsideLaws.{deep-at, under-inside}
-use Rattle.model.proofs.Steps.CombineLaws.{dot-more}
 
 -- ---- the constant limits of E say 0 ≤ E ≤ w − 1
 

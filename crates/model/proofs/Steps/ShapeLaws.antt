@@ -1,33 +1,22 @@
 -- A step keeps the shape of a nest: a limit has a coefficient for each loop outside. That a step's loops can be run is in `RunsLaws`.
 use mathlib.Core.Path.{_≡_, refl, sym, ap, _∙_, subst}
 use mathlib.Core.Bool.{Bool}
-use mathlib.Core.List.{List, [], _∷_, map, zipWith, Memᴰ·of-map}
+use mathlib.Core.List.{List, [], _∷_, map}
 use Prim.Native.Nat.{ℕ, zero, suc, _+_, _-_, _<_}
 use native.Mathlib.Omega.{arith}
 use lib.IntN.{ℤ, pos, negsuc, negℤ, _+ℤ_}
 use lib.ListN.{length, take, length-append, length-map, length-replicate}
-use Rattle.lists.specs.Membership.{All}
 use Rattle.lists.specs.Place.{under, onHead, swapped}
-use Rattle.lists.proofs.MembershipLaws.{all-nil, all-cons}
-use Rattle.lists.proofs.PlaceLaws.{under-length, length-onHead, length-swapped}
+use Rattle.lists.proofs.MembershipLaws.{all-nil, all-cons, map-all, length-zipWith}
+use Rattle.lists.proofs.PlaceLaws.{under-length, under-longer, length-onHead, length-swapped}
 use Rattle.model.specs.Ticket.{Limit, Loop, Step, exchange, reversal, skew, section}
 use Rattle.model.specs.Steps.{signed}
 use Rattle.model.specs.Limits.{onCoefficients, onLimits, deeper, negated, reverseAt, outerCoefficient, kept, combined, outerPart, solvedPositive, solvedNegative, whenPositive, whenNegative, widened, newOuter, newInner, tidy, exchangeAt, skewCoefficients, skewLimit, skewInner, skewAt, sectionLower, sectionUpper, elementLimit, constantLimit, splitCoefficients, sectionAt, loopsAfter}
 use Rattle.model.specs.Shape.{Sized, Shaped}
-use Rattle.model.proofs.Steps.LengthLaws.{under-longer, length-skewCoefficients}
+use Rattle.model.proofs.Steps.LengthLaws.{length-skewCoefficients}
 use Rattle.model.proofs.Steps.ExchangePartLaws.{outer-lower, outer-upper, inner-lower, inner-upper}
 use Rattle.model.proofs.Steps.CombineLaws.{length-kept}
 use Rattle.model.proofs.Steps.TidyLaws.{all-unique}
-
-pub map-all : {A B : Type 0} (f : A → B) (P : A → Type 0) (Q : B → Type 0) (l : List A) → ((x : A) → P x → Q (f x)) → All P l → All Q (map f l)
-map-all f P Q l h a y m = let r = Memᴰ·of-map f l m in subst Q (r .2) (h (r .0) (a (r .0) (r .1)))
-
-length-zipWith : {A B C : Type 0} (f : A → B → C) (xs : List A) (ys : List B) → length xs ≡ length ys → length (zipWith f xs ys) ≡ length ys
-unfolding zipWith
-length-zipWith f [] [] e = refl
-length-zipWith f [] (y ∷ ys) e = e
-length-zipWith f (x ∷ xs) [] e = absurd (omega arith)
-length-zipWith f (x ∷ xs) (y ∷ ys) e = ap suc (length-zipWith f xs ys (omega arith))
 
 -- ---- any step
 

@@ -11,6 +11,7 @@ use Rattle.lists.specs.Place.{under, onHead}
 use Rattle.lists.proofs.MembershipLaws.{all-map}
 use Rattle.lists.proofs.PlaceLaws.{under-append}
 use Rattle.integers.specs.Affine.{dot, affine}
+use Rattle.integers.proofs.AffineLaws.{dot-coefficient}
 use Rattle.integers.proofs.Polynomial.{_⊕_, _⊗_}
 use Rattle.integers.proofs.Linear.{lin, _⊑_, _≐_, _⟶_}
 use Rattle.model.specs.Ticket.{Limit, Loop}
@@ -23,14 +24,6 @@ use Rattle.model.proofs.Steps.SubscriptLaws.{signed-mul, dot-skewed}
 use Rattle.model.proofs.Steps.InsideLaws.{limits-iff, deep-at, under-inside, under-inside-from}
 
 -- ---- sums of products
-
--- one coefficient more by t
-dot-coefficient : (outer : List ℤ) (x t : ℤ) (z ds : List ℤ) → length outer < length ds → dot (under (length outer) (onHead (λ b. b +ℤ t)) ds) (outer ++ x ∷ z) ≡ dot ds (outer ++ x ∷ z) +ℤ t *ℤ x
-unfolding dot under onHead
-dot-coefficient outer x t z [] h = absurd (omega arith)
-dot-coefficient [] x t z (d ∷ ds) h = lin (d ∷ x ∷ t ∷ dot ds z ∷ []) (λ d x t r. (d ⊕ t) ⊗ x ⊕ r ≐ d ⊗ x ⊕ r ⊕ t ⊗ x) tt
-dot-coefficient (y ∷ outer) x t z (d ∷ ds) h = ap (λ r. d *ℤ y +ℤ r) (dot-coefficient outer x t z ds (omega arith))
-    ∙ lin ((d *ℤ y) ∷ dot ds (outer ++ x ∷ z) ∷ (t *ℤ x) ∷ []) (λ a r b. a ⊕ (r ⊕ b) ≐ a ⊕ r ⊕ b) tt
 
 raised : (mid : List ℤ) (v t : ℤ) (z : List ℤ) → under (length mid) (onHead (λ y. y +ℤ t)) (mid ++ (v ∷ []) ++ z) ≡ mid ++ ((v +ℤ t) ∷ []) ++ z
 unfolding onHead

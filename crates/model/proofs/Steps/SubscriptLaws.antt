@@ -11,7 +11,9 @@ use Rattle.lists.specs.Membership.{All}
 use Rattle.lists.specs.Place.{under, onHead, swapped}
 use Rattle.lists.proofs.MembershipLaws.{map-same}
 use Rattle.integers.specs.Affine.{dot, affine}
-use Rattle.integers.proofs.Polynomial.{_⊕_, _⊖_, _⊗_, ⊝, #}
+use Rattle.integers.proofs.AffineLaws.{dot-index}
+use Rattle.integers.proofs.DivisionLaws.{quotient, rest, rejoin}
+use Rattle.integers.proofs.Polynomial.{_⊕_, _⊖_, _⊗_, ⊝}
 use Rattle.integers.proofs.Linear.{lin, _≐_}
 use Rattle.model.specs.Ticket.{Subscript, Access, Step, exchange, reversal, skew, section}
 use Rattle.model.specs.Bounds.{subscriptAt}
@@ -19,7 +21,6 @@ use Rattle.model.specs.Machine.{element}
 use Rattle.model.specs.Steps.{signed, skewed, sectioned, forward}
 use Rattle.model.specs.Limits.{skewCoefficients, splitCoefficients, coefficientsAfter, subscriptAfter, accessAfter}
 use Rattle.model.specs.Shape.{Fits}
-use Rattle.model.proofs.Steps.SplitLaws.{quotient, rest, rejoin}
 
 -- ---- each step, from its place on
 
@@ -37,14 +38,6 @@ unfolding onHead dot
 dot-reversed [] p = refl
 dot-reversed (c ∷ cs) [] = refl
 dot-reversed (c ∷ cs) (x ∷ p) = lin (c ∷ x ∷ dot cs p ∷ []) (λ c x r. ⊝ c ⊗ ⊝ x ⊕ r ≐ c ⊗ x ⊕ r) tt
-
--- one index more by t
-dot-index : (d : ℕ) (t : ℤ) (cs p : List ℤ) → length cs ≡ length p → dot cs (under d (onHead (λ y. y +ℤ t)) p) ≡ dot cs p +ℤ getD cs d (pos 0) *ℤ t
-unfolding under onHead dot
-dot-index d t [] p e = lin (t ∷ []) (λ t. # 0 ≐ # 0 ⊕ # 0 ⊗ t) tt
-dot-index d t (c ∷ cs) [] e = absurd (omega arith)
-dot-index zero t (c ∷ cs) (x ∷ p) e = lin (c ∷ x ∷ t ∷ dot cs p ∷ []) (λ c x t r. c ⊗ (x ⊕ t) ⊕ r ≐ c ⊗ x ⊕ r ⊕ c ⊗ t) tt
-dot-index (suc d) t (c ∷ cs) (x ∷ p) e = ap (λ r. c *ℤ x +ℤ r) (dot-index d t cs p (omega arith)) ∙ lin ((c *ℤ x) ∷ dot cs p ∷ (getD cs d (pos 0) *ℤ t) ∷ []) (λ a r b. a ⊕ (r ⊕ b) ≐ a ⊕ r ⊕ b) tt
 
 pub signed-mul : (c : Bool) (p x : ℤ) → signed c p *ℤ x ≡ p *ℤ signed c x
 signed-mul true p x = refl

@@ -6,12 +6,12 @@ use Prim.Native.Nat.{ℕ}
 use lib.IntN.{ℤ, pos, negℤ, negℤ-negℤ, _+ℤ_, _-ℤ_, +ℤ-negℤ-cancel, -ℤ-+ℤ-cancel}
 use Rattle.lists.specs.Place.{onHead, swapped}
 use Rattle.lists.proofs.PlaceLaws.{under-inverse, onHead-inverse, swapped-swapped}
+use Rattle.integers.proofs.DivisionLaws.{rejoin}
 use Rattle.model.specs.Ticket.{Loop, Step, exchange, reversal, skew, section}
 use Rattle.model.specs.Inside.{Inside}
 use Rattle.model.specs.Steps.{signed, skewed, unskewed, sectioned, unsectioned, forward, undo, forwardAll, undoAll}
 use Rattle.model.specs.Limits.{loopsAfter}
 use Rattle.model.specs.Shape.{Proper}
-use Rattle.model.proofs.Steps.SplitLaws.{rejoin}
 use Rattle.model.proofs.Steps.SectionLaws.{section-undone}
 
 -- ---- forward, then back

@@ -15,12 +15,12 @@ use Rattle.lists.proofs.FlatMapLaws.{mem-flatMap}
 use Rattle.integers.specs.Sign.{Sign, less, equal, greater, sign, turned}
 use Rattle.integers.proofs.DifferenceLaws.{add-fact}
 use Rattle.integers.proofs.RingLaws.{zarith}
+use Rattle.integers.proofs.DivisionLaws.{quotient, rest, split-less}
 use Rattle.integers.proofs.SignLaws.{Means, sign-means, means-sign, sign-negated}
 use Rattle.model.specs.Ticket.{Step, exchange, reversal, skew, section}
 use Rattle.model.specs.Directions.{signs}
 use Rattle.model.specs.Steps.{signed, skewed, sectioned, forward, anySign, sumSigns, signedSign, headSum, skewSigns, splitSign, splitSigns, vectors, vectorsAfter}
 use Rattle.model.specs.Shape.{Proper}
-use Rattle.model.proofs.Steps.SplitLaws.{quotient, rest, split-less}
 
 -- ---- sums
 

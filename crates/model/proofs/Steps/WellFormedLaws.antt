@@ -5,11 +5,12 @@ use Prim.Native.Nat.{ℕ}
 use lib.IntN.{ℤ}
 use lib.ListN.{length, length-map}
 use Rattle.lists.specs.Membership.{All}
+use Rattle.lists.proofs.MembershipLaws.{map-all}
 use Rattle.model.specs.Ticket.{Loop, Subscript, Access, Statement, Step, Nest}
 use Rattle.model.specs.Limits.{loopsAfter, coefficientsAfter, subscriptAfter, accessAfter, statementAfter, nestAfter, nestAfterAll}
 use Rattle.model.specs.Shape.{Fits, FitsAll, WellFormed, Proper}
 use Rattle.model.proofs.Steps.LengthLaws.{coefficients-length, loops-length}
-use Rattle.model.proofs.Steps.ShapeLaws.{map-all, shaped-after}
+use Rattle.model.proofs.Steps.ShapeLaws.{shaped-after}
 use Rattle.model.proofs.Steps.RunsLaws.{runs-after}
 
 module _ (t : Step) (N : List Loop) where

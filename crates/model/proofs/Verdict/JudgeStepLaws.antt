@@ -3,23 +3,23 @@
 use mathlib.Core.Path.{_≡_, _∙_}
 use mathlib.Core.Bool.{Bool, not, _&&_}
 use mathlib.Core.Logic.{_⊎_, inl, inr, ⊎-elim}
-use mathlib.Core.List.{List, []}
+use mathlib.Core.List.{List}
 use Prim.Native.Nat.{ℕ, _≤_, _<_}
 use native.Mathlib.Omega.{arith}
 use lib.Dec.{T, leb, T-not, not-T, leb→le, le→leb, nleb→lt}
 use lib.ListN.{length}
 use Rattle.integers.specs.Sign.{Sign}
 use Rattle.lists.specs.Membership.{Mem, All}
-use Rattle.lists.proofs.TestLaws.{T-cases, and-both, and-intro, all-holds, holds-all, any-some, some-any}
+use Rattle.lists.proofs.TestLaws.{T-cases, and-both, and-intro, all-holds, holds-all, any-some, some-any, refuted, all-fails}
 use Rattle.model.specs.Answer.{Answer, accepted, refused, require, _>>_}
 use Rattle.model.specs.Ticket.{Loop, Step, Nest}
 use Rattle.model.specs.Directions.{backwards}
 use Rattle.model.specs.Steps.{vectorsAfter, somePointsBack}
 use Rattle.model.specs.Limits.{nestAfter}
 use Rattle.model.specs.Judge.{fewLimits, smallNumbers}
-use Rattle.model.proofs.Verdict.SmallLaws.{all-fails, Small, Large, test-small, small-test, test-large, large-test}
+use Rattle.model.proofs.Verdict.SmallLaws.{Small, Large, test-small, small-test, test-large, large-test}
 use Rattle.model.proofs.Answers.AnswerLaws.{Stopped, then-accepted, then-refused, require-accepted, require-refused}
-use Rattle.model.proofs.Answers.PassLaws.{then-pass, then-stop, require-pass, require-stop, refuted}
+use Rattle.model.proofs.Answers.PassLaws.{then-pass, then-stop, require-pass, require-stop}
 
 -- ---- vectors
 

@@ -1,32 +1,17 @@
 -- Refusal 12 shows its reason: the numbers of a nest, and that `smallNumbers` fails exactly where one of them is beyond ±32767.
 use mathlib.Core.Path.{_≡_, refl, sym, ap₂, _∙_, subst}
-use mathlib.Core.Bool.{Bool, _&&_}
-use mathlib.Core.Logic.{⊎-elim}
-use mathlib.Core.List.{List, [], _∷_, _++_, flatMap, List·Memᴰ·head, List·Memᴰ·tail}
+use mathlib.Core.Bool.{_&&_}
+use mathlib.Core.List.{List, _∷_, _++_, flatMap}
 use Prim.Native.Nat.{_≤_, _<_}
 use native.Mathlib.Omega.{arith}
 use lib.Dec.{T, leb, not-T, leb→le, le→leb, nleb→lt}
 use lib.IntN.{ℤ, pos, natAbs}
 use Rattle.lists.specs.Membership.{Mem, All}
 use Rattle.lists.specs.Tests.{all}
-use Rattle.lists.proofs.TestLaws.{T-cases, and-intro, all-holds, holds-all, all-join}
+use Rattle.lists.proofs.TestLaws.{all-holds, holds-all, all-join, all-fails, all-parts}
 use Rattle.model.specs.Ticket.{Limit, Loop, Subscript, Access, Statement, Nest}
 use Rattle.model.specs.Bounds.{accessesOf}
 use Rattle.model.specs.Judge.{small, smallLimit, smallLoop, smallAccess, smallNumbers}
-
--- ---- a test of all of a list
-
-module _ {A B : Type 0} (t : B → Bool) (f : A → List B) (u : A → Bool) (same : (x : A) → u x ≡ all t (f x)) where
-  all-parts : (l : List A) → all u l ≡ all t (flatMap f l)
-  unfolding all flatMap
-  all-parts [] = refl
-  all-parts (x ∷ l) = ap₂ _&&_ (same x) (all-parts l) ∙ sym (all-join t (f x) (flatMap f l))
-
--- an element that fails
-pub all-fails : {A : Type 0} (t : A → Bool) (l : List A) → (T (all t l) → ⊥) → (x : A) × Mem x l × (T (t x) → ⊥)
-unfolding all
-all-fails t [] h = absurd (h tt)
-all-fails t (x ∷ l) h = ⊎-elim (λ a. let r = all-fails t l (λ b. h (and-intro (t x) (all t l) a b)) in (r .0, List·Memᴰ·tail (r .1), r .2)) (λ n. (x, List·Memᴰ·head refl, n)) (T-cases (t x))
 
 -- ---- the numbers of a nest
 
