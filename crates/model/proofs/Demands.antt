@@ -59,8 +59,8 @@ points-rise = PointLaws.iterations-rise
 pub points-inside : (k : ℕ) (N : List Loop) → All Runs N → (y : List ℤ) → Mem y (partialPoints k N) ↔ Inside (take k N) [] y
 points-inside = PointLaws.partial-inside
 
-pub iterations-counted : (b : List ℕ) {c : ℕ} → judge b ≡ accepted c → (j : Judged) × (judged b ≡ accepted j) × (c ≡ length (iterations (j .ticket .nest .loops)))
-iterations-counted = EntryLaws.judge-accepted
+pub iterations-counted : (b : List ℕ) {c : ℕ} → judge b ≡ accepted c → (j : Judged) × (judged b ≡ accepted j) × (c ≡ length (partialPoints (length (j .ticket .nest .loops)) (j .ticket .nest .loops)))
+iterations-counted = PromiseLaws.judge-counts
 
 -- ---- steps: `undo` maps the new points one to one onto the old
 

@@ -6,6 +6,7 @@ use mathlib.Core.List.{List, [], _∷_, _++_, map, cons≢nil, head-eq-of-cons-e
 use Prim.Native.Nat.{ℕ, suc}
 use lib.IntN.{ℤ}
 use lib.ListN.{length, take}
+use lib.Seq.{take-length}
 use lib.Signed.{_<ℤ_}
 use Rattle.lists.specs.Membership.{Mem, All, Distinct}
 use Rattle.lists.specs.Order.{Ordered}
@@ -100,3 +101,8 @@ module _ (N : List Loop) where
   pub iterations-distinct : Distinct (iterations N)
   unfolding iterations
   iterations-distinct = points-distinct N []
+
+-- an iteration is a partial point of full depth
+pub iterations-full : (N : List Loop) → iterations N ≡ partialPoints (length N) N
+unfolding iterations partialPoints
+iterations-full N = ap (λ L. points L []) (sym (take-length N))

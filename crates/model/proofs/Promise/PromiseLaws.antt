@@ -11,17 +11,17 @@ use Rattle.lists.proofs.TestLaws.{false-not-T}
 use Rattle.model.specs.Answer.{accepted}
 use Rattle.model.specs.Ticket.{Step, Nest}
 use Rattle.model.specs.Grammar.{decode, decodeNest, total}
-use Rattle.model.specs.Points.{iterations}
+use Rattle.model.specs.Points.{iterations, partialPoints}
 use Rattle.model.specs.Machine.{Element, State, Rules, accesses, instances, order, exec, originally, run}
 use Rattle.model.specs.Steps.{forwardAll, undoAll}
 use Rattle.model.specs.Limits.{nestAfterAll}
 use Rattle.model.specs.Judge.{Judged, directionsOf, judged}
 use Rattle.model.specs.Store.{placeOf, performOn, runNest, ownRules}
 use Rattle.model.specs.Encode.{encode}
-use Rattle.model.specs.Entries.{write, runEntry}
+use Rattle.model.specs.Entries.{judge, write, runEntry}
 use Rattle.model.specs.Shape.{Proper, WellFormed}
 use Rattle.model.proofs.Grammar.GrammarLaws.{decode-formed, decode-proper}
-use Rattle.model.proofs.Points.PointLaws.{iterations-rise}
+use Rattle.model.proofs.Points.PointLaws.{iterations-rise, iterations-full}
 use Rattle.model.proofs.Points.ArrayLaws.{arrays-inside}
 use Rattle.model.proofs.Steps.KeepLaws.{all-steps-keep-points, each-once, taken-back, same-count}
 use Rattle.model.proofs.Steps.AccessLaws.{accesses-undone}
@@ -33,7 +33,7 @@ use Rattle.model.proofs.Store.StoreLaws.{stateOf, stateOf-shown, run-sh
 use Rattle.model.proofs.Store.NewStoreLaws.{NoneStrays, instances-in-store, new-store}
 use Rattle.model.proofs.Verdict.JudgeLaws.{StepsPass}
 use Rattle.model.proofs.Verdict.VerdictLaws.{admitted-accepted, admit-accepted, judgeTicket-accepted, judged-accepted}
-use Rattle.model.proofs.Verdict.EntryLaws.{HandedOut, write-accepted}
+use Rattle.model.proofs.Verdict.EntryLaws.{judge-accepted, HandedOut, write-accepted}
 use Rattle.model.proofs.Promise.WrittenLaws.{judged-written}
 use Rattle.model.proofs.Verdict.RunLaws.{run-accepted}
 use Rattle.model.proofs.Promise.TradeLaws.{pass-forwards, pair-lengths, pair-forwards}
@@ -126,6 +126,12 @@ judged-gives bytes {j} e =
 pub judged-promise : (bytes : List ℕ) {j : Judged} → judged bytes ≡ accepted j → Promise (j .ticket .steps) (j .ticket .nest) (j .new)
 judged-promise bytes {j} e = let a = judged-gives bytes e in
     subst (Promise (j .ticket .steps) (j .ticket .nest)) (sym (a .new)) (promise (j .ticket .steps) (a .proper) (j .ticket .nest) (a .formed) (a .pass))
+
+-- ---- the count that judge answers
+
+pub judge-counts : (bytes : List ℕ) {c : ℕ} → judge bytes ≡ accepted c
+    → (j : Judged) × (judged bytes ≡ accepted j) × (c ≡ length (partialPoints (length (j .ticket .nest .loops)) (j .ticket .nest .loops)))
+judge-counts bytes e = let r = judge-accepted bytes e in (r .0, r .1, r .2 ∙ ap length (iterations-full (r .0 .ticket .nest .loops)))
 
 -- ---- what write hands out
 
