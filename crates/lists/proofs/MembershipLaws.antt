@@ -115,6 +115,11 @@ all-getD-default P [] i d h k = h
 all-getD-default P (x ∷ l) zero d h k = k x (List·Memᴰ·head refl)
 all-getD-default P (x ∷ l) (suc i) d h k = all-getD-default P l i d h (λ y m. k y (List·Memᴰ·tail m))
 
+-- a list without members is empty
+pub no-members : {A : Type 0} (l : List A) → ((x : A) → Mem x l → ⊥) → l ≡ []
+no-members [] h = refl
+no-members (x ∷ l) h = absurd (h x (List·Memᴰ·head refl))
+
 -- ---- the same members
 
 module _ {A : Type 0} where

@@ -5,3 +5,4 @@ pub mod JudgeLaws
 pub mod VerdictLaws
 pub mod EntryLaws
 pub mod RunLaws
+pub mod SameVectorsLaws

@@ -27,7 +27,7 @@ use Rattle.model.proofs.Listing.LineOrderLaws.{LineBefore, line-irrefle
 
 -- ---- signs compared
 
-sign-decides : Decides sameSign
+pub sign-decides : Decides sameSign
 sign-decides = record { equal = equal-when; itself = passes }
   where
     equal-when : (s t : Sign) → T (sameSign s t) → s ≡ t
