@@ -2,10 +2,10 @@
 ghost use mathlib.Core.Path.{_≡_};
 ghost use Prim.Native.Nat.{_<_, _≤_};
 ghost use lib.ListN.{length};
-ghost use Rattle.model.specs.Grammar.{limit, side, loop, loops};
+ghost use Rattle.model.specs.Grammar.{limit, side, loop};
 ghost use Rattle.reading.specs.Refusals.{Reached, Reads};
 ghost use Rattle.reading.specs.declared.Status.the-variants.{Refused};
-ghost use Rattle.nest.specs.Nested.{limitOf, sideOf, loopOf, loopsOf};
+ghost use Rattle.nest.specs.Nested.{limitOf, sideOf, loopOf, ReadsNest};
 
 use reading::{Natural, Number, Refusal, Status};
 
@@ -113,4 +113,166 @@ fn no_limits() -> [Limit; 16]
         coefficients: [0i64; 6],
     };
     [blank; 16]
+}
+
+fn no_side(r: Refusal, at: usize) -> SideRead
+    ensures { λ q. ⌜ (q .status ≡ Refused r) × (q .next ≡ at) ⌝ }
+{
+    let limits = no_limits();
+    SideRead {
+        status: Status::Refused(r),
+        side: Side {
+            count: 0,
+            limits: limits,
+        },
+        next: at,
+    }
+}
+
+// A count from 1 to 4 and as many limits.
+pub fn read_side(s: &[u8], at: usize, outer: usize) -> SideRead
+    requires { ⌜ Reached (now s) at × (outer ≤ 6) ⌝ }
+    ensures { λ r. ⌜ Reads (side 4 outer (now (s .entry)) at) (now (s .entry)) (r .status) (sideOf outer (r .side)) (r .next) ⌝ }
+{
+    let count = match reading::read_count(s, at, 1, 4) {
+        Natural::Value(v) => v,
+        Natural::Refused(r) => return no_side(r, at),
+    };
+    let mut limits = no_limits();
+    let mut next = at + 1;
+    let mut k = 0;
+    while k < count {
+        let one = read_limit(s, next, outer);
+        let status = one.status;
+        match status {
+            Status::Fine => {
+                let limit = one.limit;
+                limits[k] = limit;
+                next = one.next;
+                k += 1;
+            }
+            Status::Refused(r) => return no_side(r, at),
+        }
+    }
+    SideRead {
+        status: Status::Fine,
+        side: Side {
+            count: count,
+            limits: limits,
+        },
+        next: next,
+    }
+}
+
+fn no_body() -> Loop {
+    let limits = no_limits();
+    Loop {
+        lower: Side {
+            count: 0,
+            limits: limits,
+        },
+        upper: Side {
+            count: 0,
+            limits: limits,
+        },
+    }
+}
+
+fn no_loop(r: Refusal, at: usize) -> LoopRead
+    ensures { λ q. ⌜ (q .status ≡ Refused r) × (q .next ≡ at) ⌝ }
+{
+    let body = no_body();
+    LoopRead {
+        status: Status::Refused(r),
+        body: body,
+        next: at,
+    }
+}
+
+// Lower limits, then upper limits.
+pub fn read_loop(s: &[u8], at: usize, outer: usize) -> LoopRead
+    requires { ⌜ Reached (now s) at × (outer ≤ 6) ⌝ }
+    ensures { λ r. ⌜ Reads (loop 4 outer (now (s .entry)) at) (now (s .entry)) (r .status) (loopOf outer (r .body)) (r .next) ⌝ }
+{
+    let low = read_side(s, at, outer);
+    let status = low.status;
+    match status {
+        Status::Fine => {}
+        Status::Refused(r) => return no_loop(r, at),
+    }
+    let middle = low.next;
+    let high = read_side(s, middle, outer);
+    let status = high.status;
+    match status {
+        Status::Fine => {
+            let lower = low.side;
+            let upper = high.side;
+            let next = high.next;
+            LoopRead {
+                status: Status::Fine,
+                body: Loop {
+                    lower: lower,
+                    upper: upper,
+                },
+                next: next,
+            }
+        }
+        Status::Refused(r) => no_loop(r, at),
+    }
+}
+
+fn no_loops() -> [Loop; 6]
+    ensures { λ r. ⌜ length r ≡ 6 ⌝ }
+{
+    let blank = no_body();
+    [blank; 6]
+}
+
+fn no_nest(r: Refusal, at: usize) -> NestRead
+    ensures { λ q. ⌜ (q .status ≡ Refused r) × (q .next ≡ at) × (q .nest .depth ≡ 0) ⌝ }
+{
+    let blank = no_loops();
+    NestRead {
+        status: Status::Refused(r),
+        nest: Nest {
+            depth: 0,
+            loops: blank,
+        },
+        next: at,
+    }
+}
+
+// The section: a count from 1 to 4 and as many loops, each with those before it outside.
+pub fn read_nest(s: &[u8], at: usize) -> NestRead
+    requires { ⌜ Reached (now s) at ⌝ }
+    ensures { λ r. ⌜ ReadsNest (now (s .entry)) at r ⌝ }
+{
+    let depth = match reading::read_count(s, at, 1, 4) {
+        Natural::Value(v) => v,
+        Natural::Refused(r) => return no_nest(r, at),
+    };
+    let mut all = no_loops();
+    let mut next = at + 1;
+    let mut k = 0;
+    while k < depth {
+        let one = read_loop(s, next, k);
+        let status = one.status;
+        match status {
+            Status::Fine => {
+                let body = one.body;
+                all[k] = body;
+                next = one.next;
+                k += 1;
+            }
+            Status::Refused(r) => return no_nest(r, at),
+        }
+    }
+    NestRead {
+        status: Status::Fine,
+        nest: Nest {
+            depth: depth,
+            loops: all,
+        },
+        next: next,
+    }
 }

@@ -1,0 +1,2 @@
+-- Laws that the proofs of more than one function share, or that stand on their own.
+pub mod LoopLaws
