@@ -1,0 +1,2 @@
+-- Laws of arrays and statements that the code's proofs cite.
+pub mod ArrayLaws
