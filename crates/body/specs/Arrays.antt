@@ -2,7 +2,8 @@
 use mathlib.Core.Path.{_≡_}
 use mathlib.Core.List.{List, map}
 use Prim.Native.Nat.{ℕ, _≤_}
-use lib.ListN.{take}
+use lib.ListN.{length, take}
+use Rattle.lists.specs.Membership.{All}
 use Rattle.model.specs.Grammar.{Reader, _>>=_, count, natural, times, elements, arrays}
 use Rattle.reading.specs.Refusals.{Reads}
 use Rattle.body.specs.declared.Shape.{Shape}
@@ -16,6 +17,16 @@ shapeOf a = take (a .dimensions) (a .extents)
 unfoldable pub arraysOf : Arrays → List (List ℕ)
 arraysOf A = map shapeOf (take (A .count) (A .shapes))
 
+-- counts within the arrays
+pub record ShapeIn (a : Shape) : Type 0 where
+  pub few : a .dimensions ≤ 3
+  pub room : length (a .extents) ≡ 3
+
+pub record ArraysIn (A : Arrays) : Type 0 where
+  pub few : A .count ≤ 4
+  pub room : length (A .shapes) ≡ 4
+  pub each : All ShapeIn (take (A .count) (A .shapes))
+
 -- one array
 unfoldable pub shape : Reader (List ℕ)
 shape = do
@@ -24,10 +35,11 @@ shape = do
 
 pub record ReadsShape (b : List ℕ) (k : ℕ) (r : ShapeRead) : Type 0 where
   pub reads : Reads (shape b k) b (r .status) (shapeOf (r .shape)) (r .next)
-  pub few : r .shape .dimensions ≤ 3
+  pub within : ShapeIn (r .shape)
   pub total : r .elements ≡ elements (shapeOf (r .shape))
   -- 4096 × 4096 × 4096
   pub bounded : r .elements ≤ 68719476736
 
 pub record ReadsArrays (b : List ℕ) (k : ℕ) (r : ArraysRead) : Type 0 where
   pub reads : Reads (arrays b k) b (r .status) (arraysOf (r .arrays)) (r .next)
+  pub within : ArraysIn (r .arrays)

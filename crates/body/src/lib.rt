@@ -34,7 +34,7 @@ pub struct ArraysRead {
 }
 
 fn no_shape(r: Refusal, at: usize) -> ShapeRead
-    ensures { λ q. ⌜ (q .status ≡ Refused r) × (q .next ≡ at) × (q .shape .dimensions ≡ 0) × (q .elements ≡ 1) ⌝ }
+    ensures { λ q. ⌜ (q .status ≡ Refused r) × (q .next ≡ at) × (q .shape .dimensions ≡ 0) × (length (q .shape .extents) ≡ 3) × (q .elements ≡ 1) ⌝ }
 {
     ShapeRead {
         status: Status::Refused(r),
@@ -78,6 +78,70 @@ pub fn read_shape(s: &[u8], at: usize) -> ShapeRead
             extents: extents,
         },
         elements: elements,
+        next: next,
+    }
+}
+
+fn no_shapes() -> [Shape; 4]
+    ensures { λ r. ⌜ length r ≡ 4 ⌝ }
+{
+    let blank = Shape {
+        dimensions: 0,
+        extents: [0usize; 3],
+    };
+    [blank; 4]
+}
+
+fn no_arrays(r: Refusal, at: usize) -> ArraysRead
+    ensures { λ q. ⌜ (q .status ≡ Refused r) × (q .next ≡ at) × (q .arrays .count ≡ 0) × (length (q .arrays .shapes) ≡ 4) ⌝ }
+{
+    let blank = no_shapes();
+    ArraysRead {
+        status: Status::Refused(r),
+        arrays: Arrays {
+            count: 0,
+            shapes: blank,
+        },
+        next: at,
+    }
+}
+
+// A count from 1 to 4 and as many arrays, with at most 16,384 elements together, tested after each.
+pub fn read_arrays(s: &[u8], at: usize) -> ArraysRead
+    requires { ⌜ Reached (now s) at ⌝ }
+    ensures { λ r. ⌜ ReadsArrays (now (s .entry)) at r ⌝ }
+{
+    let count = match reading::read_count(s, at, 1, 4) {
+        Natural::Value(v) => v,
+        Natural::Refused(r) => return no_arrays(r, at),
+    };
+    let mut shapes = no_shapes();
+    let mut total = 0;
+    let mut next = at + 1;
+    let mut k = 0;
+    while k < count {
+        let one = read_shape(s, next);
+        let status = one.status;
+        match status {
+            Status::Fine => {
+                total = total + one.elements;
+                next = one.next;
+                if 16384 < total {
+                    return no_arrays(Refusal::TooManyElements(next - 1), at);
+                }
+                let shape = one.shape;
+                shapes[k] = shape;
+                k += 1;
+            }
+            Status::Refused(r) => return no_arrays(r, at),
+        }
+    }
+    ArraysRead {
+        status: Status::Fine,
+        arrays: Arrays {
+            count: count,
+            shapes: shapes,
+        },
         next: next,
     }
 }

@@ -47,6 +47,18 @@ module _ {A B : Type 0} (m : Reader A) (f : A → Reader B) (b : List ℕ) (k : 
   unfolding _>>=_ Answer._>>=_
   after-refusal n p e = rw e
 
+module _ {A B C : Type 0} (m : Reader A) (f : A → Reader B) (g : B → Reader C) (b : List ℕ) where
+  goes-on : (a : Answer (Read A)) → Answer._>>=_ (Answer._>>=_ a (λ r. f (r .value) b (r .next))) (λ r. g (r .value) b (r .next))
+      ≡ Answer._>>=_ a (λ r. (f (r .value) >>= g) b (r .next))
+  unfolding _>>=_ Answer._>>=_
+  goes-on (accepted r) = refl
+  goes-on (refused n p) = refl
+
+  -- two readers and a third, in either grouping
+  pub regrouped : (k : ℕ) → (m >>= (λ a. f a >>= g)) b k ≡ ((m >>= f) >>= g) b k
+  unfolding _>>=_
+  regrouped k = sym (goes-on (m b k))
+
 -- ---- repeated, with a state that each value changes
 
 unfoldable pub repeated : {S A : Type 0} → (S → Reader A) → (S → A → S) → ℕ → S → Reader (List A)
@@ -66,7 +78,7 @@ module _ {A : Type 0} where
   before-none (accepted r) = refl
   before-none (refused n p) = refl
 
-  before-one : (vs : List A) (a : A) (m : Answer (Read (List A)))
+  pub before-one : (vs : List A) (a : A) (m : Answer (Read (List A)))
       → before vs (Answer._>>=_ m (λ r. accepted (record { value = a ∷ r .value; next = r .next }))) ≡ before (vs ++ (a ∷ [])) m
   unfolding before Answer._>>=_
   before-one vs a (accepted r) = rw (append-assoc vs (a ∷ []) (r .value))

@@ -57,7 +57,7 @@ unfolding shapeOf Grammar.elements
 returns c =
     let e = seen (naturalAnswer _) (c .before .before .r .given .1) (c .before .before .before .before .read-count .ensures .same) in
     let q = c .no-shape .ensures in
-    record { reads = refused-here _ (q .0) (q .1) (no-count _ _ _ _ e) (c .before .before .before .before .before .before .pre); few = omega arith; total = rw (q .2, q .3) refl; bounded = omega arith }
+    record { reads = refused-here _ (q .0) (q .1) (no-count _ _ _ _ e) (c .before .before .before .before .before .before .pre); within = record { few = omega arith; room = q .3 }; total = rw (q .2, q .4) refl; bounded = omega arith }
 
 add-next : tie.Need-add-next Inv-loop μ-loop
 add-next c = search needs
@@ -126,7 +126,7 @@ returns-2 c =
     let q = c .no-shape2 .ensures in
     record {
       reads = refused-here _ (q .0) (q .1) (i .so ∙ times-no (natural 1 4096) _ _ _ _ _ _ _ (c .before .before .before .before .before .loop-test .taken) e) (c .before .before .before .before .before .before .before .before .before .before .before .before .pre);
-      few = omega arith; total = rw (q .2, q .3) refl; bounded = omega arith }
+      within = record { few = omega arith; room = q .3 }; total = rw (q .2, q .4) refl; bounded = omega arith }
 
 returns-3 : tie.Need-returns-3 Inv-loop μ-loop
 unfolding shapeOf
@@ -134,7 +134,7 @@ returns-3 c =
     let i = c .before .loop .inv in
     record {
       reads = record { same = sym (i .so ∙ row-done _ _ (natural 1 4096) _ _ _ (i .low) (c .loop-test .left)); reached = i .reached };
-      few = i .few;
+      within = record { few = i .few; room = i .three };
       total = elements-all _ _ _ _ (i .low) (c .loop-test .left) (i .total);
       bounded = omega (arith, i .bounded, most-three (c .before .loop .k) (omega arith)) }
 
