@@ -9,8 +9,6 @@ use lib.Dec.{leb}
 use borrow.Author.Tests.{le-leb, lt-leb}
 use lib.ListN.{length, take, set}
 use lib.Seq.{take-suc-set}
-use Rattle.lists.specs.Membership.{All}
-use Rattle.lists.proofs.MembershipLaws.{all-nil, all-cons, all-append}
 use Rattle.model.specs.Answer as Answer
 use Rattle.model.specs.Answer.{accepted, refused, require}
 use Rattle.model.specs.Grammar.{_>>=_, _>>_, must, done, count, natural, times, elements, arraysFrom}
@@ -82,8 +80,3 @@ module _ (b : List ℕ) (n i k t : ℕ) (vs : List (List ℕ)) where
 
 pub arrays-start : (b : List ℕ) (n k : ℕ) → arraysFrom 0 n b k ≡ before [] (arraysFrom 0 (n - 0) b k)
 arrays-start b n k = rw (sub-zero n) (sym (before-none _))
-
--- ---- what holds of every element of the array so far
-
-pub all-more : {A : Type 0} (P : A → Type 0) (l : List A) (i : ℕ) (a : A) → i < length l → P a → All P (take i l) → All P (take (i + 1) (set l i a))
-all-more P l i a h p q = rw (add-one, take-suc-set l i a h) (all-append P (take i l) (a ∷ []) q (all-cons P p (all-nil P)))

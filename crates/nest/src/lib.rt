@@ -2,10 +2,9 @@
 ghost use mathlib.Core.Path.{_≡_};
 ghost use Prim.Native.Nat.{_<_, _≤_};
 ghost use lib.ListN.{length};
-ghost use Rattle.model.specs.Grammar.{limit, side, loop};
-ghost use Rattle.reading.specs.Refusals.{Reached, Reads};
+ghost use Rattle.reading.specs.Refusals.{Reached};
 ghost use Rattle.reading.specs.declared.Status.the-variants.{Refused};
-ghost use Rattle.nest.specs.Nested.{limitOf, sideOf, loopOf, ReadsNest};
+ghost use Rattle.nest.specs.Nested.{LimitIn, SideIn, LoopIn, NestIn, ReadsLimit, ReadsSide, ReadsLoop, ReadsNest};
 
 use reading::{Natural, Number, Refusal, Status};
 
@@ -58,7 +57,7 @@ pub struct NestRead {
 }
 
 fn no_limit(r: Refusal, at: usize) -> LimitRead
-    ensures { λ q. ⌜ (q .status ≡ Refused r) × (q .next ≡ at) ⌝ }
+    ensures { λ q. ⌜ (q .status ≡ Refused r) × (q .next ≡ at) × LimitIn (q .limit) ⌝ }
 {
     LimitRead {
         status: Status::Refused(r),
@@ -74,7 +73,7 @@ fn no_limit(r: Refusal, at: usize) -> LimitRead
 // A limit of a loop that has `outer` loops outside.
 pub fn read_limit(s: &[u8], at: usize, outer: usize) -> LimitRead
     requires { ⌜ Reached (now s) at × (outer ≤ 6) ⌝ }
-    ensures { λ r. ⌜ Reads (limit outer (now (s .entry)) at) (now (s .entry)) (r .status) (limitOf outer (r .limit)) (r .next) ⌝ }
+    ensures { λ r. ⌜ ReadsLimit (now (s .entry)) at outer r ⌝ }
 {
     let multiplier = match reading::read_natural(s, at, 1, 32767) {
         Natural::Value(v) => v,
@@ -116,7 +115,7 @@ fn no_limits() -> [Limit; 16]
 }
 
 fn no_side(r: Refusal, at: usize) -> SideRead
-    ensures { λ q. ⌜ (q .status ≡ Refused r) × (q .next ≡ at) ⌝ }
+    ensures { λ q. ⌜ (q .status ≡ Refused r) × (q .next ≡ at) × SideIn (q .side) ⌝ }
 {
     let limits = no_limits();
     SideRead {
@@ -132,7 +131,7 @@ fn no_side(r: Refusal, at: usize) -> SideRead
 // A count from 1 to 4 and as many limits.
 pub fn read_side(s: &[u8], at: usize, outer: usize) -> SideRead
     requires { ⌜ Reached (now s) at × (outer ≤ 6) ⌝ }
-    ensures { λ r. ⌜ Reads (side 4 outer (now (s .entry)) at) (now (s .entry)) (r .status) (sideOf outer (r .side)) (r .next) ⌝ }
+    ensures { λ r. ⌜ ReadsSide (now (s .entry)) at outer r ⌝ }
 {
     let count = match reading::read_count(s, at, 1, 4) {
         Natural::Value(v) => v,
@@ -164,7 +163,9 @@ pub fn read_side(s: &[u8], at: usize, outer: usize) -> SideRead
     }
 }
 
-fn no_body() -> Loop {
+fn no_body() -> Loop
+    ensures { λ r. ⌜ LoopIn r ⌝ }
+{
     let limits = no_limits();
     Loop {
         lower: Side {
@@ -179,7 +180,7 @@ fn no_body() -> Loop {
 }
 
 fn no_loop(r: Refusal, at: usize) -> LoopRead
-    ensures { λ q. ⌜ (q .status ≡ Refused r) × (q .next ≡ at) ⌝ }
+    ensures { λ q. ⌜ (q .status ≡ Refused r) × (q .next ≡ at) × LoopIn (q .body) ⌝ }
 {
     let body = no_body();
     LoopRead {
@@ -192,7 +193,7 @@ fn no_loop(r: Refusal, at: usize) -> LoopRead
 // Lower limits, then upper limits.
 pub fn read_loop(s: &[u8], at: usize, outer: usize) -> LoopRead
     requires { ⌜ Reached (now s) at × (outer ≤ 6) ⌝ }
-    ensures { λ r. ⌜ Reads (loop 4 outer (now (s .entry)) at) (now (s .entry)) (r .status) (loopOf outer (r .body)) (r .next) ⌝ }
+    ensures { λ r. ⌜ ReadsLoop (now (s .entry)) at outer r ⌝ }
 {
     let low = read_side(s, at, outer);
     let status = low.status;
@@ -229,7 +230,7 @@ fn no_loops() -> [Loop; 6]
 }
 
 fn no_nest(r: Refusal, at: usize) -> NestRead
-    ensures { λ q. ⌜ (q .status ≡ Refused r) × (q .next ≡ at) × (q .nest .depth ≡ 0) ⌝ }
+    ensures { λ q. ⌜ (q .status ≡ Refused r) × (q .next ≡ at) × NestIn (q .nest) ⌝ }
 {
     let blank = no_loops();
     NestRead {

@@ -7,6 +7,8 @@ use native.Mathlib.Nat.{sub-zero}
 use native.Mathlib.Numerals.{add-one}
 use lib.ListN.{length, take, set}
 use lib.Seq.{take-suc-set}
+use Rattle.lists.specs.Membership.{All}
+use Rattle.lists.proofs.MembershipLaws.{all-nil, all-cons, all-append}
 use Rattle.model.specs.Answer as Answer
 use Rattle.model.specs.Answer.{Answer, accepted, refused}
 use Rattle.model.specs.Grammar.{Read, Reader, _>>=_, done, times}
@@ -154,3 +156,10 @@ module _ {A : Type 0} (l : List A) (i : ℕ) (r : Reader A) (b : List ℕ) (n k 
   row-done p q =
       let z : i ≡ n = omega arith in
       times-done r b n i k (take i l) q ∙ ap (λ m. accepted (record { value = take m l; next = k })) z
+
+-- what holds of every element so far, and of the next
+pub all-more : {A : Type 0} (P : A → Type 0) (l : List A) (i : ℕ) (a : A) → i < length l → P a → All P (take i l) → All P (take (i + 1) (set l i a))
+all-more P l i a h p q = rw (add-one, take-suc-set l i a h) (all-append P (take i l) (a ∷ []) q (all-cons P p (all-nil P)))
+
+pub all-read : {A : Type 0} (P : A → Type 0) (l : List A) (i n : ℕ) → i ≤ n → n ≤ i → All P (take i l) → All P (take n l)
+all-read P l i n p q h = let z : i ≡ n = omega arith in subst (λ m. All P (take m l)) z h

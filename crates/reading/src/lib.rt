@@ -2,7 +2,7 @@
 ghost use mathlib.Core.Path.{_≡_};
 ghost use Prim.Native.Nat.{_<_, _≤_};
 ghost use lib.IntN.{pos};
-ghost use lib.ListN.{take};
+ghost use lib.ListN.{length, take};
 ghost use Rattle.model.specs.Words.{signed};
 ghost use Rattle.model.specs.Grammar.{count, natural, number, loopNumber, times, between};
 ghost use Rattle.reading.specs.Refusals.{Reached, Reads};
@@ -157,7 +157,7 @@ pub struct RowRead {
 
 pub fn read_row(s: &[u8], at: usize, n: usize) -> RowRead
     requires { ⌜ Reached (now s) at × (n ≤ 6) ⌝ }
-    ensures { λ r. ⌜ Reads (times n number (now (s .entry)) at) (now (s .entry)) (r .status) (take n (r .row)) (r .next) ⌝ }
+    ensures { λ r. ⌜ Reads (times n number (now (s .entry)) at) (now (s .entry)) (r .status) (take n (r .row)) (r .next) × (length (r .row) ≡ 6) ⌝ }
 {
     let mut row = [0i64; 6];
     let mut next = at;

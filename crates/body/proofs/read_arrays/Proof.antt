@@ -12,11 +12,11 @@ use Rattle.model.specs.Grammar as Grammar
 use Rattle.model.specs.Grammar.{elements, arraysFrom, arrays}
 use Rattle.reading.specs.Refusals.{Reached}
 use Rattle.reading.specs.Words.{naturalAnswer, OnNatural}
-use Rattle.reading.proofs.ReaderLaws.{seen, known-of, read-value, read-refusal, refused-here, after-value, after-refusal, before, filled-more}
+use Rattle.reading.proofs.ReaderLaws.{seen, known-of, read-value, read-refusal, refused-here, after-value, after-refusal, before, filled-more, all-more, all-read}
 use Rattle.body.specs.Arrays.{shapeOf, arraysOf, shape, ShapeIn, ArraysIn}
 use Rattle.body.specs.declared.Shape.{Shape}
 use Rattle.body.specs.declared.Arrays.{Arrays}
-use Rattle.body.proofs.ArrayLaws.{arrays-start, arrays-more, arrays-full, arrays-no, arrays-done, all-more}
+use Rattle.body.proofs.ArrayLaws.{arrays-start, arrays-more, arrays-full, arrays-no, arrays-done}
 use Rattle.body.proofs.read_arrays.Statement.{statement}
 use Rattle.body.proofs.read_arrays.Tie as tie
 
@@ -48,9 +48,6 @@ record Inv (b : List ℕ) (at count : ℕ) (shapes : List Shape) (total next k :
   bounded : total ≤ 16384
   reached : Reached b next
   so : arrays b at ≡ before (map shapeOf (take k shapes)) (arraysFrom total (count - k) b next)
-
-all-read : (n k : ℕ) (l : List Shape) → k ≤ n → n ≤ k → All ShapeIn (take k l) → All ShapeIn (take n l)
-all-read n k l p q h = let z : k ≡ n = omega arith in rw (sym z) h
 
 ends : (b : List ℕ) (at n t : ℕ) (l : List Shape) (next k : ℕ) → Inv b at n l t next k → n ≤ k
     → arrays b at ≡ accepted (record { value = map shapeOf (take n l); next = next })
@@ -163,7 +160,7 @@ returns-4 c =
     let i = c .before .loop .inv in
     record {
       reads = record { same = sym (ends _ _ _ _ _ _ _ i (c .loop-test .left)); reached = i .reached };
-      within = record { few = i .few; room = i .four; each = all-read _ _ _ (i .low) (c .loop-test .left) (i .each) } }
+      within = record { few = i .few; room = i .four; each = all-read ShapeIn (c .before .loop .shapes) (c .before .loop .k) _ (i .low) (c .loop-test .left) (i .each) } }
 
 pub read-arrays-spec : {M : Type 1} → statement M
 read-arrays-spec =

@@ -63,7 +63,8 @@ no-limit-requires c κs = search needs
 returns : tie.Need-returns
 returns c =
     let e = seen (naturalAnswer _) (c .before .before .r .given .1) (c .before .before .before .before .read-natural .ensures .same) in
-    refused-here _ (c .no-limit .ensures .0) (c .no-limit .ensures .1) (no-multiplier _ _ _ _ _ e) (c .before .before .before .before .before .before .pre .0)
+    let q = c .no-limit .ensures in
+    record { reads = refused-here _ (q .0) (q .1) (no-multiplier _ _ _ _ _ e) (c .before .before .before .before .before .before .pre .0); within = q .2 }
 
 add-read-number : tie.Need-add-read-number
 add-read-number c = search needs
@@ -84,7 +85,8 @@ returns-2 : tie.Need-returns-2
 returns-2 c =
     let e = seen (naturalAnswer _) (c .before .before .before .before .before .before .v .given .1) (c .before .before .before .before .before .before .before .before .read-natural .ensures .same) in
     let f = seen (numberAnswer _) (c .before .before .r2 .given .1) (c .before .before .before .before .read-number .ensures .same) in
-    refused-here _ (c .no-limit2 .ensures .0) (c .no-limit2 .ensures .1) (no-constant _ _ _ _ _ _ e f) (c .before .before .before .before .before .before .before .before .before .before .pre .0)
+    let q = c .no-limit2 .ensures in
+    record { reads = refused-here _ (q .0) (q .1) (no-constant _ _ _ _ _ _ e f) (c .before .before .before .before .before .before .before .before .before .before .pre .0); within = q .2 }
 
 add-read-row : tie.Need-add-read-row
 add-read-row c = search needs
@@ -105,15 +107,18 @@ returns-3 : tie.Need-returns-3
 returns-3 c =
     let e = seen (naturalAnswer _) (c .before .before .before .before .before .before .before .before .before .v .given .1) (c .before .before .before .before .before .before .before .before .before .before .before .read-natural .ensures .same) in
     let f = seen (numberAnswer _) (c .before .before .before .before .before .v2 .given .1) (c .before .before .before .before .before .before .before .read-number .ensures .same) in
-    let g = read-value (c .before .enum-told .given .1) (c .before .before .before .read-row .ensures) in
-    record { same = sym (one-limit _ _ _ _ _ _ _ refl (search needs) e f g); reached = c .before .before .before .read-row .ensures .reached }
+    let g = read-value (c .before .enum-told .given .1) (c .before .before .before .read-row .ensures .0) in
+    record {
+      reads = record { same = sym (one-limit _ _ _ _ _ _ _ refl (search needs) e f g); reached = c .before .before .before .read-row .ensures .0 .reached };
+      within = record { room = c .before .before .before .read-row .ensures .1 } }
 
 returns-4 : tie.Need-returns-4
 returns-4 c =
     let e = seen (naturalAnswer _) (c .before .before .before .before .before .before .before .before .before .before .v .given .1) (c .before .before .before .before .before .before .before .before .before .before .before .before .read-natural .ensures .same) in
     let f = seen (numberAnswer _) (c .before .before .before .before .before .before .v2 .given .1) (c .before .before .before .before .before .before .before .before .read-number .ensures .same) in
-    let g = read-refusal (c .before .before .status .given .1) (c .before .before .before .before .read-row .ensures) in
-    refused-here _ (c .no-limit3 .ensures .0) (c .no-limit3 .ensures .1) (no-coefficients _ _ _ _ _ _ e _ f g) (c .before .before .before .before .before .before .before .before .before .before .before .before .before .before .pre .0)
+    let g = read-refusal (c .before .before .status .given .1) (c .before .before .before .before .read-row .ensures .0) in
+    let q = c .no-limit3 .ensures in
+    record { reads = refused-here _ (q .0) (q .1) (no-coefficients _ _ _ _ _ _ e _ f g) (c .before .before .before .before .before .before .before .before .before .before .before .before .before .before .pre .0); within = q .2 }
 
 pub read-limit-spec : {M : Type 1} → statement M
 read-limit-spec =

@@ -40,7 +40,9 @@ no-loop-requires : tie.Need-no-loop-requires
 no-loop-requires c κs = search needs
 
 returns : tie.Need-returns
-returns c =     refused-here _ (c .no-loop .ensures .0) (c .no-loop .ensures .1) (no-lower _ _ _ _ _ (read-refusal (c .before .before .status .given .1) (c .before .before .before .before .read-side .ensures))) (c .before .before .before .before .before .before .pre .0)
+returns c =
+    let q = c .no-loop .ensures in
+    record { reads = refused-here _ (q .0) (q .1) (no-lower _ _ _ _ _ (read-refusal (c .before .before .status .given .1) (c .before .before .before .before .read-side .ensures .reads))) (c .before .before .before .before .before .before .pre .0); within = q .2 }
 
 read-side-requires-2 : tie.Need-read-side-requires-2
 read-side-requires-2 c κs = search needs
@@ -56,14 +58,17 @@ no-loop-requires-2 c κs = search needs
 
 returns-2 : tie.Need-returns-2
 returns-2 c =
-    let e = read-value (c .before .before .before .before .before .enum-told .given .1) (c .before .before .before .before .before .before .before .read-side .ensures) in
-    let f = read-value (c .before .before .enum-told2 .given .1) (c .before .before .before .before .read-side2 .ensures) in
-    record { same = sym (both _ _ _ _ _ e _ _ f); reached = c .before .before .before .before .read-side2 .ensures .reached }
+    let e = read-value (c .before .before .before .before .before .enum-told .given .1) (c .before .before .before .before .before .before .before .read-side .ensures .reads) in
+    let f = read-value (c .before .before .enum-told2 .given .1) (c .before .before .before .before .read-side2 .ensures .reads) in
+    record {
+      reads = record { same = sym (both _ _ _ _ _ e _ _ f); reached = c .before .before .before .before .read-side2 .ensures .reads .reached };
+      within = record { lower = c .before .before .before .before .before .before .before .read-side .ensures .within; upper = c .before .before .before .before .read-side2 .ensures .within } }
 
 returns-3 : tie.Need-returns-3
 returns-3 c =
-    let e = read-value (c .before .before .before .before .before .enum-told .given .1) (c .before .before .before .before .before .before .before .read-side .ensures) in
-    refused-here _ (c .no-loop2 .ensures .0) (c .no-loop2 .ensures .1) (no-upper _ _ _ _ _ e _ _ (read-refusal (c .before .before .status2 .given .1) (c .before .before .before .before .read-side2 .ensures))) (c .before .before .before .before .before .before .before .before .before .pre .0)
+    let e = read-value (c .before .before .before .before .before .enum-told .given .1) (c .before .before .before .before .before .before .before .read-side .ensures .reads) in
+    let q = c .no-loop2 .ensures in
+    record { reads = refused-here _ (q .0) (q .1) (no-upper _ _ _ _ _ e _ _ (read-refusal (c .before .before .status2 .given .1) (c .before .before .before .before .read-side2 .ensures .reads))) (c .before .before .before .before .before .before .before .before .before .pre .0); within = q .2 }
 
 pub read-loop-spec : {M : Type 1} → statement M
 read-loop-spec =

@@ -5,13 +5,15 @@ use mathlib.Core.List.{List}
 use Prim.Native.Nat.{ℕ, _+_, _-_, _≤_}
 use native.Mathlib.Omega.{arith}
 use lib.ListN.{length, take, length-set}
+use Rattle.lists.specs.Membership.{All}
+use Rattle.lists.proofs.MembershipLaws.{all-nil}
 use Rattle.model.specs.Answer.{accepted, refused}
 use Rattle.model.specs.Grammar as Grammar
 use Rattle.model.specs.Grammar.{count, loops}
 use Rattle.reading.specs.Refusals.{Reached}
 use Rattle.reading.specs.Words.{naturalAnswer, OnNatural}
-use Rattle.reading.proofs.ReaderLaws.{seen, known-of, read-value, read-refusal, refused-here, after-value, after-refusal, before}
-use Rattle.nest.specs.Nested.{loopsFrom, loopsOf}
+use Rattle.reading.proofs.ReaderLaws.{seen, known-of, read-value, read-refusal, refused-here, after-value, after-refusal, before, all-more, all-read}
+use Rattle.nest.specs.Nested.{loopsFrom, loopsOf, LoopIn}
 use Rattle.nest.specs.declared.Loop.{Loop}
 use Rattle.nest.proofs.LoopLaws.{loops-start, loops-more, loops-no, loops-done}
 use Rattle.nest.proofs.read_nest.Statement.{statement}
@@ -30,6 +32,7 @@ record Inv (b : List ℕ) (at depth : ℕ) (all : List Loop) (next k : ℕ) : Ty
   low : k ≤ depth
   few : depth ≤ 4
   six : length all ≡ 6
+  each : All LoopIn (take k all)
   reached : Reached b next
   so : loops 4 4 b at ≡ before (loopsFrom 0 (take k all)) (Grammar.loopsFrom 4 k (depth - k) b next)
 
@@ -54,7 +57,8 @@ no-nest-requires c κs = search needs
 returns : tie.Need-returns Inv-loop μ-loop
 returns c =
     let e = seen (naturalAnswer _) (c .before .before .r .given .1) (c .before .before .before .before .read-count .ensures .same) in
-    record { reads = refused-here _ (c .no-nest .ensures .0) (c .no-nest .ensures .1) (no-count _ _ _ _ e) (c .before .before .before .before .before .before .pre); few = omega arith }
+    let q = c .no-nest .ensures in
+    record { reads = refused-here _ (q .0) (q .1) (no-count _ _ _ _ e) (c .before .before .before .before .before .before .pre); within = q .2 }
 
 no-loops-requires : tie.Need-no-loops-requires Inv-loop μ-loop
 no-loops-requires c κs = search needs
@@ -67,7 +71,7 @@ unfolding loopsFrom
 loop-holds c =
     let e = seen (naturalAnswer _) (c .before .before .v .given .1) (c .before .before .before .before .read-count .ensures .same) in
     let k = known-of (OnNatural _ _ _ _) (c .before .before .v .given .1) (c .before .before .before .before .read-count .ensures .known) in
-    record { low = omega arith; few = k .high; six = c .no-loops .ensures; reached = k .reached; so = counted _ _ _ e ∙ loops-start _ _ _ _ }
+    record { low = omega arith; few = k .high; six = c .no-loops .ensures; each = all-nil LoopIn; reached = k .reached; so = counted _ _ _ e ∙ loops-start _ _ _ _ }
 
 read-loop-requires : tie.Need-read-loop-requires Inv-loop μ-loop
 read-loop-requires c κs = search needs
@@ -90,12 +94,13 @@ loop-less c = search needs
 loop-again : tie.Need-loop-again Inv-loop μ-loop
 loop-again c =
     let i = c .before .before .before .before .before .loop .inv in
-    let e = read-value (c .before .enum-told .given .1) (c .before .before .before .read-loop .ensures) in
+    let e = read-value (c .before .enum-told .given .1) (c .before .before .before .read-loop .ensures .reads) in
     record {
       low = omega arith;
       few = i .few;
       six = simp length-set (i .six);
-      reached = c .before .before .before .read-loop .ensures .reached;
+      each = all-more LoopIn (c .before .before .before .before .before .loop .all) (c .before .before .before .before .before .loop .k) (c .before .before .before .read-loop .result .body) (omega arith) (c .before .before .before .read-loop .ensures .within) (i .each);
+      reached = c .before .before .before .read-loop .ensures .reads .reached;
       so = i .so ∙ loops-more _ _ _ _ _ _ _ _ (c .before .before .before .before .loop-test .taken) (omega arith) e }
 
 enum-known-status : tie.Need-enum-known-status Inv-loop μ-loop
@@ -107,16 +112,17 @@ no-nest-requires-2 c κs = search needs
 returns-2 : tie.Need-returns-2 Inv-loop μ-loop
 returns-2 c =
     let i = c .before .before .before .before .before .before .loop .inv in
-    let e = read-refusal (c .before .before .status .given .1) (c .before .before .before .before .read-loop .ensures) in
-    record {
-      reads = refused-here _ (c .no-nest2 .ensures .0) (c .no-nest2 .ensures .1) (i .so ∙ loops-no _ _ _ _ _ _ _ _ (c .before .before .before .before .before .loop-test .taken) e) (c .before .before .before .before .before .before .before .before .before .before .before .before .before .pre);
-      few = omega arith }
+    let e = read-refusal (c .before .before .status .given .1) (c .before .before .before .before .read-loop .ensures .reads) in
+    let q = c .no-nest2 .ensures in
+    record { reads = refused-here _ (q .0) (q .1) (i .so ∙ loops-no _ _ _ _ _ _ _ _ (c .before .before .before .before .before .loop-test .taken) e) (c .before .before .before .before .before .before .before .before .before .before .before .before .before .pre); within = q .2 }
 
 returns-3 : tie.Need-returns-3 Inv-loop μ-loop
 unfolding loopsOf
 returns-3 c =
     let i = c .before .loop .inv in
-    record { reads = record { same = sym (i .so ∙ loops-done _ _ _ _ _ _ (i .low) (c .loop-test .left)); reached = i .reached }; few = i .few }
+    record {
+      reads = record { same = sym (i .so ∙ loops-done _ _ _ _ _ _ (i .low) (c .loop-test .left)); reached = i .reached };
+      within = record { few = omega arith; room = i .six; each = all-read LoopIn (c .before .loop .all) (c .before .loop .k) _ (i .low) (c .loop-test .left) (i .each) } }
 
 pub read-nest-spec : {M : Type 1} → statement M
 read-nest-spec =

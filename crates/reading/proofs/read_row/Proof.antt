@@ -66,12 +66,12 @@ returns : tie.Need-returns Inv-loop μ-loop
 returns c =
     let i = c .before .before .before .before .before .loop .inv in
     let e = seen (numberAnswer _) (c .before .r .given .1) (c .before .before .before .read-number .ensures .same) in
-    record { same = sym (i .so ∙ times-no number _ _ _ _ _ _ _ (c .before .before .before .before .loop-test .taken) e); reached = i .reached }
+    (record { same = sym (i .so ∙ times-no number _ _ _ _ _ _ _ (c .before .before .before .before .loop-test .taken) e); reached = i .reached }, i .six)
 
 returns-2 : tie.Need-returns-2 Inv-loop μ-loop
 returns-2 c =
     let i = c .before .loop .inv in
-    record { same = sym (i .so ∙ row-done _ _ number _ _ _ (i .low) (c .loop-test .left)); reached = i .reached }
+    (record { same = sym (i .so ∙ row-done _ _ number _ _ _ (i .low) (c .loop-test .left)); reached = i .reached }, i .six)
 
 pub read-row-spec : {M : Type 1} → statement M
 read-row-spec =
