@@ -1,0 +1,75 @@
+-- The steps that the structs hold, and what reading one gives.
+use mathlib.Core.Path.{_≡_}
+use mathlib.Core.Bool.{Bool, true, false, cond, not}
+use mathlib.Core.List.{List}
+use Prim.Native.Nat.{ℕ, _+_}
+use lib.Dec.{ltb}
+use lib.IntN.{pos, negsuc}
+use Rattle.integers.specs.Sign.{eqZ}
+use Rattle.model.specs.Answer.{Answer, accepted}
+use Rattle.model.specs.Ticket as Model
+use Rattle.model.specs.Grammar as Grammar
+use Rattle.model.specs.Grammar.{Read, Reader, _>>=_, _>>_}
+use Rattle.reading.specs.Refusals.{refusal, Reached}
+use Rattle.steps.specs.declared.Step.{Step}
+use Rattle.steps.specs.declared.Step.the-variants.{Swap, Reverse, Lean, Strip}
+use Rattle.steps.specs.declared.StepRead.{StepRead}
+use Rattle.steps.specs.declared.StepRead.the-variants as StepRead
+use Rattle.steps.specs.declared.Direction.{Direction}
+use Rattle.steps.specs.declared.Direction.the-variants as Direction
+
+abbrev pub stepOf : Step → Model.Step
+stepOf (Swap e) = Model.exchange (e .outer)
+stepOf (Reverse e) = Model.reversal (e .target)
+stepOf (Lean e) = Model.skew (e .outer) (e .distance) (e .forward)
+stepOf (Strip e) = Model.section (e .target) (e .width)
+
+-- ---- one step, of three words after its kind
+
+abbrev pub stepAnswer : ℕ → StepRead → Answer (Read Model.Step)
+stepAnswer k (StepRead.Taken x) = accepted (record { value = stepOf x; next = k + 3 })
+stepAnswer k (StepRead.Refused r) = refusal r
+
+abbrev pub OnStep : List ℕ → ℕ → StepRead → Type 0
+OnStep b k (StepRead.Taken x) = Reached b (k + 3)
+OnStep b k (StepRead.Refused r) = Unit {0}
+
+-- m is the model's answer; k is the word after the kind
+pub record ReadsStep (m : Answer (Read Model.Step)) (b : List ℕ) (k : ℕ) (r : StepRead) : Type 0 where
+  pub same : stepAnswer k r ≡ m
+  pub known : OnStep b k r
+
+-- the last loop that an exchange with loop a may name
+abbrev pub nextLoop : ℕ → ℕ → ℕ
+nextLoop a m = cond (ltb a m) (a + 1) a
+
+-- the last loop that a section may name
+abbrev pub sectionable : ℕ → ℕ
+sectionable m = cond (ltb m 6) m 0
+
+-- the word c of a skew: by 1 (true) or by −1
+unfoldable pub direction : Reader Bool
+direction = do
+  c ← Grammar.within (negsuc 0) (pos 1)
+  Grammar.must (not (eqZ c (pos 0))) 4
+  Grammar.done (eqZ c (pos 1))
+
+abbrev pub directionAnswer : ℕ → Direction → Answer (Read Bool)
+directionAnswer k Direction.Forward = accepted (record { value = true; next = k + 1 })
+directionAnswer k Direction.Backward = accepted (record { value = false; next = k + 1 })
+directionAnswer k (Direction.Refused r) = refusal r
+
+abbrev pub OnDirection : List ℕ → ℕ → Direction → Type 0
+OnDirection b k Direction.Forward = Reached b (k + 1)
+OnDirection b k Direction.Backward = Reached b (k + 1)
+OnDirection b k (Direction.Refused r) = Unit {0}
+
+pub record ReadsDirection (b : List ℕ) (k : ℕ) (r : Direction) : Type 0 where
+  pub same : directionAnswer k r ≡ direction b k
+  pub known : OnDirection b k r
+
+-- the kind and what follows it
+unfoldable pub oneStep : ℕ → ℕ → Reader Model.Step
+oneStep k m = do
+  kind ← Grammar.natural 1 4
+  Grammar.stepOf kind k m
