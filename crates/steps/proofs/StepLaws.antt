@@ -1,10 +1,13 @@
 -- The steps' words: the tests of loop numbers as ranges, and each step from its words.
 use mathlib.Core.Path.{_≡_, refl, sym, ap, _∙_, subst}
 use mathlib.Core.Bool.{Bool, true, false, cond, _&&_, not}
-use mathlib.Core.List.{List}
+use mathlib.Core.List.{List, [], _∷_, _++_, append-nil}
 use Prim.Native.Nat.{ℕ, zero, suc, _+_, _-_, _<_, _≤_}
 use native.Mathlib.Omega.{arith}
 use native.Mathlib.Numerals.{add-one}
+use native.Mathlib.Nat.{sub-zero}
+use lib.ListN.{length, take, set}
+use lib.Seq.{take-suc-set, length-take-le}
 use borrow.Author.Tests.{lt-ltb, le-ltb, le-leb, lt-leb, eq-eqb, leb-true, ltb-true, ltb-false, eqb-true}
 use lib.Dec.{T, leb, ltb, eqb}
 use lib.IntN.{ℤ, pos, negsuc, natAbs}
@@ -14,9 +17,10 @@ use Rattle.integers.specs.Sign.{eqZ}
 use Rattle.model.specs.Answer as Answer
 use Rattle.model.specs.Answer.{Answer, accepted, refused, require}
 use Rattle.model.specs.Ticket as Model
-use Rattle.model.specs.Grammar.{Read, Reader, _>>=_, _>>_, done, must, mustAt, between, within, natural, number, loopNumber, exchangeStep, reversalStep, skewStep, sectionStep, stepOf}
-use Rattle.reading.proofs.ReaderLaws.{after-value, after-refusal}
-use Rattle.steps.specs.Steps.{nextLoop, sectionable, direction, oneStep}
+use Rattle.model.specs.Grammar.{Read, Reader, _>>=_, _>>_, done, must, mustAt, between, within, natural, number, loopNumber, exchangeStep, reversalStep, skewStep, sectionStep, stepOf, depthAfter, stepsFrom}
+use Rattle.reading.proofs.ReaderLaws.{after-value, after-refusal, regrouped, before, before-none, before-one}
+use Rattle.steps.specs.Steps.{nextLoop, sectionable, direction, oneStep, NumberedFrom}
+use Rattle.steps.specs.declared.Numbered.{Numbered}
 
 -- ---- tests of loop numbers
 
@@ -177,3 +181,44 @@ module _ (step m : ℕ) (b : List ℕ) (k a : ℕ) (low : 1 ≤ a) (high : a ≤
 pub skew-no-outer : (step m : ℕ) (b : List ℕ) (k q p : ℕ) → loopNumber step (between (pos 1) (pos m)) b k ≡ refused q p → skewStep step m b k ≡ refused q p
 unfolding skewStep
 skew-no-outer step m b k q p e = after-refusal (loopNumber step (between (pos 1) (pos m))) _ b k q p e
+
+-- ---- the section, one step after another
+
+numbered-more : (k : ℕ) (xs : List Numbered) (x : Numbered) → x .number ≡ k + length xs → NumberedFrom k xs → NumberedFrom k (xs ++ (x ∷ []))
+numbered-more k [] x e h = (omega arith, tt)
+numbered-more k (y ∷ xs) x e h = (h .0, numbered-more (suc k) xs x (omega arith) (h .1))
+
+pub numbered-next : (l : List Numbered) (i : ℕ) (x : Numbered) → i < length l → x .number ≡ i + 1 → NumberedFrom 1 (take i l) → NumberedFrom 1 (take (i + 1) (set l i x))
+numbered-next l i x h e n =
+    let s = length-take-le i l (omega arith) in
+    let z : take i l ++ (x ∷ []) ≡ take (i + 1) (set l i x) = sym (ap (λ m. take m (set l i x)) (add-one i) ∙ take-suc-set l i x h) in
+    subst (NumberedFrom 1) z (numbered-more 1 (take i l) x (omega arith) n)
+
+one-step : (k m n : ℕ) (b : List ℕ) (j : ℕ) → stepsFrom k m (suc n) b j ≡ (oneStep k m >>= (λ t. stepsFrom (suc k) (depthAfter t m) n >>= (λ rest. done (t ∷ rest)))) b j
+unfolding stepsFrom oneStep
+one-step k m n b j = regrouped (natural 1 4) (λ kind. stepOf kind k m) _ b j
+
+module _ (b : List ℕ) (n i m j : ℕ) (vs : List Model.Step) where
+  left : i < n → n - i ≡ suc (n - (i + 1))
+  left h = omega arith
+
+  pub steps-more : (t : Model.Step) (d next : ℕ) → i < n → d ≡ depthAfter t m → oneStep (i + 1) m b j ≡ accepted (record { value = t; next = next })
+      → before vs (stepsFrom (i + 1) m (n - i) b j) ≡ before (vs ++ (t ∷ [])) (stepsFrom (i + 1 + 1) d (n - (i + 1)) b next)
+  steps-more t d next h s e =
+      rw (left h) (ap (before vs) (one-step (i + 1) m (n - (i + 1)) b j ∙ after-value (oneStep (i + 1) m) _ b j t next e ∙ rest)
+      ∙ before-one vs t (stepsFrom (i + 1 + 1) d (n - (i + 1)) b next))
+    where
+      rest : (stepsFrom (suc (i + 1)) (depthAfter t m) (n - (i + 1)) >>= (λ r. done (t ∷ r))) b next
+          ≡ Answer._>>=_ (stepsFrom (i + 1 + 1) d (n - (i + 1)) b next) (λ r. accepted (record { value = t ∷ r .value; next = r .next }))
+      rest = unfold _>>=_ done in rw (s, add-one (i + 1)) refl
+
+  pub steps-no : (q p : ℕ) → i < n → oneStep (i + 1) m b j ≡ refused q p → before vs (stepsFrom (i + 1) m (n - i) b j) ≡ refused q p
+  unfolding before Answer._>>=_
+  steps-no q p h e = rw (left h) (ap (before vs) (one-step (i + 1) m (n - (i + 1)) b j ∙ after-refusal (oneStep (i + 1) m) _ b j q p e))
+
+  pub steps-done : n ≤ i → before vs (stepsFrom (i + 1) m (n - i) b j) ≡ accepted (record { value = vs; next = j })
+  unfolding stepsFrom before Answer._>>=_ done
+  steps-done h = let z : n - i ≡ 0 = omega arith in rw z (ap (λ l. accepted (record { value = l; next = j })) (append-nil vs))
+
+pub steps-start : (b : List ℕ) (n m j : ℕ) → stepsFrom 1 m n b j ≡ before [] (stepsFrom (0 + 1) m (n - 0) b j)
+steps-start b n m j = rw (sub-zero n) (sym (before-none _))

@@ -3,9 +3,11 @@ ghost use mathlib.Core.Path.{_≡_};
 ghost use Prim.Native.Nat.{_+_, _≤_};
 ghost use Rattle.model.specs.Grammar as Grammar;
 ghost use Rattle.reading.specs.Refusals.{Reached};
-ghost use Rattle.steps.specs.Steps.{ReadsStep, ReadsDirection, nextLoop, sectionable, oneStep};
+ghost use Rattle.steps.specs.Steps.{ReadsStep, ReadsDirection, ReadsSteps, StepsIn, nextLoop, sectionable, oneStep, stepOf};
+ghost use Rattle.reading.specs.declared.Status.the-variants.{Refused};
+ghost use lib.ListN.{length};
 
-use reading::{Bits, Natural, Refusal};
+use reading::{Bits, Natural, Refusal, Status};
 
 // Loops are counted from 0.
 pub struct Exchange {
@@ -54,7 +56,7 @@ pub enum StepRead {
 // Each step is read after its kind: number is the step's, depth that of the nest when it is reached.
 pub fn read_exchange(s: &[u8], at: usize, number: usize, depth: usize) -> StepRead
     requires { ⌜ Reached (now s) at × (depth ≤ 6) ⌝ }
-    ensures { λ r. ⌜ ReadsStep (Grammar.exchangeStep number depth (now (s .entry)) at) (now (s .entry)) at r ⌝ }
+    ensures { λ r. ⌜ ReadsStep (Grammar.exchangeStep number depth (now (s .entry)) at) (now (s .entry)) at depth r ⌝ }
 {
     let a = match reading::read_loop_number(s, at, number, 1, depth) {
         Natural::Value(v) => v,
@@ -80,7 +82,7 @@ fn inner_most(a: usize, depth: usize) -> usize
 
 pub fn read_reversal(s: &[u8], at: usize, number: usize, depth: usize) -> StepRead
     requires { ⌜ Reached (now s) at × (depth ≤ 6) ⌝ }
-    ensures { λ r. ⌜ ReadsStep (Grammar.reversalStep number depth (now (s .entry)) at) (now (s .entry)) at r ⌝ }
+    ensures { λ r. ⌜ ReadsStep (Grammar.reversalStep number depth (now (s .entry)) at) (now (s .entry)) at depth r ⌝ }
 {
     let a = match reading::read_loop_number(s, at, number, 1, depth) {
         Natural::Value(v) => v,
@@ -123,7 +125,7 @@ pub fn read_direction(s: &[u8], at: usize) -> Direction
 
 pub fn read_skew(s: &[u8], at: usize, number: usize, depth: usize) -> StepRead
     requires { ⌜ Reached (now s) at × (depth ≤ 6) ⌝ }
-    ensures { λ r. ⌜ ReadsStep (Grammar.skewStep number depth (now (s .entry)) at) (now (s .entry)) at r ⌝ }
+    ensures { λ r. ⌜ ReadsStep (Grammar.skewStep number depth (now (s .entry)) at) (now (s .entry)) at depth r ⌝ }
 {
     let a = match reading::read_loop_number(s, at, number, 1, depth) {
         Natural::Value(v) => v,
@@ -158,7 +160,7 @@ fn sectioned_most(depth: usize) -> usize
 
 pub fn read_section(s: &[u8], at: usize, number: usize, depth: usize) -> StepRead
     requires { ⌜ Reached (now s) at × (depth ≤ 6) ⌝ }
-    ensures { λ r. ⌜ ReadsStep (Grammar.sectionStep number depth (now (s .entry)) at) (now (s .entry)) at r ⌝ }
+    ensures { λ r. ⌜ ReadsStep (Grammar.sectionStep number depth (now (s .entry)) at) (now (s .entry)) at depth r ⌝ }
 {
     let a = match reading::read_loop_number(s, at, number, 1, sectioned_most(depth)) {
         Natural::Value(v) => v,
@@ -179,7 +181,7 @@ pub fn read_section(s: &[u8], at: usize, number: usize, depth: usize) -> StepRea
 
 pub fn read_step(s: &[u8], at: usize, number: usize, depth: usize) -> StepRead
     requires { ⌜ Reached (now s) at × (depth ≤ 6) ⌝ }
-    ensures { λ r. ⌜ ReadsStep (oneStep number depth (now (s .entry)) at) (now (s .entry)) (at + 1) r ⌝ }
+    ensures { λ r. ⌜ ReadsStep (oneStep number depth (now (s .entry)) at) (now (s .entry)) (at + 1) depth r ⌝ }
 {
     let kind = match reading::read_natural(s, at, 1, 4) {
         Natural::Value(v) => v,
@@ -190,5 +192,85 @@ pub fn read_step(s: &[u8], at: usize, number: usize, depth: usize) -> StepRead
         2 => read_reversal(s, at + 1, number, depth),
         3 => read_skew(s, at + 1, number, depth),
         _ => read_section(s, at + 1, number, depth),
+    }
+}
+
+pub struct StepsRead {
+    pub status: Status,
+    pub steps: Steps,
+    pub next: usize,
+}
+
+// The number of loops after a step.
+fn depth_after(step: Step, depth: usize) -> usize
+    requires { ⌜ depth ≤ 6 ⌝ }
+    ensures { λ r. ⌜ r ≡ Grammar.depthAfter (stepOf step) depth ⌝ }
+{
+    match step {
+        Step::Swap(_) => depth,
+        Step::Reverse(_) => depth,
+        Step::Lean(_) => depth,
+        Step::Strip(_) => depth + 1,
+    }
+}
+
+fn blank_steps() -> [Numbered; 8]
+    ensures { λ r. ⌜ length r ≡ 8 ⌝ }
+{
+    let blank = Numbered {
+        number: 0,
+        step: Step::Reverse(Reversal { target: 0 }),
+    };
+    [blank; 8]
+}
+
+fn no_steps(r: Refusal, at: usize) -> StepsRead
+    ensures { λ q. ⌜ (q .status ≡ Refused r) × (q .next ≡ at) × StepsIn (q .steps) ⌝ }
+{
+    let blank = blank_steps();
+    StepsRead {
+        status: Status::Refused(r),
+        steps: Steps {
+            count: 0,
+            steps: blank,
+        },
+        next: at,
+    }
+}
+
+// The section: a count from 0 to 8 and as many steps of a nest that has `depth` loops.
+pub fn read_steps(s: &[u8], at: usize, depth: usize) -> StepsRead
+    requires { ⌜ Reached (now s) at × (depth ≤ 6) ⌝ }
+    ensures { λ r. ⌜ ReadsSteps (now (s .entry)) at depth r ⌝ }
+{
+    let count = match reading::read_count(s, at, 0, 8) {
+        Natural::Value(v) => v,
+        Natural::Refused(r) => return no_steps(r, at),
+    };
+    let mut all = blank_steps();
+    let mut next = at + 1;
+    let mut loops = depth;
+    let mut k = 0;
+    while k < count {
+        match read_step(s, next, k + 1, loops) {
+            StepRead::Taken(step) => {
+                loops = depth_after(step, loops);
+                all[k] = Numbered {
+                    number: k + 1,
+                    step: step,
+                };
+                next += 4;
+                k += 1;
+            }
+            StepRead::Refused(r) => return no_steps(r, at),
+        }
+    }
+    StepsRead {
+        status: Status::Fine,
+        steps: Steps {
+            count: count,
+            steps: all,
+        },
+        next: next,
     }
 }

@@ -8,7 +8,7 @@ use lib.IntN.{pos}
 use Rattle.integers.specs.Sign.{eqZ}
 use Rattle.model.specs.Answer.{accepted, refused}
 use Rattle.model.specs.Ticket as Model
-use Rattle.model.specs.Grammar.{between, natural, loopNumber, exchangeStep}
+use Rattle.model.specs.Grammar.{between, natural, loopNumber, exchangeStep, depthAfter}
 use Rattle.reading.specs.Words.{naturalAnswer, OnNatural}
 use Rattle.reading.proofs.ReaderLaws.{seen, known-of}
 use Rattle.steps.specs.Steps.{nextLoop}
@@ -105,6 +105,7 @@ enum-known-r-3 : tie.Need-enum-known-r-3
 enum-known-r-3 c = search needs
 
 returns-3 : tie.Need-returns-3
+unfolding depthAfter
 returns-3 c =
     let e = seen (naturalAnswer _) (c .before .before .before .before .before .before .before .before .v .given .1) (c .before .before .before .before .before .before .before .before .before .before .read-loop-number .ensures .same) in
     let k = known-of (OnNatural _ _ _ _) (c .before .before .before .before .before .before .before .before .v .given .1) (c .before .before .before .before .before .before .before .before .before .before .read-loop-number .ensures .known) in
@@ -113,7 +114,7 @@ returns-3 c =
     let r = known-of (OnNatural _ _ _ _) (c .enum-told2 .given .1) (c .before .before .read-natural .ensures .known) .reached in
     record {
       same = sym (one-exchange _ _ _ _ _ _ (k .low) (k .high) (c .before .before .before .before .before .before .inner-most .ensures .0) e _ f _ g);
-      known = record { counted = omega arith; there = omega arith } }
+      known = record { reached = record { counted = omega arith; there = omega arith }; few = c .before .before .before .before .before .before .before .before .before .before .before .before .pre .1 } }
 
 returns-4 : tie.Need-returns-4
 returns-4 c =

@@ -6,7 +6,7 @@ use native.Mathlib.Omega.{arith}
 use lib.IntN.{pos}
 use Rattle.model.specs.Answer.{accepted, refused}
 use Rattle.model.specs.Ticket as Model
-use Rattle.model.specs.Grammar.{between, natural, loopNumber, reversalStep}
+use Rattle.model.specs.Grammar.{between, natural, loopNumber, reversalStep, depthAfter}
 use Rattle.reading.specs.Words.{naturalAnswer, OnNatural}
 use Rattle.reading.proofs.ReaderLaws.{seen, known-of}
 use Rattle.steps.proofs.StepLaws.{no-first, no-second, no-third, all-three}
@@ -85,12 +85,13 @@ enum-known-r-3 : tie.Need-enum-known-r-3
 enum-known-r-3 c = search needs
 
 returns-3 : tie.Need-returns-3
+unfolding depthAfter
 returns-3 c =
     let e = seen (naturalAnswer _) (c .before .before .before .before .before .before .before .v .given .1) (c .before .before .before .before .before .before .before .before .before .read-loop-number .ensures .same) in
     let f = seen (naturalAnswer _) (c .before .before .before .enum-told .given .1) (c .before .before .before .before .before .read-natural .ensures .same) in
     let g = seen (naturalAnswer _) (c .enum-told2 .given .1) (c .before .before .read-natural2 .ensures .same) in
     let r = known-of (OnNatural _ _ _ _) (c .enum-told2 .given .1) (c .before .before .read-natural2 .ensures .known) .reached in
-    record { same = sym (one-reversal _ _ _ _ _ e _ f _ g); known = record { counted = omega arith; there = omega arith } }
+    record { same = sym (one-reversal _ _ _ _ _ e _ f _ g); known = record { reached = record { counted = omega arith; there = omega arith }; few = c .before .before .before .before .before .before .before .before .before .before .before .pre .1 } }
 
 returns-4 : tie.Need-returns-4
 returns-4 c =

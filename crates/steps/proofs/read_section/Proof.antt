@@ -1,14 +1,15 @@
 -- `read_section`: the loop, the width, and 0.
-use mathlib.Core.Path.{_≡_, sym, ap, _∙_}
-use mathlib.Core.Bool.{_&&_}
+use mathlib.Core.Path.{_≡_, refl, sym, ap, _∙_}
+use mathlib.Core.Bool.{Bool, true, false, cond, _&&_}
 use mathlib.Core.List.{List}
-use Prim.Native.Nat.{ℕ, _+_, _-_}
+use Prim.Native.Nat.{ℕ, suc, _+_, _-_, _≤_}
 use native.Mathlib.Omega.{arith}
+use borrow.Author.Tests.{ltb-true}
 use lib.Dec.{ltb}
 use lib.IntN.{pos}
 use Rattle.model.specs.Answer.{accepted, refused}
 use Rattle.model.specs.Ticket as Model
-use Rattle.model.specs.Grammar.{between, natural, loopNumber, sectionStep}
+use Rattle.model.specs.Grammar.{between, natural, loopNumber, sectionStep, depthAfter}
 use Rattle.reading.specs.Words.{naturalAnswer, OnNatural}
 use Rattle.reading.proofs.ReaderLaws.{seen, known-of}
 use Rattle.steps.specs.Steps.{sectionable}
@@ -16,6 +17,11 @@ use Rattle.steps.proofs.StepLaws.{section-test, same-test, no-first, no
 use borrow.Author.Needs.{needs}
 use Rattle.steps.proofs.read_section.Statement.{statement}
 use Rattle.steps.proofs.read_section.Tie as tie
+
+-- a loop that may be sectioned leaves room for one more
+room : (m : ℕ) (t : Bool) → ltb m 6 ≡ t → 1 ≤ cond t m 0 → suc m ≤ 6
+room m true e h = ltb-true m 6 e
+room m false e h = absurd (omega arith)
 
 -- hi is the last loop that a may name
 module _ (step m hi : ℕ) (s : hi ≡ sectionable m) (b : List ℕ) (k : ℕ) where
@@ -99,12 +105,14 @@ enum-known-r-3 : tie.Need-enum-known-r-3
 enum-known-r-3 c = search needs
 
 returns-3 : tie.Need-returns-3
+unfolding depthAfter
 returns-3 c =
     let e = seen (naturalAnswer _) (c .before .before .before .before .before .before .before .before .v .given .1) (c .before .before .before .before .before .before .before .before .before .before .read-loop-number .ensures .same) in
     let f = seen (naturalAnswer _) (c .before .before .before .before .v2 .given .1) (c .before .before .before .before .before .before .read-natural .ensures .same) in
     let g = seen (naturalAnswer _) (c .enum-told .given .1) (c .before .before .read-natural2 .ensures .same) in
     let r = known-of (OnNatural _ _ _ _) (c .enum-told .given .1) (c .before .before .read-natural2 .ensures .known) .reached in
-    record { same = sym (one-section _ _ _ (c .before .before .before .before .before .before .before .before .before .before .before .sectioned-most .ensures .0) _ _ _ e _ f _ g); known = record { counted = omega arith; there = omega arith } }
+    let k = known-of (OnNatural _ _ _ _) (c .before .before .before .before .before .before .before .before .v .given .1) (c .before .before .before .before .before .before .before .before .before .before .read-loop-number .ensures .known) in
+    record { same = sym (one-section _ _ _ (c .before .before .before .before .before .before .before .before .before .before .before .sectioned-most .ensures .0) _ _ _ e _ f _ g); known = record { reached = record { counted = omega arith; there = omega arith }; few = room (c .before .before .before .before .before .before .before .before .before .before .before .before .before .args .depth) (ltb (c .before .before .before .before .before .before .before .before .before .before .before .before .before .args .depth) 6) refl (omega (arith, c .before .before .before .before .before .before .before .before .before .before .before .sectioned-most .ensures .0)) } }
 
 returns-4 : tie.Need-returns-4
 returns-4 c =

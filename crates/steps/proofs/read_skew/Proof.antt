@@ -1,6 +1,7 @@
 -- `read_skew`: the outer loop, a loop inside it, and a direction.
 use mathlib.Core.Path.{sym}
 use native.Mathlib.Omega.{arith}
+use Rattle.model.specs.Grammar.{depthAfter}
 use Rattle.reading.specs.Words.{naturalAnswer, OnNatural}
 use Rattle.reading.proofs.ReaderLaws.{seen, known-of}
 use Rattle.steps.specs.Steps.{directionAnswer, OnDirection}
@@ -82,22 +83,24 @@ enum-known-r-3 : tie.Need-enum-known-r-3
 enum-known-r-3 c = search needs
 
 returns-3 : tie.Need-returns-3
+unfolding depthAfter
 returns-3 c =
     let e = seen (naturalAnswer _) (c .before .before .before .before .before .before .before .before .v .given .1) (c .before .before .before .before .before .before .before .before .before .before .read-loop-number .ensures .same) in
     let k = known-of (OnNatural _ _ _ _) (c .before .before .before .before .before .before .before .before .v .given .1) (c .before .before .before .before .before .before .before .before .before .before .read-loop-number .ensures .known) in
     let f = seen (naturalAnswer _) (c .before .before .before .before .v2 .given .1) (c .before .before .before .before .before .before .read-loop-number2 .ensures .same) in
     let g = seen (directionAnswer _) (c .enum-told .given .1) (c .before .before .read-direction .ensures .same) in
     let r = known-of (OnDirection _ _) (c .enum-told .given .1) (c .before .before .read-direction .ensures .known) in
-    record { same = sym (one-skew _ _ _ _ _ (k .low) (k .high) e _ f _ g); known = record { counted = omega arith; there = omega arith } }
+    record { same = sym (one-skew _ _ _ _ _ (k .low) (k .high) e _ f _ g); known = record { reached = record { counted = omega arith; there = omega arith }; few = c .before .before .before .before .before .before .before .before .before .before .before .before .pre .1 } }
 
 returns-4 : tie.Need-returns-4
+unfolding depthAfter
 returns-4 c =
     let e = seen (naturalAnswer _) (c .before .before .before .before .before .before .before .before .v .given .1) (c .before .before .before .before .before .before .before .before .before .before .read-loop-number .ensures .same) in
     let k = known-of (OnNatural _ _ _ _) (c .before .before .before .before .before .before .before .before .v .given .1) (c .before .before .before .before .before .before .before .before .before .before .read-loop-number .ensures .known) in
     let f = seen (naturalAnswer _) (c .before .before .before .before .v2 .given .1) (c .before .before .before .before .before .before .read-loop-number2 .ensures .same) in
     let g = seen (directionAnswer _) (c .enum-told2 .given .1) (c .before .before .read-direction .ensures .same) in
     let r = known-of (OnDirection _ _) (c .enum-told2 .given .1) (c .before .before .read-direction .ensures .known) in
-    record { same = sym (one-skew _ _ _ _ _ (k .low) (k .high) e _ f _ g); known = record { counted = omega arith; there = omega arith } }
+    record { same = sym (one-skew _ _ _ _ _ (k .low) (k .high) e _ f _ g); known = record { reached = record { counted = omega arith; there = omega arith }; few = c .before .before .before .before .before .before .before .before .before .before .before .before .pre .1 } }
 
 returns-5 : tie.Need-returns-5
 returns-5 c =

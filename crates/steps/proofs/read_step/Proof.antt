@@ -41,7 +41,7 @@ module _ (step m : ℕ) (b : List ℕ) (k : ℕ) where
     unfolding stepOf
     kind-4 x y z = of-kind ∙ rw (ne-eqb v 1 x, ne-eqb v 2 y, ne-eqb v 3 z)
 
-other-answer : {m n : Answer (Read Model.Step)} {b : List ℕ} {k : ℕ} {r : StepRead} → n ≡ m → ReadsStep m b k r → ReadsStep n b k r
+other-answer : {m n : Answer (Read Model.Step)} {b : List ℕ} {k d : ℕ} {r : StepRead} → n ≡ m → ReadsStep m b k d r → ReadsStep n b k d r
 other-answer e h = record { same = h .same ∙ sym e; known = h .known }
 
 read-natural-requires : tie.Need-read-natural-requires
