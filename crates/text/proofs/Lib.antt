@@ -3,3 +3,6 @@ pub mod ReadingLaws
 pub mod ByteLaws
 pub mod LoopLaws
 pub mod ConversionLaws
+pub mod NumberLaws
+pub mod RangeLaws
+pub mod Examples

@@ -1,5 +1,5 @@
 -- Laws of the reading: what a digit is, that the digits of a number under way never leave the range, and one byte more.
-use mathlib.Core.Path.{_≡_, refl}
+use mathlib.Core.Path.{_≡_, refl, subst}
 use mathlib.Core.Bool.{Bool, true, false, cond, _&&_}
 use mathlib.Core.List.{List, _++_}
 use Prim.Native.Nat.{ℕ, zero, suc, _+_, _*_, _-_, _≤_}
@@ -28,15 +28,20 @@ digit-from b e = leb-true 48 b (both (leb 48 b) (leb b 57) e)
 
 longer-sound : (w : Number) (b : ℕ) → Sound (longer w b)
 unfolding longer
-longer-sound w b = cond-cases Sound (leb v (largest (w .negative))) (Digits (record { from = w .from; negative = w .negative; value = v })) (Wrong (w .from))
-    (λ h. in-range (w .negative) (leb-true v (largest (w .negative)) h)) (λ h. tt)
+longer-sound w b =
+    cond-cases Sound (leb v (largest (w .negative))) (Digits (record { from = w .from; negative = w .negative; value = v })) (Wrong (w .from))
+    (λ h. leb-true v (largest (w .negative)) h) (λ h. tt)
   where
     v : ℕ
     v = w .value * 10 + (b - 48)
 
-    in-range : (n : Bool) → v ≤ largest n → v ≤ 32768
-    in-range true h = unfold largest in h
-    in-range false h = unfold largest in omega arith
+-- whatever the sign
+pub sound-small : {m : Mode} {w : Number} → m ≡ Digits w → Sound m → w .value ≤ 32768
+sound-small {m} {w} e s = small (w .negative) (w .value) (subst Sound e s)
+  where
+    small : (s : Bool) (v : ℕ) → v ≤ largest s → v ≤ 32768
+    small true v h = unfold largest in h
+    small false v h = unfold largest in omega arith
 
 begin-sound : (n b : ℕ) → Sound (begin n b)
 unfolding begin

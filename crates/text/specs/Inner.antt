@@ -10,13 +10,13 @@ use Rattle.text.specs.declared.Surveyed.{Surveyed}
 use Rattle.text.specs.declared.Surveyed.the-variants as S
 use Rattle.text.specs.declared.Ended.{Ended}
 use Rattle.text.specs.declared.Ended.the-variants as E
-use Rattle.text.specs.Reading.{modeAfter, wordsAfter}
+use Rattle.text.specs.Reading.{largest, modeAfter, wordsAfter}
 
 -- ---- reading
 
--- the digits read so far are within the range
+-- the digits read so far are within the range of their sign
 abbrev pub Sound : Mode → Type 0
-Sound (Digits w) = w .value ≤ 32768
+Sound (Digits w) = w .value ≤ largest (w .negative)
 Sound Between = Unit {0}
 Sound Comment = Unit {0}
 Sound (Sign from) = Unit {0}

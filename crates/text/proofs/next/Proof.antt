@@ -1,10 +1,10 @@
 -- `next`: one byte more, by how the reading stands.
-use mathlib.Core.Path.{sym, _∙_, subst}
+use mathlib.Core.Path.{sym, _∙_}
 use native.Mathlib.Omega.{arith}
 use borrow.Author.Tests.{eq-eqb, ne-eqb}
 use borrow.Author.Needs.{needs}
 use Rattle.text.specs.Reading.{next}
-use Rattle.text.specs.Inner.{Sound}
+use Rattle.text.proofs.ReadingLaws.{sound-small}
 use Rattle.text.proofs.next.Statement.{statement}
 use Rattle.text.proofs.next.Tie as tie
 
@@ -36,7 +36,7 @@ is-digit-requires-2 : tie.Need-is-digit-requires-2
 is-digit-requires-2 c κs = search needs
 
 longer-requires-2 : tie.Need-longer-requires-2
-longer-requires-2 c κs = (subst Sound (c .before .before .before .m2 .given .1) (c .before .before .before .before .before .pre), sym (c .before .is-digit2 .ensures) ∙ c .if3 .taken)
+longer-requires-2 c κs = (sound-small (c .before .before .before .m2 .given .1) (c .before .before .before .before .before .pre), sym (c .before .is-digit2 .ensures) ∙ c .if3 .taken)
 
 gap-requires-2 : tie.Need-gap-requires-2
 gap-requires-2 c κs = search needs

@@ -1,8 +1,9 @@
 -- `word_before`: the word that ends before a byte, if a number stands there.
-use mathlib.Core.Path.{sym, _∙_, subst}
+use mathlib.Core.Path.{sym, _∙_}
 use borrow.Author.Needs.{needs}
 use Rattle.text.specs.Reading.{ended}
-use Rattle.text.specs.Inner.{Sound, endedOf}
+use Rattle.text.specs.Inner.{endedOf}
+use Rattle.text.proofs.ReadingLaws.{sound-small}
 use Rattle.text.proofs.ByteLaws.{ended-word, ended-none}
 use Rattle.text.proofs.word_before.Statement.{statement}
 use Rattle.text.proofs.word_before.Tie as tie
@@ -14,7 +15,7 @@ is-part-requires : tie.Need-is-part-requires
 is-part-requires c κs = search needs
 
 bits-requires : tie.Need-bits-requires
-bits-requires c κs = subst Sound (c .before .before .before .m .given .1) (c .before .before .before .before .before .pre)
+bits-requires c κs = sound-small (c .before .before .before .m .given .1) (c .before .before .before .before .before .pre)
 
 enum-told : tie.Need-enum-told
 enum-told c = search needs
