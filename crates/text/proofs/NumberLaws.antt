@@ -1,7 +1,7 @@
 -- Digits are read as the decimal number that they write: as long as it is within the range of its sign, the reading stands at that
 -- number, and from then on the word is wrong. So a word is refused for its digits exactly where its number is out of range.
 use mathlib.Core.Path.{_≡_, refl, ap, _∙_}
-use mathlib.Core.Bool.{Bool, true, false, cond}
+use mathlib.Core.Bool.{Bool, true, cond}
 use mathlib.Core.List.{List}
 use Prim.Native.Nat.{ℕ, zero, suc, _+_, _*_, _-_, _<_}
 use native.Mathlib.Nat.{add-zero, add-suc}
@@ -30,6 +30,7 @@ digit-read n from s v b h =
   where
     within : digit b ≡ true → next n (Digits (record { from = from; negative = s; value = v })) b ≡ number from s (v * 10 + (b - 48))
     within h = unfold next longer number in rw h
+
     beyond : largest s < v → next n (Wrong from) b ≡ number from s (v * 10 + (b - 48))
     beyond l = unfold next number in rw (lt-leb (v * 10 + (b - 48)) (largest s) (omega arith))
 

@@ -241,8 +241,10 @@ fn put_word(out: &mut [u8], at: usize, w: Ended) -> usize
     match w {
         Ended::Nothing => at,
         Ended::Word(v) => {
-            out[at] = (v % 256) as u8;
-            out[at + 1] = (v / 256) as u8;
+            let low = (v % 256) as u8;
+            let high = (v / 256) as u8;
+            out[at] = low;
+            out[at + 1] = high;
             at + 2
         }
     }

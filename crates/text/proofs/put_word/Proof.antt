@@ -12,14 +12,14 @@ enum-told c = search needs
 enum-known-w : tie.Need-enum-known-w
 enum-known-w c = search needs
 
-cast-out : tie.Need-cast-out
-cast-out c = search needs
+cast-low : tie.Need-cast-low
+cast-low c = search needs
+
+cast-high : tie.Need-cast-high
+cast-high c = omega (arith, word-short (c .before .w .given .1) (c .before .before .before .pre .1))
 
 slice-write-out : tie.Need-slice-write-out
 slice-write-out c = omega (arith, word-length (c .before .w .given .1))
-
-cast-out-2 : tie.Need-cast-out-2
-cast-out-2 c = omega (arith, word-short (c .before .w .given .1) (c .before .before .before .pre .1))
 
 add-out : tie.Need-add-out
 add-out c = search needs
@@ -45,9 +45,9 @@ put-word-spec =
     (tie.spec
     enum-told
     enum-known-w
-    cast-out
+    cast-low
+    cast-high
     slice-write-out
-    cast-out-2
     add-out
     slice-write-out-2
     add-result
