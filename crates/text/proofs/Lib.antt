@@ -1,4 +1,4 @@
--- Laws of the reading and of the bytes, for the functions of `src/`.
+-- Laws of the reading and of the bytes. `NumberLaws` and `RangeLaws` say what the definition means; `Examples` has texts.
 pub mod ReadingLaws
 pub mod ByteLaws
 pub mod LoopLaws

@@ -1,5 +1,5 @@
 -- The conversion of a text into a ticket's bytes, in a buffer that is lent: each word as two bytes, little-endian two's complement, as the
--- model has them. Nothing is written where the text is wrong, or where the buffer is too small.
+-- model has them; −32768, which no valid ticket has, is 0x00 0x80 (`RangeLaws.least-word`). Nothing is written where the text is wrong, or where the buffer is too small.
 use mathlib.Core.Bool.{cond}
 use mathlib.Core.List.{List}
 use Prim.Native.Nat.{ℕ}
