@@ -1,5 +1,5 @@
 -- A statement, from its parts.
-use mathlib.Core.Path.{_≡_, refl, ap, _∙_, subst}
+use mathlib.Core.Path.{_≡_, ap, _∙_, subst}
 use mathlib.Core.Bool.{cond}
 use mathlib.Core.List.{List, map}
 use Prim.Native.Nat.{ℕ, _+_}
@@ -58,4 +58,4 @@ module _ (n : ℕ) (as′ : List (List ℕ)) (b : List ℕ) (k : ℕ) where
             ∙ after-value (access n as′) _ b (k + 2) (accessOf n w) j g
             ∙ regrouped (count (cond (eqb v 3) 1 0) 4) (λ i. times i (access n as′)) _ b j
             ∙ after-value (count (cond (eqb v 3) 1 0) 4 >>= (λ i. times i (access n as′))) _ b j (map (accessOf n) (take r l)) i
-                (subst (λ x. accesses x n as′ b j ≡ accepted (record { value = map (accessOf n) (take r l); next = i })) t h)
+            (subst (λ x. accesses x n as′ b j ≡ accepted (record { value = map (accessOf n) (take r l); next = i })) t h)

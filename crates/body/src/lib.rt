@@ -9,8 +9,10 @@ ghost use Rattle.reading.specs.declared.Status.the-variants.{Refused};
 ghost use Rattle.model.specs.Grammar.{extents};
 ghost use Rattle.body.specs.Arrays.{arraysOf, ArraysIn, ReadsShape, ReadsArrays};
 ghost use Rattle.body.specs.Statements.{SubscriptIn, AccessIn, AccessesIn, StatementIn, BodyIn, ReadsSubscript, ReadsAccess, ReadsAccesses, ReadsStatement, ReadsBody};
-
-use reading::{Natural, Number, Refusal, Status};
+use reading::Natural;
+use reading::Number;
+use reading::Refusal;
+use reading::Status;
 
 // An array: its first `dimensions` extents.
 pub struct Shape {
@@ -347,7 +349,13 @@ fn none_read(r: Refusal, at: usize) -> AccessesRead
 }
 
 // A count from `least` to 4 and as many accesses.
-pub fn read_accesses(s: &[u8], at: usize, least: usize, depth: usize, arrays: Arrays) -> AccessesRead
+pub fn read_accesses(
+    s: &[u8],
+    at: usize,
+    least: usize,
+    depth: usize,
+    arrays: Arrays,
+) -> AccessesRead
     requires { ⌜ Reached (now s) at × (depth ≤ 6) × ArraysIn arrays ⌝ }
     ensures { λ r. ⌜ ReadsAccesses (now (s .entry)) at least depth arrays r ⌝ }
 {

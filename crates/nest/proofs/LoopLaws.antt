@@ -10,7 +10,7 @@ use lib.Seq.{take-suc-set, length-take-le}
 use Rattle.model.specs.Ticket as Model
 use Rattle.model.specs.Answer.{accepted, refused}
 use Rattle.model.specs.Grammar as Grammar
-use Rattle.model.specs.Grammar.{Read, loop}
+use Rattle.model.specs.Grammar.{loop}
 use Rattle.reading.proofs.ReaderLaws.{before, before-none, repeated, repeated-more, repeated-no, repeated-done}
 use Rattle.nest.specs.Nested.{loopOf, loopsFrom}
 use Rattle.nest.specs.declared.Loop.{Loop}
@@ -42,7 +42,7 @@ repeats m k (suc n) = rw (repeats m (suc k) n)
 module _ (m : ℕ) (b : List ℕ) (n i k : ℕ) (l : List Loop) where
   pub loops-more : (a : Loop) (j : ℕ) → i < n → i < length l → loop m i b k ≡ accepted (record { value = loopOf i a; next = j })
       → before (loopsFrom 0 (take i l)) (Grammar.loopsFrom m i (n - i) b k)
-          ≡ before (loopsFrom 0 (take (i + 1) (set l i a))) (Grammar.loopsFrom m (i + 1) (n - (i + 1)) b j)
+      ≡ before (loopsFrom 0 (take (i + 1) (set l i a))) (Grammar.loopsFrom m (i + 1) (n - (i + 1)) b j)
   loops-more a j h p e =
       let t = repeated-more (loop m) (λ k a. suc k) b n i k i (loopsFrom 0 (take i l)) (loopOf i a) j h e in
       rw (repeats m i (n - i), repeats m (i + 1) (n - (i + 1)), ← loops-next l i a p, add-one) (rw add-one at t)

@@ -5,8 +5,10 @@ ghost use lib.ListN.{length};
 ghost use Rattle.reading.specs.Refusals.{Reached};
 ghost use Rattle.reading.specs.declared.Status.the-variants.{Refused};
 ghost use Rattle.nest.specs.Nested.{LimitIn, SideIn, LoopIn, NestIn, ReadsLimit, ReadsSide, ReadsLoop, ReadsNest};
-
-use reading::{Natural, Number, Refusal, Status};
+use reading::Natural;
+use reading::Number;
+use reading::Refusal;
+use reading::Status;
 
 // multiplier × index against constant + coefficients · indices of the loops outside.
 pub struct Limit {

@@ -1,20 +1,20 @@
 -- One word: when it is there, and how its 16 bits decide the ranges that the model states of its signed number.
-use mathlib.Core.Path.{_≡_, refl, sym, ap, _∙_, subst}
-use mathlib.Core.Bool.{Bool, true, false, cond, _&&_}
+use mathlib.Core.Path.{_≡_, refl, sym, ap, _∙_}
+use mathlib.Core.Bool.{Bool, true, false, _&&_}
 use mathlib.Core.List.{List, [], _∷_}
 use mathlib.Core.Logic.{_⊎_, inl, inr, ⊎-elim}
 use Prim.Native.Nat.{ℕ, suc, _+_, _-_, _*_, _<_, _≤_}
 use native.Mathlib.Omega.{arith}
 use native.Mathlib.Numerals.{add-one}
-use borrow.Author.Tests.{lt-ltb, le-ltb, le-leb, lt-leb, eq-eqb, ne-eqb, ltb-true, ltb-false}
-use lib.Dec.{leb, ltb, eqb}
+use borrow.Author.Tests.{lt-ltb, le-ltb, le-leb, lt-leb, ltb-true, ltb-false}
+use lib.Dec.{leb, ltb}
 use lib.IntN.{ℤ, pos, negsuc, natAbs}
 use lib.ListN.{length, getD, drop, length-drop}
-use lib.Seq.{drop-cons, drop-length}
+use lib.Seq.{drop-cons}
 use Rattle.model.specs.Answer as Answer
 use Rattle.model.specs.Answer.{Answer, accepted, refused, require}
 use Rattle.model.specs.Words.{signed, firstWord, wordAt}
-use Rattle.model.specs.Grammar.{Read, Reader, _>>=_, _>>_, done, word, must, mustAt, between, count, within, natural, number, loopNumber}
+use Rattle.model.specs.Grammar.{_>>=_, _>>_, done, word, must, mustAt, between, count, within, natural, number, loopNumber}
 
 -- ---- a word is there, or torn
 

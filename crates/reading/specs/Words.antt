@@ -1,7 +1,7 @@
 -- What reading a word gives: the model's answer, and on a value its range and that the word is there.
 use mathlib.Core.Path.{_≡_}
 use mathlib.Core.List.{List}
-use Prim.Native.Nat.{ℕ, _+_, _≤_, _<_}
+use Prim.Native.Nat.{ℕ, _+_, _≤_}
 use lib.IntN.{ℤ}
 use Rattle.model.specs.Answer.{Answer, accepted, refused}
 use Rattle.model.specs.Words.{signed, wordAt}

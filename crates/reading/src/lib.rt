@@ -115,11 +115,11 @@ pub fn read_loop_number(s: &[u8], at: usize, step: usize, lo: usize, hi: usize) 
     ensures { λ r. ⌜ ReadNatural (loopNumber step (between (pos lo) (pos hi)) (now (s .entry)) at) lo hi (now (s .entry)) at r ⌝ }
 {
     match bits_at(s, at) {
-        Bits::Value(v) => {
-            if v == 32768 {
+        Bits::Value(w) => {
+            if w == 32768 {
                 return Natural::Refused(Refusal::WordOutOfRange(at));
             }
-            let n = v as usize;
+            let n = w as usize;
             if n < lo {
                 return Natural::Refused(Refusal::LoopOutOfNest(step));
             }

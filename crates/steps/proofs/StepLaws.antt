@@ -8,7 +8,7 @@ use native.Mathlib.Numerals.{add-one}
 use native.Mathlib.Nat.{sub-zero}
 use lib.ListN.{length, take, set}
 use lib.Seq.{take-suc-set, length-take-le}
-use borrow.Author.Tests.{lt-ltb, le-ltb, le-leb, lt-leb, eq-eqb, leb-true, ltb-true, ltb-false, eqb-true}
+use borrow.Author.Tests.{lt-ltb, le-leb, lt-leb, eq-eqb, leb-true, ltb-true, eqb-true}
 use lib.Dec.{T, leb, ltb, eqb}
 use lib.IntN.{ℤ, pos, negsuc, natAbs}
 use lib.Signed.{ltZ}
@@ -17,7 +17,7 @@ use Rattle.integers.specs.Sign.{eqZ}
 use Rattle.model.specs.Answer as Answer
 use Rattle.model.specs.Answer.{Answer, accepted, refused, require}
 use Rattle.model.specs.Ticket as Model
-use Rattle.model.specs.Grammar.{Read, Reader, _>>=_, _>>_, done, must, mustAt, between, within, natural, number, loopNumber, exchangeStep, reversalStep, skewStep, sectionStep, stepOf, depthAfter, stepsFrom}
+use Rattle.model.specs.Grammar.{Read, Reader, _>>=_, _>>_, done, must, mustAt, between, within, natural, number, loopNumber, skewStep, stepOf, depthAfter, stepsFrom}
 use Rattle.reading.proofs.ReaderLaws.{after-value, after-refusal, regrouped, before, before-none, before-one}
 use Rattle.steps.specs.Steps.{nextLoop, sectionable, direction, oneStep, NumberedFrom}
 use Rattle.steps.specs.declared.Numbered.{Numbered}
@@ -165,7 +165,7 @@ module _ (step m : ℕ) (b : List ℕ) (k a : ℕ) (low : 1 ≤ a) (high : a ≤
         let z : k + 1 + 1 ≡ k + 2 = omega arith in
         after-value (loopNumber step (between (pos 1) (pos m))) _ b k a (k + 1) e
         ∙ after-value (loopNumber step (λ w. between (pos 1) (pos m) w && ltZ (pos a) w)) _ b (k + 1) c (k + 2)
-            (same-test step _ _ (skew-test a m low high) b (k + 1) ∙ f ∙ ap (λ j. accepted (record { value = c; next = j })) z)
+        (same-test step _ _ (skew-test a m low high) b (k + 1) ∙ f ∙ ap (λ j. accepted (record { value = c; next = j })) z)
         ∙ direction-last (λ t. Model.skew (a - 1) (c - a - 1) t) b (k + 2)
 
     pub skew-no-direction : (q p : ℕ) → direction b (k + 2) ≡ refused q p → skewStep step m b k ≡ refused q p

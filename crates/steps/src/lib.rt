@@ -6,8 +6,10 @@ ghost use Rattle.reading.specs.Refusals.{Reached};
 ghost use Rattle.steps.specs.Steps.{ReadsStep, ReadsDirection, ReadsSteps, StepsIn, nextLoop, sectionable, oneStep, stepOf};
 ghost use Rattle.reading.specs.declared.Status.the-variants.{Refused};
 ghost use lib.ListN.{length};
-
-use reading::{Bits, Natural, Refusal, Status};
+use reading::Bits;
+use reading::Natural;
+use reading::Refusal;
+use reading::Status;
 
 // Loops are counted from 0.
 pub struct Exchange {

@@ -1,11 +1,9 @@
 -- The four sections one after another, then the end: the model's ticket from what was read of each.
-use mathlib.Core.Path.{_≡_, refl, sym, ap, _∙_, subst}
-use mathlib.Core.Bool.{true, false}
+use mathlib.Core.Path.{_≡_, refl, sym, ap, _∙_}
 use mathlib.Core.List.{List, [], _∷_}
 use Prim.Native.Nat.{ℕ, suc, _-_, _*_, _<_, _≤_}
 use native.Mathlib.Omega.{arith}
 use borrow.Author.Tests.{le-leb, lt-leb}
-use lib.Dec.{leb}
 use lib.ListN.{length, take}
 use lib.Seq.{length-take-le}
 use Rattle.model.specs.Answer as Answer
@@ -13,8 +11,7 @@ use Rattle.model.specs.Answer.{Answer, accepted, refused, require}
 use Rattle.model.specs.Ticket as Model
 use Rattle.model.specs.Grammar as Grammar
 use Rattle.model.specs.Grammar.{Read, _>>=_, _>>_, done, mustAt, loops, arrays, statements, steps, nest, end, ticket, decode}
-use Rattle.reading.specs.Refusals.{answer, refusal}
-use Rattle.reading.specs.declared.Refusal.{Refusal}
+use Rattle.reading.specs.Refusals.{answer}
 use Rattle.reading.specs.declared.Status.{Status}
 use Rattle.reading.specs.declared.Status.the-variants as Status
 use Rattle.reading.proofs.ReaderLaws.{after-value, after-refusal}
@@ -102,15 +99,15 @@ made x l = record { nest = x; steps = l }
 module _ (b : List ℕ) where
   then-steps : (x : Model.Nest) (c : Answer (Read (List Model.Step)))
       → Answer._>>=_ c (λ u. (end >> done (made x (u .value))) b (u .next))
-          ≡ Answer._>>=_ (Answer._>>=_ c (λ u. done (made x (u .value)) b (u .next))) (λ t. (end >> done (t .value)) b (t .next))
+      ≡ Answer._>>=_ (Answer._>>=_ c (λ u. done (made x (u .value)) b (u .next))) (λ t. (end >> done (t .value)) b (t .next))
   unfolding Answer._>>=_ done
   then-steps x (accepted u) = refl
   then-steps x (refused q p) = refl
 
   then-nest : (a : Answer (Read Model.Nest))
       → Answer._>>=_ a (λ r. Answer._>>=_ (steps (length (r .value .loops)) b (r .next)) (λ u. (end >> done (made (r .value) (u .value))) b (u .next)))
-          ≡ Answer._>>=_ (Answer._>>=_ a (λ r. Answer._>>=_ (steps (length (r .value .loops)) b (r .next)) (λ u. done (made (r .value) (u .value)) b (u .next))))
-              (λ t. (end >> done (t .value)) b (t .next))
+      ≡ Answer._>>=_ (Answer._>>=_ a (λ r. Answer._>>=_ (steps (length (r .value .loops)) b (r .next)) (λ u. done (made (r .value) (u .value)) b (u .next))))
+      (λ t. (end >> done (t .value)) b (t .next))
   unfolding Answer._>>=_
   then-nest (accepted r) = then-steps (r .value) (steps (length (r .value .loops)) b (r .next))
   then-nest (refused q p) = refl

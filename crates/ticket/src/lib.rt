@@ -1,10 +1,11 @@
 // From any byte slice to a ticket, or the first refusal.
 ghost use mathlib.Core.Path.{_≡_};
 ghost use Rattle.ticket.specs.Ticket.{firstOf, ReadsTicket, Decodes};
-
-use body::{Arrays, Body};
+use body::Arrays;
+use body::Body;
 use nest::Nest;
-use reading::{Refusal, Status};
+use reading::Refusal;
+use reading::Status;
 use steps::Steps;
 
 pub struct Ticket {

@@ -33,7 +33,7 @@ abbrev μ-loop : tie.MeasureT-loop
 μ-loop s at depth number array dimensions subscripts₀ next₀ k₀ subscripts next k = dimensions - k
 
 read-natural-requires : tie.Need-read-natural-requires Inv-loop μ-loop
-read-natural-requires c κs =     let f = c .before .pre .2 .few in (c .before .pre .0, omega arith)
+read-natural-requires c κs = let f = c .before .pre .2 .few in (c .before .pre .0, omega arith)
 
 enum-known-v : tie.Need-enum-known-v Inv-loop μ-loop
 enum-known-v c = search needs
@@ -51,10 +51,10 @@ returns c =
     record { reads = refused-here _ (q .0) (q .1) (no-array _ _ (c .before .before .before .before .before .before .pre .2) _ _ _ _ e) (c .before .before .before .before .before .before .pre .0); within = q .2 }
 
 sub-array : tie.Need-sub-array Inv-loop μ-loop
-sub-array c =     let k = known-of (OnNatural _ _ _ _) (c .before .v .given .1) (c .before .before .before .read-natural .ensures .known) in omega arith
+sub-array c = let k = known-of (OnNatural _ _ _ _) (c .before .v .given .1) (c .before .before .before .read-natural .ensures .known) in omega arith
 
 dimensions-of-requires : tie.Need-dimensions-of-requires Inv-loop μ-loop
-dimensions-of-requires c κs =     let k = known-of (OnNatural _ _ _ _) (c .before .v .given .1) (c .before .before .before .read-natural .ensures .known) in (c .before .before .before .before .before .pre .2, omega arith)
+dimensions-of-requires c κs = let k = known-of (OnNatural _ _ _ _) (c .before .v .given .1) (c .before .before .before .read-natural .ensures .known) in (c .before .before .before .before .before .pre .2, omega arith)
 
 no-subscripts-requires : tie.Need-no-subscripts-requires Inv-loop μ-loop
 no-subscripts-requires c κs = search needs
@@ -66,8 +66,13 @@ loop-holds : tie.Need-loop-holds Inv-loop μ-loop
 loop-holds c =
     let k = known-of (OnNatural _ _ _ _) (c .before .before .before .v .given .1) (c .before .before .before .before .before .read-natural .ensures .known) in
     record {
-      low = omega arith; few = c .before .dimensions-of .ensures .1; three = c .no-subscripts .ensures; each = all-nil SubscriptIn; reached = k .reached;
-      so = times-start (Grammar.subscript _) _ _ _ }
+      low = omega arith;
+      few = c .before .dimensions-of .ensures .1;
+      three = c .no-subscripts .ensures;
+      each = all-nil SubscriptIn;
+      reached = k .reached;
+      so = times-start (Grammar.subscript _) _ _ _;
+    }
 
 read-subscript-requires : tie.Need-read-subscript-requires Inv-loop μ-loop
 read-subscript-requires c κs = search needs
@@ -97,7 +102,8 @@ loop-again c =
       three = simp length-set (i .three);
       each = all-more SubscriptIn (c .before .before .before .before .before .loop .subscripts) (c .before .before .before .before .before .loop .k) (c .before .before .before .read-subscript .result .subscript) (omega arith) (c .before .before .before .read-subscript .ensures .within) (i .each);
       reached = c .before .before .before .read-subscript .ensures .reads .reached;
-      so = i .so ∙ fill-more (subscriptOf _) _ _ (Grammar.subscript _) _ _ _ _ _ _ (c .before .before .before .before .loop-test .taken) (omega arith) refl e }
+      so = i .so ∙ fill-more (subscriptOf _) _ _ (Grammar.subscript _) _ _ _ _ _ _ (c .before .before .before .before .loop-test .taken) (omega arith) refl e;
+    }
 
 enum-known-status : tie.Need-enum-known-status Inv-loop μ-loop
 enum-known-status c = search needs
@@ -114,7 +120,8 @@ returns-2 c =
     record {
       reads = refused-here _ (q .0) (q .1)
           (no-subscripts _ _ (c .before .before .before .before .before .before .before .before .before .before .before .before .before .before .pre .2) _ _ _ _ (c .before .before .before .before .before .before .before .before .dimensions-of .ensures .0) e _ _ (i .so ∙ times-no (Grammar.subscript _) _ _ _ _ _ _ _ (c .before .before .before .before .before .loop-test .taken) f)) (c .before .before .before .before .before .before .before .before .before .before .before .before .before .before .pre .0);
-      within = q .2 }
+      within = q .2;
+    }
 
 returns-3 : tie.Need-returns-3 Inv-loop μ-loop
 returns-3 c =
@@ -123,8 +130,10 @@ returns-3 c =
     record {
       reads = record {
         same = sym (one-access _ _ (c .before .before .before .before .before .before .before .before .before .pre .2) _ _ _ _ (c .before .before .before .dimensions-of .ensures .0) e _ _ (i .so ∙ fill-done (subscriptOf _) _ _ (Grammar.subscript _) _ _ _ (i .low) (c .loop-test .left)));
-        reached = i .reached };
-      within = record { few = i .few; room = i .three; each = all-read SubscriptIn (c .before .loop .subscripts) (c .before .loop .k) _ (i .low) (c .loop-test .left) (i .each) } }
+        reached = i .reached;
+      };
+      within = record { few = i .few; room = i .three; each = all-read SubscriptIn (c .before .loop .subscripts) (c .before .loop .k) _ (i .low) (c .loop-test .left) (i .each) };
+    }
 
 pub read-access-spec : {M : Type 1} → statement M
 read-access-spec =

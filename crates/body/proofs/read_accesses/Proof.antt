@@ -74,8 +74,13 @@ loop-holds c =
     let e = seen (naturalAnswer _) (c .before .before .v .given .1) (c .before .before .before .before .read-count .ensures .same) in
     let k = known-of (OnNatural _ _ _ _) (c .before .before .v .given .1) (c .before .before .before .before .read-count .ensures .known) in
     record {
-      low = omega arith; few = k .high; four = c .no-accesses .ensures; each = all-nil AccessIn; reached = k .reached;
-      so = counted _ _ _ _ _ _ e ∙ times-start (Grammar.access _ _) _ _ _ }
+      low = omega arith;
+      few = k .high;
+      four = c .no-accesses .ensures;
+      each = all-nil AccessIn;
+      reached = k .reached;
+      so = counted _ _ _ _ _ _ e ∙ times-start (Grammar.access _ _) _ _ _;
+    }
 
 read-access-requires : tie.Need-read-access-requires Inv-loop μ-loop
 read-access-requires c κs = search needs
@@ -105,7 +110,8 @@ loop-again c =
       four = simp length-set (i .four);
       each = all-more AccessIn (c .before .before .before .before .before .loop .accesses) (c .before .before .before .before .before .loop .k) (c .before .before .before .read-access .result .access) (omega arith) (c .before .before .before .read-access .ensures .within) (i .each);
       reached = c .before .before .before .read-access .ensures .reads .reached;
-      so = i .so ∙ fill-more (accessOf _) _ _ (Grammar.access _ _) _ _ _ _ _ _ (c .before .before .before .before .loop-test .taken) (omega arith) refl e }
+      so = i .so ∙ fill-more (accessOf _) _ _ (Grammar.access _ _) _ _ _ _ _ _ (c .before .before .before .before .loop-test .taken) (omega arith) refl e;
+    }
 
 enum-known-status : tie.Need-enum-known-status Inv-loop μ-loop
 enum-known-status c = search needs
@@ -125,7 +131,8 @@ returns-3 c =
     let i = c .before .loop .inv in
     record {
       reads = record { same = sym (i .so ∙ fill-done (accessOf _) _ _ (Grammar.access _ _) _ _ _ (i .low) (c .loop-test .left)); reached = i .reached };
-      within = record { few = i .few; room = i .four; each = all-read AccessIn (c .before .loop .accesses) (c .before .loop .k) _ (i .low) (c .loop-test .left) (i .each) } }
+      within = record { few = i .few; room = i .four; each = all-read AccessIn (c .before .loop .accesses) (c .before .loop .k) _ (i .low) (c .loop-test .left) (i .each) };
+    }
 
 pub read-accesses-spec : {M : Type 1} → statement M
 read-accesses-spec =

@@ -1,7 +1,7 @@
 -- `read_arrays`: k arrays are read with `total` elements, and the rest goes on from `next`.
 use borrow.Author.Needs.{needs}
 use mathlib.Core.Path.{_≡_, refl, sym, ap, _∙_}
-use mathlib.Core.List.{List, [], _∷_, _++_, map}
+use mathlib.Core.List.{List, [], map}
 use Prim.Native.Nat.{ℕ, _+_, _-_, _<_, _≤_}
 use native.Mathlib.Omega.{arith}
 use lib.ListN.{length, take, set, length-set}
@@ -90,8 +90,14 @@ loop-holds c =
     let e = seen (naturalAnswer _) (c .before .before .v .given .1) (c .before .before .before .before .read-count .ensures .same) in
     let k = known-of (OnNatural _ _ _ _) (c .before .before .v .given .1) (c .before .before .before .before .read-count .ensures .known) in
     record {
-      low = omega arith; few = k .high; four = c .no-shapes .ensures; each = all-nil ShapeIn; bounded = omega arith; reached = k .reached;
-      so = counted _ _ _ e ∙ arrays-start _ _ _ }
+      low = omega arith;
+      few = k .high;
+      four = c .no-shapes .ensures;
+      each = all-nil ShapeIn;
+      bounded = omega arith;
+      reached = k .reached;
+      so = counted _ _ _ e ∙ arrays-start _ _ _;
+    }
 
 read-shape-requires : tie.Need-read-shape-requires Inv-loop μ-loop
 read-shape-requires c κs = search needs
@@ -139,7 +145,8 @@ loop-again c =
       each = all-more ShapeIn (c .before .before .before .before .before .before .before .loop .shapes) (c .before .before .before .before .before .before .before .loop .k) (c .before .before .before .before .before .read-shape .result .shape) (omega arith) (c .before .before .before .before .before .read-shape .ensures .within) (i .each);
       bounded = omega arith;
       reached = c .before .before .before .before .before .read-shape .ensures .reads .reached;
-      so = i .so ∙ one-more _ _ _ _ _ _ _ _ _ (c .before .before .before .before .before .read-shape .ensures .total) (c .before .before .before .before .before .before .loop-test .taken) (omega arith) e (omega arith) }
+      so = i .so ∙ one-more _ _ _ _ _ _ _ _ _ (c .before .before .before .before .before .read-shape .ensures .total) (c .before .before .before .before .before .before .loop-test .taken) (omega arith) e (omega arith);
+    }
 
 enum-known-status : tie.Need-enum-known-status Inv-loop μ-loop
 enum-known-status c = search needs
@@ -160,7 +167,8 @@ returns-4 c =
     let i = c .before .loop .inv in
     record {
       reads = record { same = sym (ends _ _ _ _ _ _ _ i (c .loop-test .left)); reached = i .reached };
-      within = record { few = i .few; room = i .four; each = all-read ShapeIn (c .before .loop .shapes) (c .before .loop .k) _ (i .low) (c .loop-test .left) (i .each) } }
+      within = record { few = i .few; room = i .four; each = all-read ShapeIn (c .before .loop .shapes) (c .before .loop .k) _ (i .low) (c .loop-test .left) (i .each) };
+    }
 
 pub read-arrays-spec : {M : Type 1} → statement M
 read-arrays-spec =

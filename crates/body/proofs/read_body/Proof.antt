@@ -72,8 +72,13 @@ loop-holds c =
     let e = seen (naturalAnswer _) (c .before .before .v .given .1) (c .before .before .before .before .read-count .ensures .same) in
     let k = known-of (OnNatural _ _ _ _) (c .before .before .v .given .1) (c .before .before .before .before .read-count .ensures .known) in
     record {
-      low = omega arith; few = k .high; four = c .no-statements .ensures; each = all-nil StatementIn; reached = k .reached;
-      so = counted _ _ _ _ _ e ∙ times-start (Grammar.statement _ _) _ _ _ }
+      low = omega arith;
+      few = k .high;
+      four = c .no-statements .ensures;
+      each = all-nil StatementIn;
+      reached = k .reached;
+      so = counted _ _ _ _ _ e ∙ times-start (Grammar.statement _ _) _ _ _;
+    }
 
 read-statement-requires : tie.Need-read-statement-requires Inv-loop μ-loop
 read-statement-requires c κs = search needs
@@ -103,7 +108,8 @@ loop-again c =
       four = simp length-set (i .four);
       each = all-more StatementIn (c .before .before .before .before .before .loop .all) (c .before .before .before .before .before .loop .k) (c .before .before .before .read-statement .result .statement) (omega arith) (c .before .before .before .read-statement .ensures .within) (i .each);
       reached = c .before .before .before .read-statement .ensures .reads .reached;
-      so = i .so ∙ fill-more (statementOf _) _ _ (Grammar.statement _ _) _ _ _ _ _ _ (c .before .before .before .before .loop-test .taken) (omega arith) refl e }
+      so = i .so ∙ fill-more (statementOf _) _ _ (Grammar.statement _ _) _ _ _ _ _ _ (c .before .before .before .before .loop-test .taken) (omega arith) refl e;
+    }
 
 enum-known-status : tie.Need-enum-known-status Inv-loop μ-loop
 enum-known-status c = search needs
@@ -124,7 +130,8 @@ returns-3 c =
     let i = c .before .loop .inv in
     record {
       reads = record { same = sym (i .so ∙ fill-done (statementOf _) _ _ (Grammar.statement _ _) _ _ _ (i .low) (c .loop-test .left)); reached = i .reached };
-      within = record { few = i .few; room = i .four; each = all-read StatementIn (c .before .loop .all) (c .before .loop .k) _ (i .low) (c .loop-test .left) (i .each) } }
+      within = record { few = i .few; room = i .four; each = all-read StatementIn (c .before .loop .all) (c .before .loop .k) _ (i .low) (c .loop-test .left) (i .each) };
+    }
 
 pub read-body-spec : {M : Type 1} → statement M
 read-body-spec =

@@ -68,8 +68,14 @@ loop-holds c =
     let e = seen (naturalAnswer _) (c .before .v .given .1) (c .before .before .before .read-count .ensures .same) in
     let k = known-of (OnNatural _ _ _ _) (c .before .v .given .1) (c .before .before .before .read-count .ensures .known) in
     record {
-      low = omega arith; few = k .high; three = refl; total = refl; bounded = omega arith; reached = k .reached;
-      so = counted _ _ _ e ∙ times-start (natural 1 4096) _ _ _ }
+      low = omega arith;
+      few = k .high;
+      three = refl;
+      total = refl;
+      bounded = omega arith;
+      reached = k .reached;
+      so = counted _ _ _ e ∙ times-start (natural 1 4096) _ _ _;
+    }
 
 read-natural-requires : tie.Need-read-natural-requires Inv-loop μ-loop
 read-natural-requires c κs = search needs
@@ -110,7 +116,8 @@ loop-again c =
       total = elements-next (c .before .before .before .before .before .loop .extents) (c .before .before .before .before .before .loop .k) _ (c .before .before .before .before .before .loop .elements) (omega arith) (i .total);
       bounded = most-next _ _ _ (i .bounded) (k .high);
       reached = k .reached;
-      so = i .so ∙ row-more _ _ (natural 1 4096) _ _ _ _ _ _ (c .before .before .before .before .loop-test .taken) (omega arith) refl e }
+      so = i .so ∙ row-more _ _ (natural 1 4096) _ _ _ _ _ _ (c .before .before .before .before .loop-test .taken) (omega arith) refl e;
+    }
 
 enum-known-r-2 : tie.Need-enum-known-r-2 Inv-loop μ-loop
 enum-known-r-2 c = search needs
@@ -126,7 +133,10 @@ returns-2 c =
     let q = c .no-shape2 .ensures in
     record {
       reads = refused-here _ (q .0) (q .1) (i .so ∙ times-no (natural 1 4096) _ _ _ _ _ _ _ (c .before .before .before .before .before .loop-test .taken) e) (c .before .before .before .before .before .before .before .before .before .before .before .before .pre);
-      within = record { few = omega arith; room = q .3 }; total = rw (q .2, q .4) refl; bounded = omega arith }
+      within = record { few = omega arith; room = q .3 };
+      total = rw (q .2, q .4) refl;
+      bounded = omega arith;
+    }
 
 returns-3 : tie.Need-returns-3 Inv-loop μ-loop
 unfolding shapeOf
@@ -136,7 +146,8 @@ returns-3 c =
       reads = record { same = sym (i .so ∙ row-done _ _ (natural 1 4096) _ _ _ (i .low) (c .loop-test .left)); reached = i .reached };
       within = record { few = i .few; room = i .three };
       total = elements-all _ _ _ _ (i .low) (c .loop-test .left) (i .total);
-      bounded = omega (arith, i .bounded, most-three (c .before .loop .k) (omega arith)) }
+      bounded = omega (arith, i .bounded, most-three (c .before .loop .k) (omega arith));
+    }
 
 pub read-shape-spec : {M : Type 1} → statement M
 read-shape-spec =

@@ -33,7 +33,7 @@ most-constant-requires : tie.Need-most-constant-requires
 most-constant-requires c κs = search needs
 
 read-natural-requires-2 : tie.Need-read-natural-requires-2
-read-natural-requires-2 c κs =     let k = known-of (OnNatural _ _ _ _) (c .before .before .v .given .1) (c .before .before .before .before .read-natural .ensures .known) in (k .reached, c .most-constant .ensures .1)
+read-natural-requires-2 c κs = let k = known-of (OnNatural _ _ _ _) (c .before .before .v .given .1) (c .before .before .before .before .read-natural .ensures .known) in (k .reached, c .most-constant .ensures .1)
 
 enum-known-v-2 : tie.Need-enum-known-v-2
 enum-known-v-2 c = search needs
@@ -101,8 +101,10 @@ returns-4 c =
     record {
       reads = record {
         same = sym (one-statement _ _ _ _ _ _ (c .before .before .before .before .before .before .before .before .before .before .before .before .before .most-constant .ensures .0) e _ f _ _ _ (c .before .before .before .before .before .least-reads .ensures) g _ _ _ h);
-        reached = c .before .before .before .before .read-accesses .ensures .reads .reached };
-      within = record { write = c .before .before .before .before .before .before .before .before .read-access .ensures .within; read = c .before .before .before .before .read-accesses .ensures .within } }
+        reached = c .before .before .before .before .read-accesses .ensures .reads .reached;
+      };
+      within = record { write = c .before .before .before .before .before .before .before .before .read-access .ensures .within; read = c .before .before .before .before .read-accesses .ensures .within };
+    }
 
 returns-5 : tie.Need-returns-5
 returns-5 c =
@@ -113,7 +115,8 @@ returns-5 c =
     let q = c .no-statement4 .ensures in
     record {
       reads = refused-here _ (q .0) (q .1) (no-reads _ _ _ _ _ _ (c .before .before .before .before .before .before .before .before .before .before .before .before .before .most-constant .ensures .0) e _ f _ _ _ (c .before .before .before .before .before .least-reads .ensures) g _ _ h) (c .before .before .before .before .before .before .before .before .before .before .before .before .before .before .before .before .before .before .before .pre .0);
-      within = q .2 }
+      within = q .2;
+    }
 
 pub read-statement-spec : {M : Type 1} → statement M
 read-statement-spec =

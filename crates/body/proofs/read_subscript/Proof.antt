@@ -1,5 +1,5 @@
 -- `read_subscript`: constant, then coefficients.
-use mathlib.Core.Path.{_≡_, refl, sym, ap, _∙_}
+use mathlib.Core.Path.{_≡_, refl, sym, _∙_}
 use mathlib.Core.List.{List}
 use Prim.Native.Nat.{ℕ, _+_}
 use lib.IntN.{ℤ}
@@ -69,7 +69,8 @@ returns-2 c =
     let g = read-value (c .before .enum-told .given .1) (c .before .before .before .read-row .ensures .0) in
     record {
       reads = record { same = sym (both _ _ _ _ e _ _ (search needs) g); reached = c .before .before .before .read-row .ensures .0 .reached };
-      within = record { room = c .before .before .before .read-row .ensures .1 } }
+      within = record { room = c .before .before .before .read-row .ensures .1 };
+    }
 
 returns-3 : tie.Need-returns-3
 returns-3 c =

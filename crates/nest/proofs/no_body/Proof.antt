@@ -8,7 +8,7 @@ no-limits-requires : tie.Need-no-limits-requires
 no-limits-requires c κs = search needs
 
 returns : tie.Need-returns
-returns c =     let e = empty-side _ (c .no-limits .ensures) in record { lower = e; upper = e }
+returns c = let e = empty-side _ (c .no-limits .ensures) in record { lower = e; upper = e }
 
 pub no-body-spec : {M : Type 1} → statement M
 no-body-spec = tie.close (tie.spec no-limits-requires returns)

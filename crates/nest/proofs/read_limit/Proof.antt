@@ -1,5 +1,5 @@
 -- `read_limit`: multiplier, constant and coefficients, one after another.
-use mathlib.Core.Path.{_≡_, refl, sym, ap, _∙_}
+use mathlib.Core.Path.{_≡_, refl, sym, _∙_}
 use mathlib.Core.List.{List}
 use Prim.Native.Nat.{ℕ, _+_}
 use native.Mathlib.Omega.{arith}
@@ -92,7 +92,7 @@ add-read-row : tie.Need-add-read-row
 add-read-row c = search needs
 
 read-row-requires : tie.Need-read-row-requires
-read-row-requires c κs =     let k = known-of (OnNumber _ _) (c .before .v2 .given .1) (c .before .before .before .read-number .ensures .known) in (record { counted = omega arith; there = omega arith }, omega arith)
+read-row-requires c κs = let k = known-of (OnNumber _ _) (c .before .v2 .given .1) (c .before .before .before .read-number .ensures .known) in (record { counted = omega arith; there = omega arith }, omega arith)
 
 enum-told : tie.Need-enum-told
 enum-told c = search needs
@@ -110,7 +110,8 @@ returns-3 c =
     let g = read-value (c .before .enum-told .given .1) (c .before .before .before .read-row .ensures .0) in
     record {
       reads = record { same = sym (one-limit _ _ _ _ _ _ _ refl (search needs) e f g); reached = c .before .before .before .read-row .ensures .0 .reached };
-      within = record { room = c .before .before .before .read-row .ensures .1 } }
+      within = record { room = c .before .before .before .read-row .ensures .1 };
+    }
 
 returns-4 : tie.Need-returns-4
 returns-4 c =

@@ -6,7 +6,6 @@ use Rattle.model.specs.Answer.{accepted, refused}
 use Rattle.model.specs.Grammar.{side, loop, done}
 use Rattle.reading.proofs.ReaderLaws.{read-value, read-refusal, refused-here, after-value, after-refusal}
 use Rattle.nest.specs.Nested.{sideOf, loopOf}
-use Rattle.nest.specs.declared.Loop.{Loop}
 use Rattle.nest.specs.declared.Side.{Side}
 use borrow.Author.Needs.{needs}
 use Rattle.nest.proofs.read_loop.Statement.{statement}
@@ -62,7 +61,8 @@ returns-2 c =
     let f = read-value (c .before .before .enum-told2 .given .1) (c .before .before .before .before .read-side2 .ensures .reads) in
     record {
       reads = record { same = sym (both _ _ _ _ _ e _ _ f); reached = c .before .before .before .before .read-side2 .ensures .reads .reached };
-      within = record { lower = c .before .before .before .before .before .before .before .read-side .ensures .within; upper = c .before .before .before .before .read-side2 .ensures .within } }
+      within = record { lower = c .before .before .before .before .before .before .before .read-side .ensures .within; upper = c .before .before .before .before .read-side2 .ensures .within };
+    }
 
 returns-3 : tie.Need-returns-3
 returns-3 c =

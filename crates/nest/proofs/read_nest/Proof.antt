@@ -101,7 +101,8 @@ loop-again c =
       six = simp length-set (i .six);
       each = all-more LoopIn (c .before .before .before .before .before .loop .all) (c .before .before .before .before .before .loop .k) (c .before .before .before .read-loop .result .body) (omega arith) (c .before .before .before .read-loop .ensures .within) (i .each);
       reached = c .before .before .before .read-loop .ensures .reads .reached;
-      so = i .so ∙ loops-more _ _ _ _ _ _ _ _ (c .before .before .before .before .loop-test .taken) (omega arith) e }
+      so = i .so ∙ loops-more _ _ _ _ _ _ _ _ (c .before .before .before .before .loop-test .taken) (omega arith) e;
+    }
 
 enum-known-status : tie.Need-enum-known-status Inv-loop μ-loop
 enum-known-status c = search needs
@@ -122,7 +123,8 @@ returns-3 c =
     let i = c .before .loop .inv in
     record {
       reads = record { same = sym (i .so ∙ loops-done _ _ _ _ _ _ (i .low) (c .loop-test .left)); reached = i .reached };
-      within = record { few = omega arith; room = i .six; each = all-read LoopIn (c .before .loop .all) (c .before .loop .k) _ (i .low) (c .loop-test .left) (i .each) } }
+      within = record { few = omega arith; room = i .six; each = all-read LoopIn (c .before .loop .all) (c .before .loop .k) _ (i .low) (c .loop-test .left) (i .each) };
+    }
 
 pub read-nest-spec : {M : Type 1} → statement M
 read-nest-spec =

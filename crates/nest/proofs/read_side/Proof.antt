@@ -99,7 +99,8 @@ loop-again c =
       sixteen = simp length-set (i .sixteen);
       each = all-more LimitIn (c .before .before .before .before .before .loop .limits) (c .before .before .before .before .before .loop .k) (c .before .before .before .read-limit .result .limit) (omega arith) (c .before .before .before .read-limit .ensures .within) (i .each);
       reached = c .before .before .before .read-limit .ensures .reads .reached;
-      so = i .so ∙ fill-more (limitOf _) _ _ (limit _) _ _ _ _ _ _ (c .before .before .before .before .loop-test .taken) (omega arith) refl e }
+      so = i .so ∙ fill-more (limitOf _) _ _ (limit _) _ _ _ _ _ _ (c .before .before .before .before .loop-test .taken) (omega arith) refl e;
+    }
 
 enum-known-status : tie.Need-enum-known-status Inv-loop μ-loop
 enum-known-status c = search needs
@@ -120,7 +121,8 @@ returns-3 c =
     let i = c .before .loop .inv in
     record {
       reads = record { same = sym (i .so ∙ fill-done (limitOf _) _ _ (limit _) _ _ _ (i .low) (c .loop-test .left)); reached = i .reached };
-      within = record { few = omega arith; room = i .sixteen; each = all-read LimitIn (c .before .loop .limits) (c .before .loop .k) _ (i .low) (c .loop-test .left) (i .each) } }
+      within = record { few = omega arith; room = i .sixteen; each = all-read LimitIn (c .before .loop .limits) (c .before .loop .k) _ (i .low) (c .loop-test .left) (i .each) };
+    }
 
 pub read-side-spec : {M : Type 1} → statement M
 read-side-spec =

@@ -1,8 +1,6 @@
 -- `bits_at`: the word is there exactly if its second byte is.
-use mathlib.Core.Path.{sym, _∙_, ap}
+use mathlib.Core.Path.{sym}
 use native.Mathlib.Omega.{arith}
-use Rattle.model.specs.Answer.{accepted}
-use Rattle.model.specs.Words.{signed}
 use Rattle.reading.proofs.WordLaws.{word-there, word-torn}
 use borrow.Author.Needs.{needs}
 use Rattle.reading.proofs.bits_at.Statement.{statement}
@@ -42,10 +40,11 @@ returns : tie.Need-returns
 returns c =
     record {
       same = simp (c .before .before .wide .ensures .0, c .wide2 .ensures .0) (sym (word-there _ _ (c .before .before .before .before .if1 .taken)));
-      known = record { counted = omega arith; there = omega (arith, c .before .before .before .before .if1 .taken) } }
+      known = record { counted = omega arith; there = omega (arith, c .before .before .before .before .if1 .taken) };
+    }
 
 returns-2 : tie.Need-returns-2
-returns-2 c =     record { same = sym (word-torn _ _ (c .if1 .left)); known = tt }
+returns-2 c = record { same = sym (word-torn _ _ (c .if1 .left)); known = tt }
 
 pub bits-at-spec : {M : Type 1} → statement M
 bits-at-spec =

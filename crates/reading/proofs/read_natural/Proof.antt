@@ -37,7 +37,8 @@ returns-3 c =
     let q = c .if2 .left in
     record {
       same = sym (natural-value _ _ _ e _ _ _ (low-value _ (omega arith)) (in-range _ _ _ p q (c .before .before .before .before .before .before .before .pre .1)));
-      known = record { low = p; high = q; reached = known-of (OnBits _ _) (c .before .before .before .v .given .1) (c .before .before .before .before .before .bits-at .ensures .known) } }
+      known = record { low = p; high = q; reached = known-of (OnBits _ _) (c .before .before .before .v .given .1) (c .before .before .before .before .before .bits-at .ensures .known) };
+    }
 
 returns-4 : tie.Need-returns-4
 returns-4 c =

@@ -36,7 +36,8 @@ returns-2 c =
     record {
       same = ap (λ z. accepted (record { value = z; next = c .before .before .before .before .before .before .before .args .at + 1 })) (search needs ∙ c .signed-of .ensures)
           ∙ sym (within-value _ _ _ e _ _ (number-fits _ (omega arith) (c .before .if1 .left)));
-      known = known-of (OnBits _ _) (c .before .before .before .v .given .1) (c .before .before .before .before .before .bits-at .ensures .known) }
+      known = known-of (OnBits _ _) (c .before .before .before .v .given .1) (c .before .before .before .before .before .bits-at .ensures .known);
+    }
 
 returns-3 : tie.Need-returns-3
 unfolding number

@@ -26,7 +26,7 @@ abbrev μ-loop : tie.MeasureT-loop
 μ-loop s at n row₀ next₀ k₀ row next k = n - k
 
 loop-holds : tie.Need-loop-holds Inv-loop μ-loop
-loop-holds c =     record { low = omega arith; six = refl; reached = c .before .pre .0; so = times-start number _ _ _ }
+loop-holds c = record { low = omega arith; six = refl; reached = c .before .pre .0; so = times-start number _ _ _ }
 
 read-number-requires : tie.Need-read-number-requires Inv-loop μ-loop
 read-number-requires c κs = search needs
@@ -57,7 +57,8 @@ loop-again c =
       low = omega arith;
       six = simp length-set (i .six);
       reached = known-of (OnNumber _ _) (c .before .x .given .1) (c .before .before .before .read-number .ensures .known);
-      so = i .so ∙ row-more _ _ number _ _ _ _ _ _ (c .before .before .before .before .loop-test .taken) (omega arith) (sym (search needs)) e }
+      so = i .so ∙ row-more _ _ number _ _ _ _ _ _ (c .before .before .before .before .loop-test .taken) (omega arith) (sym (search needs)) e;
+    }
 
 enum-known-r : tie.Need-enum-known-r Inv-loop μ-loop
 enum-known-r c = search needs

@@ -1,5 +1,5 @@
 -- `depth_after`: a section adds a loop.
-use mathlib.Core.Path.{_≡_, sym, ap, _∙_}
+use mathlib.Core.Path.{sym, ap, _∙_}
 use native.Mathlib.Numerals.{add-one}
 use Rattle.model.specs.Grammar.{depthAfter}
 use Rattle.steps.specs.Steps.{stepOf}

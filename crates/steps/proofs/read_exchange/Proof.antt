@@ -1,5 +1,5 @@
 -- `read_exchange`: the loop a, the next one, and 0.
-use mathlib.Core.Path.{_≡_, sym, ap, _∙_, subst}
+use mathlib.Core.Path.{_≡_, sym, ap, _∙_}
 use mathlib.Core.Bool.{_&&_}
 use mathlib.Core.List.{List}
 use Prim.Native.Nat.{ℕ, suc, _+_, _-_, _≤_}
@@ -65,13 +65,13 @@ add-read-loop-number : tie.Need-add-read-loop-number
 add-read-loop-number c = search needs
 
 add-read-loop-number-2 : tie.Need-add-read-loop-number-2
-add-read-loop-number-2 c =     let k = known-of (OnNatural _ _ _ _) (c .before .v .given .1) (c .before .before .before .read-loop-number .ensures .known) in omega arith
+add-read-loop-number-2 c = let k = known-of (OnNatural _ _ _ _) (c .before .v .given .1) (c .before .before .before .read-loop-number .ensures .known) in omega arith
 
 inner-most-requires : tie.Need-inner-most-requires
-inner-most-requires c κs =     let k = known-of (OnNatural _ _ _ _) (c .before .v .given .1) (c .before .before .before .read-loop-number .ensures .known) in (k .high, c .before .before .before .before .before .pre .1)
+inner-most-requires c κs = let k = known-of (OnNatural _ _ _ _) (c .before .v .given .1) (c .before .before .before .read-loop-number .ensures .known) in (k .high, c .before .before .before .before .before .pre .1)
 
 read-loop-number-requires-2 : tie.Need-read-loop-number-requires-2
-read-loop-number-requires-2 c κs =     let k = known-of (OnNatural _ _ _ _) (c .before .before .v .given .1) (c .before .before .before .before .read-loop-number .ensures .known) in (k .reached, omega arith)
+read-loop-number-requires-2 c κs = let k = known-of (OnNatural _ _ _ _) (c .before .before .v .given .1) (c .before .before .before .before .read-loop-number .ensures .known) in (k .reached, omega arith)
 
 enum-told : tie.Need-enum-told
 enum-told c = search needs
@@ -99,7 +99,7 @@ enum-told-2 : tie.Need-enum-told-2
 enum-told-2 c = search needs
 
 sub-t18 : tie.Need-sub-t18
-sub-t18 c =     let k = known-of (OnNatural _ _ _ _) (c .before .before .before .before .before .before .before .before .v .given .1) (c .before .before .before .before .before .before .before .before .before .before .read-loop-number .ensures .known) in omega arith
+sub-t18 c = let k = known-of (OnNatural _ _ _ _) (c .before .before .before .before .before .before .before .before .v .given .1) (c .before .before .before .before .before .before .before .before .before .before .read-loop-number .ensures .known) in omega arith
 
 enum-known-r-3 : tie.Need-enum-known-r-3
 enum-known-r-3 c = search needs
@@ -114,7 +114,8 @@ returns-3 c =
     let r = known-of (OnNatural _ _ _ _) (c .enum-told2 .given .1) (c .before .before .read-natural .ensures .known) .reached in
     record {
       same = sym (one-exchange _ _ _ _ _ _ (k .low) (k .high) (c .before .before .before .before .before .before .inner-most .ensures .0) e _ f _ g);
-      known = record { reached = record { counted = omega arith; there = omega arith }; few = c .before .before .before .before .before .before .before .before .before .before .before .before .pre .1 } }
+      known = record { reached = record { counted = omega arith; there = omega arith }; few = c .before .before .before .before .before .before .before .before .before .before .before .before .pre .1 };
+    }
 
 returns-4 : tie.Need-returns-4
 returns-4 c =

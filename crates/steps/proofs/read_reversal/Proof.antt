@@ -52,7 +52,7 @@ add-read-natural : tie.Need-add-read-natural
 add-read-natural c = search needs
 
 read-natural-requires : tie.Need-read-natural-requires
-read-natural-requires c κs =     let k = known-of (OnNatural _ _ _ _) (c .before .v .given .1) (c .before .before .before .read-loop-number .ensures .known) in (k .reached, omega arith)
+read-natural-requires c κs = let k = known-of (OnNatural _ _ _ _) (c .before .v .given .1) (c .before .before .before .read-loop-number .ensures .known) in (k .reached, omega arith)
 
 enum-told : tie.Need-enum-told
 enum-told c = search needs
@@ -79,7 +79,7 @@ enum-told-2 : tie.Need-enum-told-2
 enum-told-2 c = search needs
 
 sub-t16 : tie.Need-sub-t16
-sub-t16 c =     let k = known-of (OnNatural _ _ _ _) (c .before .before .before .before .before .before .before .v .given .1) (c .before .before .before .before .before .before .before .before .before .read-loop-number .ensures .known) in omega arith
+sub-t16 c = let k = known-of (OnNatural _ _ _ _) (c .before .before .before .before .before .before .before .v .given .1) (c .before .before .before .before .before .before .before .before .before .read-loop-number .ensures .known) in omega arith
 
 enum-known-r-3 : tie.Need-enum-known-r-3
 enum-known-r-3 c = search needs

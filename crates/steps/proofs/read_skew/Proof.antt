@@ -28,10 +28,10 @@ add-read-loop-number : tie.Need-add-read-loop-number
 add-read-loop-number c = search needs
 
 add-read-loop-number-2 : tie.Need-add-read-loop-number-2
-add-read-loop-number-2 c =     let k = known-of (OnNatural _ _ _ _) (c .before .v .given .1) (c .before .before .before .read-loop-number .ensures .known) in omega arith
+add-read-loop-number-2 c = let k = known-of (OnNatural _ _ _ _) (c .before .v .given .1) (c .before .before .before .read-loop-number .ensures .known) in omega arith
 
 read-loop-number-requires-2 : tie.Need-read-loop-number-requires-2
-read-loop-number-requires-2 c κs =     let k = known-of (OnNatural _ _ _ _) (c .before .v .given .1) (c .before .before .before .read-loop-number .ensures .known) in (k .reached, omega arith)
+read-loop-number-requires-2 c κs = let k = known-of (OnNatural _ _ _ _) (c .before .v .given .1) (c .before .before .before .read-loop-number .ensures .known) in (k .reached, omega arith)
 
 enum-known-v-2 : tie.Need-enum-known-v-2
 enum-known-v-2 c = search needs
@@ -59,25 +59,25 @@ enum-told : tie.Need-enum-told
 enum-told c = search needs
 
 sub-t20 : tie.Need-sub-t20
-sub-t20 c =     let k = known-of (OnNatural _ _ _ _) (c .before .before .before .before .before .before .before .before .v .given .1) (c .before .before .before .before .before .before .before .before .before .before .read-loop-number .ensures .known) in omega arith
+sub-t20 c = let k = known-of (OnNatural _ _ _ _) (c .before .before .before .before .before .before .before .before .v .given .1) (c .before .before .before .before .before .before .before .before .before .before .read-loop-number .ensures .known) in omega arith
 
 sub-t21 : tie.Need-sub-t21
-sub-t21 c =     let k = known-of (OnNatural _ _ _ _) (c .before .before .before .before .v2 .given .1) (c .before .before .before .before .before .before .read-loop-number2 .ensures .known) in omega arith
+sub-t21 c = let k = known-of (OnNatural _ _ _ _) (c .before .before .before .before .v2 .given .1) (c .before .before .before .before .before .before .read-loop-number2 .ensures .known) in omega arith
 
 sub-t22 : tie.Need-sub-t22
-sub-t22 c =     let k = known-of (OnNatural _ _ _ _) (c .before .before .before .before .v2 .given .1) (c .before .before .before .before .before .before .read-loop-number2 .ensures .known) in omega arith
+sub-t22 c = let k = known-of (OnNatural _ _ _ _) (c .before .before .before .before .v2 .given .1) (c .before .before .before .before .before .before .read-loop-number2 .ensures .known) in omega arith
 
 enum-told-2 : tie.Need-enum-told-2
 enum-told-2 c = search needs
 
 sub-t25 : tie.Need-sub-t25
-sub-t25 c =     let k = known-of (OnNatural _ _ _ _) (c .before .before .before .before .before .before .before .before .v .given .1) (c .before .before .before .before .before .before .before .before .before .before .read-loop-number .ensures .known) in omega arith
+sub-t25 c = let k = known-of (OnNatural _ _ _ _) (c .before .before .before .before .before .before .before .before .v .given .1) (c .before .before .before .before .before .before .before .before .before .before .read-loop-number .ensures .known) in omega arith
 
 sub-t26 : tie.Need-sub-t26
-sub-t26 c =     let k = known-of (OnNatural _ _ _ _) (c .before .before .before .before .v2 .given .1) (c .before .before .before .before .before .before .read-loop-number2 .ensures .known) in omega arith
+sub-t26 c = let k = known-of (OnNatural _ _ _ _) (c .before .before .before .before .v2 .given .1) (c .before .before .before .before .before .before .read-loop-number2 .ensures .known) in omega arith
 
 sub-t27 : tie.Need-sub-t27
-sub-t27 c =     let k = known-of (OnNatural _ _ _ _) (c .before .before .before .before .v2 .given .1) (c .before .before .before .before .before .before .read-loop-number2 .ensures .known) in omega arith
+sub-t27 c = let k = known-of (OnNatural _ _ _ _) (c .before .before .before .before .v2 .given .1) (c .before .before .before .before .before .before .read-loop-number2 .ensures .known) in omega arith
 
 enum-known-r-3 : tie.Need-enum-known-r-3
 enum-known-r-3 c = search needs

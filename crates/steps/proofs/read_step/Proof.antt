@@ -1,8 +1,7 @@
 -- `read_step`: the kind decides which of the four follows.
-use mathlib.Core.Path.{_≡_, sym, ap, _∙_}
+use mathlib.Core.Path.{_≡_, sym, _∙_}
 use mathlib.Core.List.{List}
 use Prim.Native.Nat.{ℕ, _+_}
-use native.Mathlib.Omega.{arith}
 use borrow.Author.Tests.{ne-eqb}
 use Rattle.model.specs.Answer.{Answer, accepted, refused}
 use Rattle.model.specs.Ticket as Model
@@ -62,25 +61,25 @@ add-read-exchange : tie.Need-add-read-exchange
 add-read-exchange c = search needs
 
 read-exchange-requires : tie.Need-read-exchange-requires
-read-exchange-requires c κs =     let k = known-of (OnNatural _ _ _ _) (c .before .before .v .given .1) (c .before .before .before .before .read-natural .ensures .known) in (k .reached, c .before .before .before .before .before .before .pre .1)
+read-exchange-requires c κs = let k = known-of (OnNatural _ _ _ _) (c .before .before .v .given .1) (c .before .before .before .before .read-natural .ensures .known) in (k .reached, c .before .before .before .before .before .before .pre .1)
 
 add-read-reversal : tie.Need-add-read-reversal
 add-read-reversal c = search needs
 
 read-reversal-requires : tie.Need-read-reversal-requires
-read-reversal-requires c κs =     let k = known-of (OnNatural _ _ _ _) (c .before .before .v .given .1) (c .before .before .before .before .read-natural .ensures .known) in (k .reached, c .before .before .before .before .before .before .pre .1)
+read-reversal-requires c κs = let k = known-of (OnNatural _ _ _ _) (c .before .before .v .given .1) (c .before .before .before .before .read-natural .ensures .known) in (k .reached, c .before .before .before .before .before .before .pre .1)
 
 add-read-skew : tie.Need-add-read-skew
 add-read-skew c = search needs
 
 read-skew-requires : tie.Need-read-skew-requires
-read-skew-requires c κs =     let k = known-of (OnNatural _ _ _ _) (c .before .before .v .given .1) (c .before .before .before .before .read-natural .ensures .known) in (k .reached, c .before .before .before .before .before .before .pre .1)
+read-skew-requires c κs = let k = known-of (OnNatural _ _ _ _) (c .before .before .v .given .1) (c .before .before .before .before .read-natural .ensures .known) in (k .reached, c .before .before .before .before .before .before .pre .1)
 
 add-read-section : tie.Need-add-read-section
 add-read-section c = search needs
 
 read-section-requires : tie.Need-read-section-requires
-read-section-requires c κs =     let k = known-of (OnNatural _ _ _ _) (c .before .before .v .given .1) (c .before .before .before .before .read-natural .ensures .known) in (k .reached, c .before .before .before .before .before .before .pre .1)
+read-section-requires c κs = let k = known-of (OnNatural _ _ _ _) (c .before .before .v .given .1) (c .before .before .before .before .read-natural .ensures .known) in (k .reached, c .before .before .before .before .before .before .pre .1)
 
 returns-2 : tie.Need-returns-2
 returns-2 c =

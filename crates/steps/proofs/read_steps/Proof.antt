@@ -1,7 +1,7 @@
 -- `read_steps`: k steps are read, and the rest goes on from `next` with `loops` loops.
 use borrow.Author.Needs.{needs}
 use mathlib.Core.Path.{_≡_, refl, sym, ap, _∙_, subst}
-use mathlib.Core.List.{List, [], _∷_, map}
+use mathlib.Core.List.{List, [], map}
 use Prim.Native.Nat.{ℕ, _+_, _-_, _<_, _≤_}
 use native.Mathlib.Omega.{arith}
 use lib.ListN.{length, take, set, length-set}
@@ -34,12 +34,12 @@ taken k l = map (λ (x : Numbered). stepOf (x .step)) (take k l)
 one-more : (b : List ℕ) (n i m j : ℕ) (l : List Numbered) (x : Step) (d : ℕ) → i < n → i < length l → d ≡ depthAfter (stepOf x) m
     → oneStep (i + 1) m b j ≡ accepted (record { value = stepOf x; next = j + 1 + 3 })
     → before (taken i l) (stepsFrom (i + 1) m (n - i) b j)
-        ≡ before (taken (i + 1) (set l i (record { number = i + 1; step = x }))) (stepsFrom (i + 1 + 1) d (n - (i + 1)) b (j + 4))
+    ≡ before (taken (i + 1) (set l i (record { number = i + 1; step = x }))) (stepsFrom (i + 1 + 1) d (n - (i + 1)) b (j + 4))
 one-more b n i m j l x d h p s e =
     let z : j + 1 + 3 ≡ j + 4 = omega arith in
     steps-more b n i m j (taken i l) (stepOf x) d (j + 4) h s (e ∙ ap (λ y. accepted (record { value = stepOf x; next = y })) z)
     ∙ ap (λ vs. before vs (stepsFrom (i + 1 + 1) d (n - (i + 1)) b (j + 4)))
-        (filled-more (λ (y : Numbered). stepOf (y .step)) l i (record { number = i + 1; step = x }) (stepOf x) refl p)
+    (filled-more (λ (y : Numbered). stepOf (y .step)) l i (record { number = i + 1; step = x }) (stepOf x) refl p)
 
 record Inv (b : List ℕ) (at depth count : ℕ) (all : List Numbered) (next loops k : ℕ) : Type 0 where
   low : k ≤ count
@@ -91,8 +91,14 @@ loop-holds c =
     let e = seen (naturalAnswer _) (c .before .before .v .given .1) (c .before .before .before .before .read-count .ensures .same) in
     let k = known-of (OnNatural _ _ _ _) (c .before .before .v .given .1) (c .before .before .before .before .read-count .ensures .known) in
     record {
-      low = omega arith; few = k .high; six = c .before .before .before .before .before .before .pre .1; eight = c .blank-steps .ensures; numbered = tt; reached = k .reached;
-      so = counted _ _ _ _ e ∙ steps-start _ _ _ _ }
+      low = omega arith;
+      few = k .high;
+      six = c .before .before .before .before .before .before .pre .1;
+      eight = c .blank-steps .ensures;
+      numbered = tt;
+      reached = k .reached;
+      so = counted _ _ _ _ e ∙ steps-start _ _ _ _;
+    }
 
 add-read-step : tie.Need-add-read-step Inv-loop μ-loop
 add-read-step c = search needs
@@ -116,7 +122,7 @@ array-set-from-all : tie.Need-array-set-from-all Inv-loop μ-loop
 array-set-from-all c = search needs
 
 add-next-2 : tie.Need-add-next-2 Inv-loop μ-loop
-add-next-2 c =     let i = c .before .before .before .before .before .before .loop .inv .reached in omega arith
+add-next-2 c = let i = c .before .before .before .before .before .before .loop .inv .reached in omega arith
 
 add-k : tie.Need-add-k Inv-loop μ-loop
 add-k c = search needs
@@ -139,7 +145,8 @@ loop-again c =
       eight = simp length-set (i .eight);
       numbered = numbered-next (c .before .before .before .before .before .before .loop .all) (c .before .before .before .before .before .before .loop .k) _ (omega arith) refl (i .numbered);
       reached = record { counted = omega arith; there = omega arith };
-      so = i .so ∙ one-more _ _ _ _ _ _ _ _ (c .before .before .before .before .before .loop-test .taken) (omega arith) d e }
+      so = i .so ∙ one-more _ _ _ _ _ _ _ _ (c .before .before .before .before .before .loop-test .taken) (omega arith) d e;
+    }
 
 enum-known-r-2 : tie.Need-enum-known-r-2 Inv-loop μ-loop
 enum-known-r-2 c = search needs
@@ -161,7 +168,8 @@ returns-3 c =
     let e = ends _ _ _ _ _ _ _ _ i (c .loop-test .left) in
     record {
       reads = record { same = sym (e .0); reached = i .reached };
-      within = record { few = i .few; room = i .eight; numbered = e .1 } }
+      within = record { few = i .few; room = i .eight; numbered = e .1 };
+    }
 
 pub read-steps-spec : {M : Type 1} → statement M
 read-steps-spec =

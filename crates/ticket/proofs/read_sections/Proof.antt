@@ -47,9 +47,11 @@ returns c =
       reads = record {
         same = picked _ _ (N .status) (A .status) (B .status) (S .status) (c .first-of3 .ensures) (c .before .first-of2 .ensures) (c .before .before .first-of .ensures)
             ∙ joined t w _ (N .status) (A .status) (B .status) (S .status) (N .next) (A .next) (B .next) (S .next)
-                (c .before .before .before .before .before .before .before .before .before .before .read-nest .ensures .reads .same) (c .before .before .before .before .before .before .before .before .before .read-arrays .ensures .reads .same) (c .before .before .before .before .before .before .read-body .ensures .reads .same) (c .before .before .before .before .before .read-steps .ensures .reads .same);
-        reached = c .before .before .before .before .before .read-steps .ensures .reads .reached };
-      within = record { nest = w; arrays = c .before .before .before .before .before .before .before .before .before .read-arrays .ensures .within; body = c .before .before .before .before .before .before .read-body .ensures .within; steps = c .before .before .before .before .before .read-steps .ensures .within } }
+            (c .before .before .before .before .before .before .before .before .before .before .read-nest .ensures .reads .same) (c .before .before .before .before .before .before .before .before .before .read-arrays .ensures .reads .same) (c .before .before .before .before .before .before .read-body .ensures .reads .same) (c .before .before .before .before .before .read-steps .ensures .reads .same);
+        reached = c .before .before .before .before .before .read-steps .ensures .reads .reached;
+      };
+      within = record { nest = w; arrays = c .before .before .before .before .before .before .before .before .before .read-arrays .ensures .within; body = c .before .before .before .before .before .before .read-body .ensures .within; steps = c .before .before .before .before .before .read-steps .ensures .within };
+    }
 
 pub read-sections-spec : {M : Type 1} → statement M
 read-sections-spec =
