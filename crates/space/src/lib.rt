@@ -1,0 +1,1 @@
+// The iteration points of a loop nest, and their bounds.
