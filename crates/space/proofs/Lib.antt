@@ -3,3 +3,6 @@ pub mod Witness
 pub mod LimitLaws
 pub mod SideLaws
 pub mod RangeLaws
+pub mod ThroughLaws
+pub mod EndLaws
+pub mod TallyLaws

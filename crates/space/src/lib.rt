@@ -1,12 +1,14 @@
 // The iteration points of a loop nest, and their bounds. A nest is lent as flat slices (specs/Flat), the indices outside a loop as a slice.
 ghost use mathlib.Core.Path.{_≡_};
-ghost use Prim.Native.Nat.{_≤_};
+ghost use mathlib.Core.List.{[], _∷_};
+ghost use Prim.Native.Nat.{suc, _≤_};
 ghost use lib.IntN.{_-ℤ_};
 ghost use lib.ListN.{length};
 ghost use Rattle.integers.specs.Difference.{size};
 ghost use Rattle.model.specs.Points.{value, maxZ, minZ, span};
 ghost use Rattle.space.specs.Flat.{limitAt, loopAt};
 ghost use Rattle.space.specs.Ranges.{ceilAt, floorAt, firstFrom, lastFrom, LimitIn, DivisorIn, SideIn, RangeIn, Ranged};
+ghost use Rattle.space.specs.Tallies.{through, capped, outside, seen, IncludeIn};
 
 // What limit j has against its multiplier times the index: the constant and the coefficients times the indices outside.
 fn value(nest: &[i64], j: usize, outer: &[i64]) -> i64
@@ -121,5 +123,47 @@ pub fn count(e: Ends) -> usize
         0
     } else {
         (e.hi - e.lo) as usize + 1
+    }
+}
+
+// What a survey of one depth has seen: a far index, and how many points, or one more than are allowed.
+pub struct Tally {
+    pub far: bool,
+    pub count: usize,
+}
+
+fn capped(n: usize, most: usize) -> usize
+    requires { ⌜ most ≤ 65536 ⌝ }
+    ensures { λ r. ⌜ r ≡ Rattle.space.specs.Tallies.capped most n ⌝ }
+{
+    if most < n { most + 1 } else { n }
+}
+
+// Whether an end lies beyond the bound.
+fn outside(e: Ends, bound: usize) -> bool
+    requires { ⌜ (bound ≤ 100000) × (size (e .lo) ≤ 34359738368) × (size (e .hi) ≤ 34359738368) ⌝ }
+    ensures { λ r. ⌜ r ≡ Rattle.space.specs.Tallies.outside bound (e .lo) (e .hi) ⌝ }
+{
+    let b = bound as i64;
+    if e.lo < 0 - b {
+        return true;
+    }
+    b < e.hi
+}
+
+// The tally with the points that go on from the indices outer by one loop: the ends of its range decide.
+fn include(nest: &[i64], counts: &[usize], outer: &[i64], bound: usize, most: usize, a: Tally) -> Tally
+    requires { ⌜ IncludeIn (now nest) (now counts) (now outer) bound most a ⌝ }
+    ensures { λ r. ⌜ (r ≡ seen bound most a (through (loopAt (now (nest .entry)) (now (counts .entry)) (length (now (outer .entry))) ∷ []) (now (outer .entry)))) × (r .count ≤ suc most) ⌝ }
+{
+    let e = range(nest, counts, outer);
+    let n = count(e);
+    if n == 0 {
+        return a;
+    }
+    let far = outside(e, bound);
+    Tally {
+        far: a.far | far,
+        count: capped(a.count + n, most),
     }
 }
