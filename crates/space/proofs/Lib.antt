@@ -6,3 +6,5 @@ pub mod RangeLaws
 pub mod ThroughLaws
 pub mod EndLaws
 pub mod TallyLaws
+pub mod StepLaws
+pub mod WalkLaws

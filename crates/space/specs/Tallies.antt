@@ -57,3 +57,7 @@ pub record TallyIn (s : List ℤ) (c : List ℕ) (k left : ℕ) (point : List �
   pub near : Near bound (loopsFrom s c k (left - 1)) (take k point)
   pub bounds : Bounded bound most
   pub counted : a .count ≤ suc most
+
+pub record Tallied (s : List ℤ) (c : List ℕ) (k left : ℕ) (point : List ℤ) (bound most : ℕ) (a r : Tally) : Type 0 where
+  pub tallied : r ≡ seen bound most a (through (loopsFrom s c k left) (take k point))
+  pub counted : r .count ≤ suc most

@@ -1,14 +1,14 @@
 // The iteration points of a loop nest, and their bounds. A nest is lent as flat slices (specs/Flat), the indices outside a loop as a slice.
 ghost use mathlib.Core.Path.{_≡_};
 ghost use mathlib.Core.List.{[], _∷_};
-ghost use Prim.Native.Nat.{suc, _≤_};
-ghost use lib.IntN.{_-ℤ_};
-ghost use lib.ListN.{length};
+ghost use Prim.Native.Nat.{suc, _≤_, _<_};
+ghost use lib.IntN.{pos, _+ℤ_, _-ℤ_};
+ghost use lib.ListN.{length, set};
 ghost use Rattle.integers.specs.Difference.{size};
 ghost use Rattle.model.specs.Points.{value, maxZ, minZ, span};
 ghost use Rattle.space.specs.Flat.{limitAt, loopAt};
 ghost use Rattle.space.specs.Ranges.{ceilAt, floorAt, firstFrom, lastFrom, LimitIn, DivisorIn, SideIn, RangeIn, Ranged};
-ghost use Rattle.space.specs.Tallies.{through, capped, outside, seen, IncludeIn};
+ghost use Rattle.space.specs.Tallies.{through, capped, outside, seen, IncludeIn, TallyIn, Tallied};
 
 // What limit j has against its multiplier times the index: the constant and the coefficients times the indices outside.
 fn value(nest: &[i64], j: usize, outer: &[i64]) -> i64
@@ -166,4 +166,34 @@ fn include(nest: &[i64], counts: &[usize], outer: &[i64], bound: usize, most: us
         far: a.far | far,
         count: capped(a.count + n, most),
     }
+}
+
+// The point with index k set to the one t places after the first.
+fn moved(point: [i64; 6], k: usize, e: Ends, t: usize) -> [i64; 6]
+    requires { ⌜ (k < 6) × (size (e .lo) ≤ 34359738368) × (t ≤ 68719476737) ⌝ }
+    ensures { λ r. ⌜ r ≡ set point k (e .lo +ℤ pos t) ⌝ }
+{
+    let mut q = point;
+    q[k] = e.lo + (t as i64);
+    q
+}
+
+// The tally with the points that go on from the first k indices of a point by the next `left` loops. The last loop's range is not walked.
+pub fn tally_points(nest: &[i64], counts: &[usize], k: usize, left: usize, point: [i64; 6], bound: usize, most: usize, a: Tally) -> Tally
+    requires { ⌜ TallyIn (now nest) (now counts) k left point bound most a ⌝ }
+    ensures { λ r. ⌜ Tallied (now (nest .entry)) (now (counts .entry)) k left point bound most a r ⌝ }
+{
+    if left == 1 {
+        return include(nest, counts, &point[..k], bound, most, a);
+    }
+    let e = range(nest, counts, &point[..k]);
+    let n = count(e);
+    let mut b = a;
+    let mut t = 0;
+    while t < n {
+        let q = moved(point, k, e, t);
+        b = tally_points(nest, counts, k + 1, left - 1, q, bound, most, b);
+        t += 1;
+    }
+    b
 }
