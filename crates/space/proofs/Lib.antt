@@ -8,3 +8,5 @@ pub mod EndLaws
 pub mod TallyLaws
 pub mod StepLaws
 pub mod WalkLaws
+pub mod SurveyLaws
+pub mod DepthLaws

@@ -102,7 +102,7 @@ last-snoc [] i = refl
 last-snoc (x ∷ []) i = refl
 last-snoc (x ∷ y ∷ p) i = last-snoc (y ∷ p) i
 
-any-last : (bound : ℕ) (outer l : List ℤ) → any (λ p. beyond bound (lastOf p)) (map (λ i. outer ++ (i ∷ [])) l) ≡ any (beyond bound) l
+pub any-last : (bound : ℕ) (outer l : List ℤ) → any (λ p. beyond bound (lastOf p)) (map (λ i. outer ++ (i ∷ [])) l) ≡ any (beyond bound) l
 unfolding any
 any-last bound outer [] = refl
 any-last bound outer (i ∷ l) = rw (last-snoc outer i, any-last bound outer l)

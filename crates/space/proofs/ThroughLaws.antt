@@ -60,7 +60,7 @@ pub through-cons : (L : Loop) (N : List Loop) (outer : List ℤ) → through (L 
 unfolding through points
 through-cons L N outer =
     map-flatMap (λ y. outer ++ y) (λ i. map (λ y. i ∷ y) (points N (outer ++ (i ∷ [])))) (indices L outer)
-    ∙ flatMap-same (λ i. map (λ y. outer ++ y) (map (λ y. i ∷ y) (points N (outer ++ (i ∷ []))))) (λ i. map (λ y. (outer ++ (i ∷ [])) ++ y) (points N (outer ++ (i ∷ [])))) 
+    ∙ flatMap-same (λ i. map (λ y. outer ++ y) (map (λ y. i ∷ y) (points N (outer ++ (i ∷ []))))) (λ i. map (λ y. (outer ++ (i ∷ [])) ++ y) (points N (outer ++ (i ∷ []))))
     (λ i. map-map (λ y. outer ++ y) (λ y. i ∷ y) (points N (outer ++ (i ∷ []))) ∙ map-same (λ y. outer ++ (i ∷ y)) (λ y. (outer ++ (i ∷ [])) ++ y) (points N (outer ++ (i ∷ []))) (λ y _. sym (append-assoc outer (i ∷ []) y)))
     (indices L outer)
 

@@ -2,3 +2,4 @@
 pub mod Flat
 pub mod Ranges
 pub mod Tallies
+pub mod Surveys

@@ -9,6 +9,7 @@ ghost use Rattle.model.specs.Points.{value, maxZ, minZ, span};
 ghost use Rattle.space.specs.Flat.{limitAt, loopAt};
 ghost use Rattle.space.specs.Ranges.{ceilAt, floorAt, firstFrom, lastFrom, LimitIn, DivisorIn, SideIn, RangeIn, Ranged};
 ghost use Rattle.space.specs.Tallies.{through, capped, outside, seen, IncludeIn, TallyIn, Tallied};
+ghost use Rattle.space.specs.Surveys.{SurveyIn, Surveyed};
 
 // What limit j has against its multiplier times the index: the constant and the coefficients times the indices outside.
 fn value(nest: &[i64], j: usize, outer: &[i64]) -> i64
@@ -152,7 +153,14 @@ fn outside(e: Ends, bound: usize) -> bool
 }
 
 // The tally with the points that go on from the indices outer by one loop: the ends of its range decide.
-fn include(nest: &[i64], counts: &[usize], outer: &[i64], bound: usize, most: usize, a: Tally) -> Tally
+fn include(
+    nest: &[i64],
+    counts: &[usize],
+    outer: &[i64],
+    bound: usize,
+    most: usize,
+    a: Tally,
+) -> Tally
     requires { ⌜ IncludeIn (now nest) (now counts) (now outer) bound most a ⌝ }
     ensures { λ r. ⌜ (r ≡ seen bound most a (through (loopAt (now (nest .entry)) (now (counts .entry)) (length (now (outer .entry))) ∷ []) (now (outer .entry)))) × (r .count ≤ suc most) ⌝ }
 {
@@ -179,7 +187,16 @@ fn moved(point: [i64; 6], k: usize, e: Ends, t: usize) -> [i64; 6]
 }
 
 // The tally with the points that go on from the first k indices of a point by the next `left` loops. The last loop's range is not walked.
-pub fn tally_points(nest: &[i64], counts: &[usize], k: usize, left: usize, point: [i64; 6], bound: usize, most: usize, a: Tally) -> Tally
+pub fn tally_points(
+    nest: &[i64],
+    counts: &[usize],
+    k: usize,
+    left: usize,
+    point: [i64; 6],
+    bound: usize,
+    most: usize,
+    a: Tally,
+) -> Tally
     requires { ⌜ TallyIn (now nest) (now counts) k left point bound most a ⌝ }
     ensures { λ r. ⌜ Tallied (now (nest .entry)) (now (counts .entry)) k left point bound most a r ⌝ }
 {
@@ -196,4 +213,43 @@ pub fn tally_points(nest: &[i64], counts: &[usize], k: usize, left: usize, point
         t += 1;
     }
     b
+}
+
+// Whether every depth of a nest keeps its bounds, or the first that does not.
+pub enum Verdict {
+    Admitted,
+    // document 01: far index
+    FarIndex(usize),
+    Crowded(usize),
+}
+
+// Depth by depth: a partial point whose last index is beyond ±bound, then more than `most` of them.
+pub fn survey(nest: &[i64], counts: &[usize], depth: usize, bound: usize, most: usize) -> Verdict
+    requires { ⌜ SurveyIn (now nest) (now counts) depth bound most ⌝ }
+    ensures { λ r. ⌜ Surveyed (now (nest .entry)) (now (counts .entry)) depth bound most r ⌝ }
+{
+    let mut level = 1;
+    while level <= depth {
+        let seen = tally_points(
+            nest,
+            counts,
+            0,
+            level,
+            [0; 6],
+            bound,
+            most,
+            Tally {
+                far: false,
+                count: 0,
+            },
+        );
+        if seen.far {
+            return Verdict::FarIndex(level);
+        }
+        if most < seen.count {
+            return Verdict::Crowded(level);
+        }
+        level += 1;
+    }
+    Verdict::Admitted
 }
