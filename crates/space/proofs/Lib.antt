@@ -10,3 +10,5 @@ pub mod StepLaws
 pub mod WalkLaws
 pub mod SurveyLaws
 pub mod DepthLaws
+pub mod CollectLaws
+pub mod StoreLaws

@@ -3,3 +3,4 @@ pub mod Flat
 pub mod Ranges
 pub mod Tallies
 pub mod Surveys
+pub mod Stored

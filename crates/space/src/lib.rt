@@ -1,15 +1,17 @@
 // The iteration points of a loop nest, and their bounds. A nest is lent as flat slices (specs/Flat), the indices outside a loop as a slice.
 ghost use mathlib.Core.Path.{_≡_};
 ghost use mathlib.Core.List.{[], _∷_};
-ghost use Prim.Native.Nat.{suc, _≤_, _<_};
+ghost use Prim.Native.Nat.{suc, _+_, _≤_, _<_};
 ghost use lib.IntN.{pos, _+ℤ_, _-ℤ_};
 ghost use lib.ListN.{length, set};
+ghost use Rattle.lists.specs.Parts.{put};
 ghost use Rattle.integers.specs.Difference.{size};
 ghost use Rattle.model.specs.Points.{value, maxZ, minZ, span};
 ghost use Rattle.space.specs.Flat.{limitAt, loopAt};
 ghost use Rattle.space.specs.Ranges.{ceilAt, floorAt, firstFrom, lastFrom, LimitIn, DivisorIn, SideIn, RangeIn, Ranged};
 ghost use Rattle.space.specs.Tallies.{through, capped, outside, seen, IncludeIn, TallyIn, Tallied};
 ghost use Rattle.space.specs.Surveys.{SurveyIn, Surveyed};
+ghost use Rattle.space.specs.Stored.{CollectIn, Collected, PointsIn, Listed};
 
 // What limit j has against its multiplier times the index: the constant and the coefficients times the indices outside.
 fn value(nest: &[i64], j: usize, outer: &[i64]) -> i64
@@ -252,4 +254,54 @@ pub fn survey(nest: &[i64], counts: &[usize], depth: usize, bound: usize, most: 
         level += 1;
     }
     Verdict::Admitted
+}
+
+// Writes a row into out from place at on.
+fn store(out: &mut [i64], at: usize, row: &[i64])
+    requires { ⌜ at + length (now row) ≤ length (now out) ⌝ }
+    ensures { λ _. ⌜ now (out .exit) ≡ put (now (out .entry)) at (now (row .entry)) ⌝ }
+{
+    let mut j = 0;
+    while j < row.len() {
+        out[at + j] = row[j];
+        j += 1;
+    }
+}
+
+// Writes the points that go on from the first k indices of a point by the next `left` loops into out, in order; returns the place after them.
+fn collect(
+    nest: &[i64],
+    counts: &[usize],
+    k: usize,
+    left: usize,
+    point: [i64; 6],
+    out: &mut [i64],
+    at: usize,
+) -> usize
+    requires { ⌜ CollectIn (now nest) (now counts) k left point (length (now out)) at ⌝ }
+    ensures { λ r. ⌜ Collected (now (nest .entry)) (now (counts .entry)) k left point (now (out .entry)) (now (out .exit)) at r ⌝ }
+{
+    if left == 0 {
+        store(out, at, &point[..k]);
+        return at + k;
+    }
+    let e = range(nest, counts, &point[..k]);
+    let n = count(e);
+    let mut p = at;
+    let mut t = 0;
+    while t < n {
+        let q = moved(point, k, e, t);
+        p = collect(nest, counts, k + 1, left - 1, q, out, p);
+        t += 1;
+    }
+    p
+}
+
+// All points of a nest that keeps its bounds, row by row in order; returns how many.
+pub fn list_points(nest: &[i64], counts: &[usize], depth: usize, out: &mut [i64]) -> usize
+    requires { ⌜ PointsIn (now nest) (now counts) depth (length (now out)) ⌝ }
+    ensures { λ r. ⌜ Listed (now (nest .entry)) (now (counts .entry)) depth (now (out .entry)) (now (out .exit)) r ⌝ }
+{
+    let end = collect(nest, counts, 0, depth, [0; 6], out, 0);
+    end / depth
 }
