@@ -12,3 +12,4 @@ pub mod SurveyLaws
 pub mod DepthLaws
 pub mod CollectLaws
 pub mod StoreLaws
+pub mod ListLaws
