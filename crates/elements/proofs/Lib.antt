@@ -1,3 +1,6 @@
 -- Laws that the crate's contracts need.
 pub mod SubscriptLaws
 pub mod RowLaws
+pub mod LayoutLaws
+pub mod StrayLaws
+pub mod FindLaws

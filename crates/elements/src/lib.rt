@@ -7,7 +7,7 @@ ghost use Rattle.lists.specs.Parts.{rows};
 ghost use Rattle.integers.specs.Difference.{size};
 ghost use Rattle.model.specs.Bounds.{subscriptAt};
 ghost use Rattle.elements.specs.Layout.{formAt};
-ghost use Rattle.elements.specs.Search.{off, straysAt, SubscriptIn, StrayIn};
+ghost use Rattle.elements.specs.Search.{off, straysAt, SubscriptIn, StrayIn, SearchIn, Searched};
 
 // Subscript j of all, at a point.
 fn subscript(words: &[i64], j: usize, point: &[i64]) -> i64
@@ -31,7 +31,14 @@ fn leaves(words: &[i64], j: usize, extent: usize, point: &[i64]) -> bool
 }
 
 // Whether some point's subscript j leaves its extent.
-fn strays(words: &[i64], j: usize, extent: usize, points: &[i64], depth: usize, count: usize) -> bool
+fn strays(
+    words: &[i64],
+    j: usize,
+    extent: usize,
+    points: &[i64],
+    depth: usize,
+    count: usize,
+) -> bool
     requires { ⌜ StrayIn (now words) j extent (now points) depth count ⌝ }
     ensures { λ r. ⌜ r ≡ straysAt (now (words .entry)) depth j extent (rows depth count (now (points .entry))) ⌝ }
 {
@@ -45,4 +52,43 @@ fn strays(words: &[i64], j: usize, extent: usize, points: &[i64], depth: usize, 
         i += 1;
     }
     false
+}
+
+// The number of the first statement that has a subscript which leaves its extent at some point, or 0.
+pub fn find_stray(
+    words: &[i64],
+    owners: &[usize],
+    arrays: &[usize],
+    sizes: &[usize],
+    points: &[i64],
+    depth: usize,
+    count: usize,
+) -> usize
+    requires { ⌜ SearchIn (now words) (now owners) (now arrays) (now sizes) (now points) depth count ⌝ }
+    ensures { λ r. ⌜ Searched (now (words .entry)) (now (owners .entry)) (now (arrays .entry)) (now (sizes .entry)) (now (points .entry)) depth count r ⌝ }
+{
+    let mut found = 0;
+    let mut first = 0;
+    let mut statement = 0;
+    'search: while statement < sizes.len() {
+        let n = sizes[statement];
+        let mut i = 0;
+        'accesses: while i < n {
+            let k = first + i;
+            let at = owners[k] * 4;
+            let dimensions = arrays[at];
+            let mut d = 0;
+            'dimensions: while d < dimensions {
+                if strays(words, k * 3 + d, arrays[at + 1 + d], points, depth, count) {
+                    found = statement + 1;
+                    break 'search;
+                }
+                d += 1;
+            }
+            i += 1;
+        }
+        first += n;
+        statement += 1;
+    }
+    found
 }
