@@ -13,9 +13,9 @@ use Rattle.model.specs.Answer.{accepted, refused}
 use Rattle.model.specs.Ticket.{Access, Statement}
 use Rattle.model.specs.Bounds.{accessesOf, inArrays}
 use Rattle.model.specs.Store.{sum}
-use Rattle.elements.specs.Layout.{extentsAt, arraysOf, accessesFrom, bodiesFrom}
+use Rattle.elements.specs.Layout.{extentsAt, arraysOf, accessesFrom, bodiesFrom, ArrayIn}
 use Rattle.elements.specs.Search.{straysAt, StrayIn, inBodies, answerOf, SearchIn, Searched}
-use Rattle.elements.proofs.LayoutLaws.{array-ends, extents-length, extent-read, bodies-drop, sum-drop}
+use Rattle.elements.proofs.LayoutLaws.{array-in, array-ends, extents-length, extent-read, bodies-drop, sum-drop}
 use Rattle.elements.proofs.StrayLaws.{grows, dimensionsStray, no-dimension, one-dimension, accessStrays, accessesStray, all-dimensions, no-access, one-access, in-bodies, body-clear, body-strays, no-body}
 
 -- the statements before s are clear
@@ -62,8 +62,11 @@ module _ (w : List ℤ) (o a sizes : List ℕ) (points : List ℤ) (depth count 
         pub owner : getD o (first + i) 0 < length a / 4
         owner = p .accesses .there (first + i) there
 
+        array : ArrayIn a (getD o (first + i) 0)
+        array = array-in w o a depth (getD o (first + i) 0) (p .accesses) owner
+
         pub owner-ends : getD o (first + i) 0 * 4 + 4 ≤ length a
-        owner-ends = array-ends w o a depth (p .accesses) (getD o (first + i) 0) owner
+        owner-ends = array-ends a (getD o (first + i) 0) array
 
         pub flat : getD a (getD o (first + i) 0 * 4) 0 ≤ 3
         flat = p .accesses .dimensions (getD o (first + i) 0) owner
@@ -89,9 +92,9 @@ module _ (w : List ℤ) (o a sizes : List ℕ) (points : List ℤ) (depth count 
 
           more : dimensionsStray w (extentsAt a (getD o (first + i) 0)) depth (rows depth count points) ((first + i) * 3) (suc d)
               ≡ dimensionsStray w (extentsAt a (getD o (first + i) 0)) depth (rows depth count points) ((first + i) * 3) d || straysAt w depth ((first + i) * 3 + d) (getD a (getD o (first + i) 0 * 4 + 1 + d) 0) (rows depth count points)
-          more = one-dimension w (extentsAt a (getD o (first + i) 0)) depth (rows depth count points) ((first + i) * 3) d (let e = extents-length w o a depth (p .accesses) (getD o (first + i) 0) owner in omega arith)
+          more = one-dimension w (extentsAt a (getD o (first + i) 0)) depth (rows depth count points) ((first + i) * 3) d (let e = extents-length a (getD o (first + i) 0) array in omega arith)
               ∙ ap (λ (x : ℕ). dimensionsStray w (extentsAt a (getD o (first + i) 0)) depth (rows depth count points) ((first + i) * 3) d || straysAt w depth ((first + i) * 3 + d) x (rows depth count points))
-              (extent-read w o a depth (p .accesses) (getD o (first + i) 0) owner d m)
+              (extent-read a (getD o (first + i) 0) array d m)
 
           module _ (r : Bool) (q : r ≡ straysAt w depth ((first + i) * 3 + d) (getD a (getD o (first + i) 0 * 4 + 1 + d) 0) (rows depth count points))
               (e : dimensionsStray w (extentsAt a (getD o (first + i) 0)) depth (rows depth count points) ((first + i) * 3) d ≡ false) where
@@ -103,7 +106,7 @@ module _ (w : List ℤ) (o a sizes : List ℕ) (points : List ℤ) (depth count 
                 sym (all-dimensions w o a depth (rows depth count points) (p .accesses) (first + i) there)
                 ∙ grows (dimensionsStray w (extentsAt a (getD o (first + i) 0)) depth (rows depth count points) ((first + i) * 3)) (λ k. straysAt w depth ((first + i) * 3 + k) (getD (extentsAt a (getD o (first + i) 0)) k 0) (rows depth count points))
                 (getD a (getD o (first + i) 0 * 4) 0)
-                (λ k z. one-dimension w (extentsAt a (getD o (first + i) 0)) depth (rows depth count points) ((first + i) * 3) k (let x = extents-length w o a depth (p .accesses) (getD o (first + i) 0) owner in omega arith))
+                (λ k z. one-dimension w (extentsAt a (getD o (first + i) 0)) depth (rows depth count points) ((first + i) * 3) k (let x = extents-length a (getD o (first + i) 0) array in omega arith))
                 (suc d) m (more ∙ rw (e, ← q, t))
 
             pub found : r ≡ true → accessesStray w o a depth (rows depth count points) first i ≡ false → Searched w o a sizes points depth count (s + 1)

@@ -11,7 +11,7 @@ use lib.Seq.{length-take-le, getD-take, getD-drop, drop-cons}
 use Rattle.model.specs.Ticket.{Subscript, Access}
 use Rattle.model.specs.Grammar.{extents}
 use Rattle.model.specs.Store.{sum}
-use Rattle.elements.specs.Layout.{extentsAt, arraysFrom, arraysOf, formAt, formsFrom, accessAt, accessesFrom, bodiesFrom, AccessesOk}
+use Rattle.elements.specs.Layout.{extentsAt, arraysFrom, arraysOf, formAt, formsFrom, accessAt, accessesFrom, bodiesFrom, ArrayIn, AccessesOk}
 
 -- ---- arrays
 
@@ -21,18 +21,21 @@ extents-from a j zero i h = absurd (omega arith)
 extents-from a j (suc m) zero h = ap (extentsAt a) (sym (add-zero j))
 extents-from a j (suc m) (suc i) h = extents-from a (suc j) m i (omega arith) ∙ ap (extentsAt a) (suc-add j i ∙ sym (add-suc j i))
 
-module _ (w : List ℤ) (o a : List ℕ) (n : ℕ) (p : AccessesOk w o a n) (i : ℕ) (h : i < length a / 4) where
+pub array-in : (w : List ℤ) (o a : List ℕ) (n i : ℕ) → AccessesOk w o a n → i < length a / 4 → ArrayIn a i
+array-in w o a n i p h = record { few = p .few; there = h; dimensions = p .dimensions; extents = p .extents }
+
+module _ (a : List ℕ) (i : ℕ) (p : ArrayIn a i) where
   pub array-ends : i * 4 + 4 ≤ length a
-  array-ends = let d = mul-div-le (length a) 4 in omega arith
+  array-ends = let d = mul-div-le (length a) 4 in let h = p .there in omega arith
 
   pub extents-are : extents (arraysOf a) i ≡ extentsAt a i
   unfolding arraysOf
-  extents-are = extents-from a 0 (length a / 4) i h ∙ ap (extentsAt a) (zero-add i)
+  extents-are = extents-from a 0 (length a / 4) i (p .there) ∙ ap (extentsAt a) (zero-add i)
 
   pub extents-length : length (extentsAt a i) ≡ getD a (i * 4) 0
   unfolding extentsAt
   extents-length = length-take-le (getD a (i * 4) 0) (drop (i * 4 + 1) a)
-      (let d = p .dimensions i h in let e = array-ends in let l = length-drop (i * 4 + 1) a in omega arith)
+      (let d = p .dimensions i (p .there) in let e = array-ends in let l = length-drop (i * 4 + 1) a in omega arith)
 
   pub extent-read : (d : ℕ) → d < getD a (i * 4) 0 → getD (extentsAt a i) d 0 ≡ getD a (i * 4 + 1 + d) 0
   unfolding extentsAt

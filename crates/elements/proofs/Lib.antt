@@ -4,3 +4,5 @@ pub mod RowLaws
 pub mod LayoutLaws
 pub mod StrayLaws
 pub mod FindLaws
+pub mod ElementLaws
+pub mod PlaceLaws

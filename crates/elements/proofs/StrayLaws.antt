@@ -17,7 +17,7 @@ use Rattle.model.specs.Ticket.{Access, Statement}
 use Rattle.model.specs.Bounds.{subscriptAt, outside, strays, accessesOf, inArrays}
 use Rattle.elements.specs.Layout.{extentsAt, arraysOf, formAt, formsFrom, accessAt, accessesFrom, AccessesOk}
 use Rattle.elements.specs.Search.{off, straysAt, inBodies}
-use Rattle.elements.proofs.LayoutLaws.{extents-are, extents-length, forms-snoc, forms-length, accesses-snoc}
+use Rattle.elements.proofs.LayoutLaws.{array-in, extents-are, extents-length, forms-snoc, forms-length, accesses-snoc}
 
 -- ---- tests of all points
 
@@ -85,8 +85,8 @@ module _ (w : List ℤ) (o a : List ℕ) (n : ℕ) (ps : List (List ℤ)) (ok : 
   pub all-dimensions : (k : ℕ) → k < length o → dimensionsStray w (extentsAt a (getD o k 0)) n ps (k * 3) (getD a (getD o k 0 * 4) 0) ≡ accessStrays w o a n ps k
   unfolding strays accessAt
   all-dimensions k h =
-      let e : extentsAt a (getD o k 0) ≡ take (getD a (getD o k 0 * 4) 0) (extentsAt a (getD o k 0)) = sym (ap (λ (m : ℕ). take m (extentsAt a (getD o k 0))) (sym (extents-length w o a n ok (getD o k 0) (ok .there k h))) ∙ take-length (extentsAt a (getD o k 0))) in
-      ap (λ (ns : List ℕ). any (λ p. outside ns (map (subscriptAt p) (formsFrom w n (k * 3) (getD a (getD o k 0 * 4) 0)))) ps) (sym (extents-are w o a n ok (getD o k 0) (ok .there k h) ∙ e))
+      let e : extentsAt a (getD o k 0) ≡ take (getD a (getD o k 0 * 4) 0) (extentsAt a (getD o k 0)) = sym (ap (λ (m : ℕ). take m (extentsAt a (getD o k 0))) (sym (extents-length a (getD o k 0) (array-in w o a n (getD o k 0) ok (ok .there k h)))) ∙ take-length (extentsAt a (getD o k 0))) in
+      ap (λ (ns : List ℕ). any (λ p. outside ns (map (subscriptAt p) (formsFrom w n (k * 3) (getD a (getD o k 0 * 4) 0)))) ps) (sym (extents-are a (getD o k 0) (array-in w o a n (getD o k 0) ok (ok .there k h)) ∙ e))
 
   pub no-access : (k : ℕ) → accessesStray w o a n ps k 0 ≡ false
   unfolding accessesFrom any

@@ -1,13 +1,17 @@
 // Subscripts within their extents, and the elements of a store that the accesses name. Arrays and accesses are lent as flat slices
 // (specs/Layout), points as rows.
 ghost use mathlib.Core.Path.{_≡_};
-ghost use Prim.Native.Nat.{_≤_};
+ghost use Prim.Native.Nat.{_≤_, _<_};
+ghost use lib.IntN.{natAbs};
 ghost use lib.ListN.{length};
 ghost use Rattle.lists.specs.Parts.{rows};
 ghost use Rattle.integers.specs.Difference.{size};
+ghost use Rattle.model.specs.Grammar.{elements};
 ghost use Rattle.model.specs.Bounds.{subscriptAt};
-ghost use Rattle.elements.specs.Layout.{formAt};
+ghost use Rattle.model.specs.Store.{base};
+ghost use Rattle.elements.specs.Layout.{extentsAt, arraysOf, formAt, ArrayIn};
 ghost use Rattle.elements.specs.Search.{off, straysAt, SubscriptIn, StrayIn, SearchIn, Searched};
+ghost use Rattle.elements.specs.Places.{BaseIn, IndexIn, PlaceIn, placeAt};
 
 // Subscript j of all, at a point.
 fn subscript(words: &[i64], j: usize, point: &[i64]) -> i64
@@ -91,4 +95,64 @@ pub fn find_stray(
         statement += 1;
     }
     found
+}
+
+// The number of elements of array i.
+fn elements_of(arrays: &[usize], i: usize) -> usize
+    requires { ⌜ ArrayIn (now arrays) i ⌝ }
+    ensures { λ r. ⌜ r ≡ elements (extentsAt (now (arrays .entry)) i) ⌝ }
+{
+    let at = i * 4;
+    let mut d = arrays[at];
+    let mut r = 1;
+    while 0 < d {
+        d -= 1;
+        r = arrays[at + 1 + d] * r;
+    }
+    r
+}
+
+// Where array i begins in the store.
+fn base_of(arrays: &[usize], i: usize) -> usize
+    requires { ⌜ BaseIn (now arrays) i ⌝ }
+    ensures { λ r. ⌜ r ≡ base (arraysOf (now (arrays .entry))) i ⌝ }
+{
+    let mut r = 0;
+    let mut j = 0;
+    while j < i {
+        r += elements_of(arrays, j);
+        j += 1;
+    }
+    r
+}
+
+// Subscript j of all at a point, where it is not negative.
+fn index(words: &[i64], j: usize, point: &[i64]) -> usize
+    requires { ⌜ IndexIn (now words) j (now point) ⌝ }
+    ensures { λ r. ⌜ r ≡ natAbs (subscriptAt (now (point .entry)) (formAt (now (words .entry)) (length (now (point .entry))) j)) ⌝ }
+{
+    subscript(words, j, point) as usize
+}
+
+// The place in the store of access k at a point; its array begins at b.
+fn place(
+    words: &[i64],
+    owners: &[usize],
+    arrays: &[usize],
+    k: usize,
+    b: usize,
+    point: &[i64],
+) -> usize
+    requires { ⌜ PlaceIn (now words) (now owners) (now arrays) k b (now point) ⌝ }
+    ensures { λ r. ⌜ (r ≡ placeAt (now (words .entry)) (now (owners .entry)) (now (arrays .entry)) (length (now (point .entry))) k (now (point .entry))) × (r < 16384) ⌝ }
+{
+    let at = owners[k] * 4;
+    let dimensions = arrays[at];
+    let mut r = 0;
+    let mut d = 0;
+    while d < dimensions {
+        r = r * arrays[at + 1 + d] + index(words, k * 3 + d, point);
+        d += 1;
+    }
+    b + r
 }
