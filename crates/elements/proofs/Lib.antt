@@ -6,3 +6,4 @@ pub mod StrayLaws
 pub mod FindLaws
 pub mod ElementLaws
 pub mod PlaceLaws
+pub mod NumberLaws

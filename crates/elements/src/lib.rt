@@ -1,17 +1,17 @@
 // Subscripts within their extents, and the elements of a store that the accesses name. Arrays and accesses are lent as flat slices
 // (specs/Layout), points as rows.
 ghost use mathlib.Core.Path.{_≡_};
-ghost use Prim.Native.Nat.{_≤_, _<_};
+ghost use Prim.Native.Nat.{_*_, _≤_, _<_};
 ghost use lib.IntN.{natAbs};
 ghost use lib.ListN.{length};
-ghost use Rattle.lists.specs.Parts.{rows};
+ghost use Rattle.lists.specs.Parts.{rows, put};
 ghost use Rattle.integers.specs.Difference.{size};
 ghost use Rattle.model.specs.Grammar.{elements};
 ghost use Rattle.model.specs.Bounds.{subscriptAt};
 ghost use Rattle.model.specs.Store.{base};
 ghost use Rattle.elements.specs.Layout.{extentsAt, arraysOf, formAt, ArrayIn};
 ghost use Rattle.elements.specs.Search.{off, straysAt, SubscriptIn, StrayIn, SearchIn, Searched};
-ghost use Rattle.elements.specs.Places.{BaseIn, IndexIn, PlaceIn, placeAt};
+ghost use Rattle.elements.specs.Places.{BaseIn, IndexIn, PlaceIn, NumberIn, placeAt, placesOf, numbered};
 
 // Subscript j of all, at a point.
 fn subscript(words: &[i64], j: usize, point: &[i64]) -> i64
@@ -155,4 +155,50 @@ fn place(
         d += 1;
     }
     b + r
+}
+
+// Writes the place of access k at every point, from place 4096 k on.
+fn number_access(
+    words: &[i64],
+    owners: &[usize],
+    arrays: &[usize],
+    k: usize,
+    points: &[i64],
+    depth: usize,
+    count: usize,
+    out: &mut [u16],
+)
+    requires { ⌜ NumberIn (now words) (now owners) (now arrays) (now points) depth count (length (now out)) × (k < length (now owners)) ⌝ }
+    ensures { λ _. ⌜ now (out .exit) ≡ put (now (out .entry)) (k * 4096) (placesOf (now (words .entry)) (now (owners .entry)) (now (arrays .entry)) depth (rows depth count (now (points .entry))) k) ⌝ }
+{
+    let b = base_of(arrays, owners[k]);
+    let first = k * 4096;
+    let mut at = 0;
+    let mut i = 0;
+    while i < count {
+        let p = place(words, owners, arrays, k, b, &points[at..at + depth]);
+        out[first + i] = p as u16;
+        at += depth;
+        i += 1;
+    }
+}
+
+// Writes the place of every access at every point, 4096 numbers apart.
+pub fn number_accesses(
+    words: &[i64],
+    owners: &[usize],
+    arrays: &[usize],
+    points: &[i64],
+    depth: usize,
+    count: usize,
+    out: &mut [u16],
+)
+    requires { ⌜ NumberIn (now words) (now owners) (now arrays) (now points) depth count (length (now out)) ⌝ }
+    ensures { λ _. ⌜ now (out .exit) ≡ numbered (placesOf (now (words .entry)) (now (owners .entry)) (now (arrays .entry)) depth (rows depth count (now (points .entry)))) (length (now (owners .entry))) (now (out .entry)) ⌝ }
+{
+    let mut k = 0;
+    while k < owners.len() {
+        number_access(words, owners, arrays, k, points, depth, count, out);
+        k += 1;
+    }
 }
