@@ -1,5 +1,4 @@
 -- `list_points`: `collect` from no index on; the place after the points is their number times the depth.
-use mathlib.Core.Path.{refl}
 use lib.ListN.{length}
 use Rattle.space.proofs.ListLaws.{list-in, list-out}
 use borrow.Author.Needs.{needs}
@@ -23,7 +22,7 @@ same-length c = search needs
 
 -- src/lib.rt:301:1
 returns : tie.Need-returns
-returns c = let s = c .before .before .before .before in list-out (s .args .nest .now) (s .args .counts .now) (s .args .depth) (length (s .args .out .now)) (s .pre) _ (s .args .out .now) (c .before .collect .last .1 .1 .1 .1 .1 .0) (c .before .collect .result) refl (c .before .collect .ensures)
+returns c = let s = c .before .before .before .before in list-out (s .args .nest .now) (s .args .counts .now) (s .args .depth) (length (s .args .out .now)) (s .pre) _ (s .args .out .now) (c .before .collect .last .1 .1 .1 .1 .1 .0) (c .before .collect .result) (c .before .collect .ensures)
 
 pub list-points-spec : {M : Type 1} → statement M
 list-points-spec = tie.close (tie.spec collect-requires div-result same-length returns)
