@@ -7,3 +7,5 @@ pub mod FindLaws
 pub mod ElementLaws
 pub mod PlaceLaws
 pub mod NumberLaws
+pub mod AdmittedLaws
+pub mod Witness
