@@ -11,7 +11,6 @@ use lib.IntN.{ℤ}
 use lib.ListN.{length}
 use Rattle.lists.specs.Membership.{Mem, All}
 use Rattle.lists.specs.Tests.{any}
-use Rattle.lists.specs.Parts.{rows}
 use Rattle.lists.proofs.TestLaws.{some-any, none-any, not-T-false}
 use Rattle.integers.proofs.AffineLaws.{within-more}
 use Rattle.model.specs.Answer.{Answer, accepted, refused}
@@ -64,7 +63,7 @@ module _ (w : List ℤ) (o a : List ℕ) (n : ℕ) (ps : List (List ℤ)) where
       ⊎-elim
       (λ (l : i < m). body-inside (arraysOf a) ps (accessesFrom w o a n k m) (q .0) (accessAt w o a n (k + i)) (access-mem w o a n k m i l))
       (λ (l : m ≤ i). let z : k + m + (i - m) ≡ k + i = omega arith in
-          subst (λ (x : ℕ). All (λ p. strays (arraysOf a) p (accessAt w o a n x) ≡ false) ps) z (bodies-inside ms (suc j) (k + m) (q .1) (i - m) (omega arith)))
+      subst (λ (x : ℕ). All (λ p. strays (arraysOf a) p (accessAt w o a n x) ≡ false) ps) z (bodies-inside ms (suc j) (k + m) (q .1) (i - m) (omega arith)))
       (split (decLt i m))
     where
       split : Dec (i < m) → (i < m) ⊎ (m ≤ i)

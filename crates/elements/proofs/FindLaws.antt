@@ -1,7 +1,7 @@
 -- What the search for refusal 9 needs where it stands: at statement s, whose first access is `first`, at its access i, in dimension d.
 use mathlib.Core.Path.{_≡_, refl, sym, _∙_, ap, subst}
 use mathlib.Core.Bool.{Bool, true, false, _||_}
-use mathlib.Core.List.{List, [], _∷_, map}
+use mathlib.Core.List.{List, [], _∷_}
 use Prim.Native.Nat.{ℕ, suc, _+_, _*_, _/_, _≤_, _<_}
 use native.Mathlib.Omega.{arith}
 use native.Mathlib.Numerals.{add-one}
@@ -9,14 +9,11 @@ use lib.IntN.{ℤ}
 use lib.ListN.{length, getD, drop}
 use lib.Seq.{drop-length}
 use Rattle.lists.specs.Parts.{rows}
-use Rattle.model.specs.Answer.{accepted, refused}
-use Rattle.model.specs.Ticket.{Access, Statement}
-use Rattle.model.specs.Bounds.{accessesOf, inArrays}
 use Rattle.model.specs.Store.{sum}
 use Rattle.elements.specs.Layout.{extentsAt, arraysOf, accessesFrom, bodiesFrom, ArrayIn}
 use Rattle.elements.specs.Search.{straysAt, StrayIn, inBodies, answerOf, SearchIn, Searched}
 use Rattle.elements.proofs.LayoutLaws.{array-in, array-ends, extents-length, extent-read, bodies-drop, sum-drop}
-use Rattle.elements.proofs.StrayLaws.{grows, dimensionsStray, no-dimension, one-dimension, accessStrays, accessesStray, all-dimensions, no-access, one-access, in-bodies, body-clear, body-strays, no-body}
+use Rattle.elements.proofs.StrayLaws.{grows, dimensionsStray, one-dimension, accessStrays, accessesStray, all-dimensions, one-access, in-bodies, body-clear, body-strays, no-body}
 
 -- the statements before s are clear
 pub record Reached (w : List ℤ) (o a sizes : List ℕ) (points : List ℤ) (depth count first s : ℕ) : Type 0 where

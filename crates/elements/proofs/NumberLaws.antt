@@ -1,9 +1,9 @@
 -- The numbers of one access at the stored points, one more; then those of all accesses, and what is read back of them.
-use mathlib.Core.Path.{_≡_, refl, sym, _∙_, ap, ap₂, subst}
+use mathlib.Core.Path.{_≡_, refl, sym, _∙_, ap, subst}
 use mathlib.Core.Bool.{false}
 use mathlib.Core.Logic.{⊎-elim}
 use mathlib.Core.List.{List, [], _∷_, _++_, map, map-append}
-use Prim.Native.Nat.{ℕ, zero, suc, _+_, _*_, _-_, _/_, _≤_, _<_}
+use Prim.Native.Nat.{ℕ, zero, suc, _+_, _*_, _-_, _≤_, _<_}
 use native.Mathlib.Omega.{arith}
 use native.Mathlib.Nat.{eq-or-lt-of-le}
 use native.Mathlib.Numerals.{add-one}
@@ -13,7 +13,7 @@ use Rattle.lists.specs.Parts.{rows, put}
 use Rattle.lists.proofs.PartLaws.{length-rows, length-put, set-put, put-nil, getD-put, getD-put-before}
 use Rattle.model.specs.Bounds.{strays}
 use Rattle.model.specs.Store.{base}
-use Rattle.elements.specs.Layout.{arraysOf, accessAt, AccessesOk}
+use Rattle.elements.specs.Layout.{arraysOf, accessAt}
 use Rattle.elements.specs.Places.{BaseIn, PlaceIn, NumberIn, placeAt, placesOf, numbered}
 use Rattle.elements.proofs.LayoutLaws.{array-in}
 use Rattle.elements.proofs.RowLaws.{lent, row-is, row-length, row-mem, row-near, next-rows}

@@ -14,19 +14,18 @@ use mir.Syntax.{w64}
 use mir.Val.{Fits, toZ, ofZ}
 use lib.Dec.{T}
 use lib.Signed.{nonNeg}
-use Rattle.lists.proofs.TestLaws.{cond-cases}
 use Rattle.lists.proofs.MembershipLaws.{all-take}
 use Rattle.integers.specs.Difference.{size}
 use Rattle.integers.proofs.RingLaws.{zarith, nonneg-down}
 use Rattle.integers.proofs.RangeLaws.{test-lt-no, test-le-no, size-natAbs, size-fits, cast-ok}
 use Rattle.model.specs.Ticket.{Subscript}
-use Rattle.model.specs.Grammar.{elements, total, extents}
+use Rattle.model.specs.Grammar.{elements, extents}
 use Rattle.model.specs.Bounds.{subscriptAt, outside, strays}
 use Rattle.model.specs.Machine.{element}
-use Rattle.model.specs.Store.{base, placeFrom, placeOf}
+use Rattle.model.specs.Store.{placeFrom, placeOf}
 use Rattle.space.proofs.LimitLaws.{copied}
-use Rattle.elements.specs.Layout.{extentsAt, arraysOf, formAt, formsFrom, accessAt, ArrayIn}
-use Rattle.elements.specs.Search.{off, SubscriptIn}
+use Rattle.elements.specs.Layout.{extentsAt, formAt, formsFrom, accessAt, ArrayIn}
+use Rattle.elements.specs.Search.{off}
 use Rattle.elements.specs.Places.{IndexIn, PlaceIn, placeAt}
 use Rattle.elements.proofs.LayoutLaws.{array-in, array-ends, extents-are, extents-length, extent-read, forms-snoc, forms-length}
 use Rattle.elements.proofs.ElementLaws.{extents-small, two-small, array-fits}

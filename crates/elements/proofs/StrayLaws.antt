@@ -6,13 +6,12 @@ use mathlib.Core.List.{List, [], _∷_, _++_, map, map-append}
 use Prim.Native.Nat.{ℕ, zero, suc, _+_, _*_, _≤_, _<_}
 use native.Mathlib.Omega.{arith}
 use native.Mathlib.Nat.{eq-or-lt-of-le}
-use lib.Dec.{T}
 use lib.IntN.{ℤ}
-use lib.ListN.{length, getD, take, drop, length-map, length-take}
+use lib.ListN.{length, getD, take, length-map}
 use lib.Seq.{take-suc, take-length, length-take-le}
 use Rattle.lists.specs.Tests.{any}
 use Rattle.lists.proofs.TestLaws.{any-join, any-none}
-use Rattle.model.specs.Answer.{Answer, accepted, refused, require, _>>_, _>>=_}
+use Rattle.model.specs.Answer.{accepted, refused, require, _>>_, _>>=_}
 use Rattle.model.specs.Ticket.{Access, Statement}
 use Rattle.model.specs.Bounds.{subscriptAt, outside, strays, accessesOf, inArrays}
 use Rattle.elements.specs.Layout.{extentsAt, arraysOf, formAt, formsFrom, accessAt, accessesFrom, AccessesOk}

@@ -40,7 +40,6 @@ first-array : (k : ℕ) → k < 1 → getD owners k 0 < 1
 first-array k h = let e : k ≡ 0 = omega arith in subst (λ (j : ℕ). getD owners j 0 < 1) (sym e) (omega arith)
 
 accesses-ok : AccessesOk words owners arrays 1
-
 accesses-ok = record {
   words = refl;
   many = omega arith;

@@ -2,7 +2,7 @@
 use mathlib.Core.Path.{_≡_, refl, sym, _∙_, ap, subst}
 use mathlib.Core.Logic.{⊎-elim}
 use mathlib.Core.List.{List, [], _∷_, _++_, map, List·Memᴰ·not-nil, List·Memᴰ·cases-cons, Memᴰ·of-map}
-use Prim.Native.Nat.{ℕ, zero, suc, _+_, _*_, _/_, _≤_}
+use Prim.Native.Nat.{ℕ, suc, _*_, _/_, _≤_}
 use native.Mathlib.Omega.{arith}
 use native.Mathlib.Nat.{zero-add, mul-le-mul-right, mul-div-cancel}
 use lib.IntN.{ℤ}
@@ -17,7 +17,7 @@ use Rattle.model.specs.Answer.{accepted}
 use Rattle.model.specs.Ticket.{Loop}
 use Rattle.model.specs.Points.{indices, points, partialPoints, iterations}
 use Rattle.model.specs.Bounds.{survey, space}
-use Rattle.space.specs.Flat.{NestOk, loopsFrom}
+use Rattle.space.specs.Flat.{loopsFrom}
 use Rattle.space.specs.Tallies.{through, Near}
 use Rattle.space.specs.Stored.{joined, CollectIn, Collected, PointsIn, Listed}
 use Rattle.space.proofs.ThroughLaws.{through-none, loops-length}

@@ -9,8 +9,6 @@ use Rattle.elements.proofs.LayoutLaws.{array-ends}
 use Rattle.elements.proofs.ElementLaws.{no-extent, one-extent, one-small}
 use Rattle.elements.proofs.elements_of.Statement.{statement}
 use Rattle.elements.proofs.elements_of.Tie as tie
-use Rattle.elements.proofs.elements_of.Reads as reads
-use Rattle.elements.proofs.elements_of.Lts as lts
 
 abbrev Inv-loop : tie.InvT-loop
 Inv-loop arrays i at d₀ r₀ d r = (at ≡ i * 4) × (d ≤ getD arrays (i * 4) 0) × (r ≡ elements (drop d (extentsAt arrays i)))
@@ -18,55 +16,42 @@ Inv-loop arrays i at d₀ r₀ d r = (at ≡ i * 4) × (d ≤ getD arrays (i * 4
 abbrev μ-loop : tie.MeasureT-loop
 μ-loop arrays i at d₀ r₀ d r = d
 
--- src/lib.rt:105:14
 mul-at : tie.Need-mul-at Inv-loop μ-loop
 mul-at c = let s = c in let e = array-ends (s .args .arrays .now) (s .args .i) (s .pre) in let f = s .pre .few in omega arith
 
--- src/lib.rt:106:17
 mul-d : tie.Need-mul-d Inv-loop μ-loop
 mul-d c = let s = c in let e = array-ends (s .args .arrays .now) (s .args .i) (s .pre) in let f = s .pre .few in omega arith
 
--- src/lib.rt:106:17
 shared-slice-read-d : tie.Need-shared-slice-read-d Inv-loop μ-loop
 shared-slice-read-d c = let s = c .before in let e = array-ends (s .args .arrays .now) (s .args .i) (s .pre) in omega arith
 
--- src/lib.rt:108:5
 loop-holds : tie.Need-loop-holds Inv-loop μ-loop
 loop-holds c = let s = c .before in (refl, omega arith, no-extent (s .args .arrays .now) (s .args .i) (s .pre) _ refl)
 
--- src/lib.rt:109:9
 sub-d : tie.Need-sub-d Inv-loop μ-loop
 sub-d c = c .loop-test .taken
 
--- src/lib.rt:110:20
 add-r : tie.Need-add-r Inv-loop μ-loop
 add-r c = let s = c .before .before .before in let e = array-ends (s .args .arrays .now) (s .args .i) (s .pre) in let f = s .pre .few in let d = s .pre .dimensions (s .args .i) (s .pre .there) in omega arith
 
--- src/lib.rt:110:20
 add-r-2 : tie.Need-add-r-2 Inv-loop μ-loop
 add-r-2 c = let s = c .before .before .before in let e = array-ends (s .args .arrays .now) (s .args .i) (s .pre) in let f = s .pre .few in let d = s .pre .dimensions (s .args .i) (s .pre .there) in omega arith
 
--- src/lib.rt:110:13
 mul-r : tie.Need-mul-r Inv-loop μ-loop
 mul-r c = let s = c .before .before .before in let e = array-ends (s .args .arrays .now) (s .args .i) (s .pre) in let f = s .pre .few in let d = s .pre .dimensions (s .args .i) (s .pre .there) in omega arith
 
--- src/lib.rt:110:13
 shared-slice-read-r : tie.Need-shared-slice-read-r Inv-loop μ-loop
 shared-slice-read-r c = let s = c .before .before .before .before in let e = array-ends (s .args .arrays .now) (s .args .i) (s .pre) in let f = s .pre .few in let d = s .pre .dimensions (s .args .i) (s .pre .there) in let v = c .before .loop-test .taken in omega arith
 
--- src/lib.rt:110:13
 mul-r-2 : tie.Need-mul-r-2 Inv-loop μ-loop
 mul-r-2 c = let s = c .before .before .before .before in let l = c .before .before .loop in let v = c .before .loop-test .taken in let b = one-small (s .args .arrays .now) (s .args .i) (s .pre) (l .d) (l .r) v (l .inv .1) (l .inv .2) in record { fits = omega arith }
 
--- src/lib.rt:108:5
 loop-less : tie.Need-loop-less Inv-loop μ-loop
 loop-less c = let v = c .before .loop-test .taken in omega arith
 
--- src/lib.rt:108:5
 loop-again : tie.Need-loop-again Inv-loop μ-loop
 loop-again c = let s = c .before .before .before .before in let l = c .before .before .loop in let v = c .before .loop-test .taken in (refl, omega arith, one-extent (s .args .arrays .now) (s .args .i) (s .pre) (l .d) (l .r) v (l .inv .1) (l .inv .2))
 
--- src/lib.rt:101:1
 returns : tie.Need-returns Inv-loop μ-loop
 returns c = let s = c .before .before .before in let l = c .before .loop in let z : l .d ≡ 0 = omega (arith, c .loop-test .left) in l .inv .2 ∙ ap (λ (k : ℕ). elements (drop k (extentsAt (s .args .arrays .now) (s .args .i)))) z
 

@@ -3,19 +3,13 @@ use Rattle.elements.proofs.PlaceLaws.{index-cast, index-is}
 use borrow.Author.Needs.{needs}
 use Rattle.elements.proofs.index.Statement.{statement}
 use Rattle.elements.proofs.index.Tie as tie
-use Rattle.elements.proofs.index.Reads as reads
-use Rattle.elements.proofs.index.Lts as lts
-use Rattle.elements.proofs.subscript.Reads as subscript-reads
 
--- src/lib.rt:134:5
 subscript-requires : tie.Need-subscript-requires
 subscript-requires c κs = search needs
 
--- src/lib.rt:134:5
 cast-result : tie.Need-cast-result
 cast-result c = let s = c .before in let x = c .subscript in index-cast (s .args .words .now) (s .args .j) (s .args .point .now) (s .pre) (x .result) (x .ensures .0) (x .ensures .1)
 
--- src/lib.rt:130:1
 returns : tie.Need-returns
 returns c = let s = c .before in let x = c .subscript in index-is (s .args .words .now) (s .args .j) (s .args .point .now) (s .pre) (x .result) (x .ensures .0) (x .ensures .1)
 

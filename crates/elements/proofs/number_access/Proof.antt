@@ -11,10 +11,6 @@ use Rattle.elements.proofs.RowLaws.{row-ends, row-small}
 use Rattle.elements.proofs.NumberLaws.{base-in, no-place, same-room, place-in, in-room, place-more}
 use Rattle.elements.proofs.number_access.Statement.{statement}
 use Rattle.elements.proofs.number_access.Tie as tie
-use Rattle.elements.proofs.number_access.Reads as reads
-use Rattle.elements.proofs.number_access.Lts as lts
-use Rattle.elements.proofs.base_of.Reads as base-of-reads
-use Rattle.elements.proofs.place.Reads as place-reads
 
 abbrev Inv-loop : tie.InvT-loop
 Inv-loop words owners arrays k points depth count out₀ b first at₀ i₀ out at i = (i ≤ count) × (at ≡ i * depth) × (out ≡ put out₀ (k * 4096) (placesOf words owners arrays depth (rows depth i points) k))
@@ -22,88 +18,67 @@ Inv-loop words owners arrays k points depth count out₀ b first at₀ i₀ out 
 abbrev μ-loop : tie.MeasureT-loop
 μ-loop words owners arrays k points depth count out₀ b first at₀ i₀ out at i = count - i
 
--- src/lib.rt:165:29
 mul-base-of : tie.Need-mul-base-of Inv-loop μ-loop
 mul-base-of c = let s = c .before .before .before in let m = s .pre .0 .accesses .many in let h = s .pre .1 in omega arith
 
--- src/lib.rt:165:29
 shared-slice-read-base-of : tie.Need-shared-slice-read-base-of Inv-loop μ-loop
 shared-slice-read-base-of c = c .before .before .before .before .pre .1
 
--- src/lib.rt:165:9
 base-of-requires : tie.Need-base-of-requires Inv-loop μ-loop
 base-of-requires c κs = let s = c .before .before .before .before in base-in (s .args .words .now) (s .args .owners .now) (s .args .arrays .now) (s .args .points .now) (s .args .depth) (s .args .count) (length (s .args .out .now)) (s .pre .0) (s .args .k) (s .pre .1)
 
--- src/lib.rt:166:17
 mul-first : tie.Need-mul-first Inv-loop μ-loop
 mul-first c = let s = c .before .before .before .before .before in let m = s .pre .0 .accesses .many in let h = s .pre .1 in omega arith
 
--- src/lib.rt:169:5
 loop-holds : tie.Need-loop-holds Inv-loop μ-loop
 loop-holds c = let s = c .before .before .before .before .before in (omega arith, sym (zero-mul (s .args .depth)), no-place (s .args .words .now) (s .args .owners .now) (s .args .arrays .now) (s .args .points .now) (s .args .depth) (s .args .count) (length (s .args .out .now)) (s .pre .0) (s .args .k) (s .pre .1) (s .args .out .now))
 
--- src/lib.rt:170:64
 add-place : tie.Need-add-place Inv-loop μ-loop
 add-place c = let s = c .before .before .before .before .before .before .before in let l = c .before .loop in let r = row-small (s .args .points .now) (s .args .depth) (s .args .count) (s .pre .0 .stored) (l .i) (l .at) (c .loop-test .taken) (l .inv .1) in omega arith
 
--- src/lib.rt:170:52
 mul-place : tie.Need-mul-place Inv-loop μ-loop
 mul-place c = let s = c .before .before .before .before .before .before .before in let l = c .before .loop in let r = row-small (s .args .points .now) (s .args .depth) (s .args .count) (s .pre .0 .stored) (l .i) (l .at) (c .loop-test .taken) (l .inv .1) in omega arith
 
--- src/lib.rt:170:52
 sub-place : tie.Need-sub-place Inv-loop μ-loop
 sub-place c = omega arith
 
--- src/lib.rt:170:52
 part-place-start : tie.Need-part-place-start Inv-loop μ-loop
 part-place-start c = omega arith
 
--- src/lib.rt:170:52
 part-place-end : tie.Need-part-place-end Inv-loop μ-loop
 part-place-end c = let s = c .before .before .before .before .before .before .before in let l = c .before .loop in row-ends (s .args .points .now) (s .args .depth) (s .args .count) (s .pre .0 .stored) (l .i) (l .at) (c .loop-test .taken) (l .inv .1)
 
--- src/lib.rt:170:13
 place-requires : tie.Need-place-requires Inv-loop μ-loop
 place-requires c κs = let s = c .before .before .before .before .before .before .before .before in let l = c .before .before .loop in place-in (s .args .words .now) (s .args .owners .now) (s .args .arrays .now) (s .args .points .now) (s .args .depth) (s .args .count) (length (s .args .out .now)) (s .pre .0) (s .args .k) (s .pre .1) (c .before .before .before .base-of .result) (l .i) (l .at) (c .before .before .before .base-of .ensures) (c .before .loop-test .taken) (l .inv .1)
 
--- src/lib.rt:171:26
 cast-out : tie.Need-cast-out Inv-loop μ-loop
 cast-out c = let e = c .place .ensures .1 in omega arith
 
--- src/lib.rt:171:13
 add-out : tie.Need-add-out Inv-loop μ-loop
 add-out c = let s = c .before .before .before .before .before .before .before .before .before in let m = s .pre .0 .accesses .many in let h = s .pre .1 in let v = c .before .before .loop-test .taken in let b = s .pre .0 .stored .bound in omega arith
 
--- src/lib.rt:171:9
 mul-out : tie.Need-mul-out Inv-loop μ-loop
 mul-out c = let s = c .before .before .before .before .before .before .before .before .before in let m = s .pre .0 .accesses .many in let h = s .pre .1 in let v = c .before .before .loop-test .taken in let b = s .pre .0 .stored .bound in omega arith
 
--- src/lib.rt:171:9
 slice-write-out : tie.Need-slice-write-out Inv-loop μ-loop
 slice-write-out c = let s = c .before .before .before .before .before .before .before .before .before in let l = c .before .before .before .loop in in-room (s .args .words .now) (s .args .owners .now) (s .args .arrays .now) (s .args .points .now) (s .args .depth) (s .args .count) (length (s .args .out .now)) (s .pre .0) (s .args .k) (s .pre .1) (c .before .before .before .before .base-of .result) (l .i) (l .at) (c .before .before .before .before .base-of .ensures) (c .before .before .loop-test .taken) (l .inv .1) (l .out) (s .args .out .now) refl (l .inv .2)
 
--- src/lib.rt:172:9
 add-at : tie.Need-add-at Inv-loop μ-loop
 add-at c = let s = c .before .before .before .before .before .before .before .before .before in let l = c .before .before .before .loop in let r = row-small (s .args .points .now) (s .args .depth) (s .args .count) (s .pre .0 .stored) (l .i) (l .at) (c .before .before .loop-test .taken) (l .inv .1) in omega arith
 
--- src/lib.rt:173:9
 add-i : tie.Need-add-i Inv-loop μ-loop
 add-i c = let s = c .before .before .before .before .before .before .before .before .before in let b = s .pre .0 .stored .bound in let v = c .before .before .loop-test .taken in omega arith
 
--- src/lib.rt:169:5
 loop-less : tie.Need-loop-less Inv-loop μ-loop
 loop-less c = let v = c .before .before .loop-test .taken in omega arith
 
--- src/lib.rt:169:5
 loop-again : tie.Need-loop-again Inv-loop μ-loop
 loop-again c = let s = c .before .before .before .before .before .before .before .before .before in let l = c .before .before .before .loop in let v = c .before .before .loop-test .taken in
     (omega arith, ap (λ (j : ℕ). j + s .args .depth) (l .inv .1) ∙ row-next (s .args .depth) (l .i), place-more (s .args .words .now) (s .args .owners .now) (s .args .arrays .now) (s .args .points .now) (s .args .depth) (s .args .count) (length (s .args .out .now)) (s .pre .0) (s .args .k) (s .pre .1) (c .before .before .before .before .base-of .result) (l .i) (l .at) (c .before .before .before .before .base-of .ensures) v (l .inv .1) (l .out) (s .args .out .now) refl (l .inv .2) (c .place .result) (c .place .ensures .0))
 
--- src/lib.rt:161:1
 same-length : tie.Need-same-length Inv-loop μ-loop
 same-length c = let s = c .before .before .before .before .before .before .before in let l = c .before .loop in same-room (s .args .words .now) (s .args .owners .now) (s .args .arrays .now) (s .args .points .now) (s .args .depth) (s .args .count) (length (s .args .out .now)) (s .pre .0) (s .args .k) (s .pre .1) (l .i) (l .inv .0) (l .out) (s .args .out .now) refl (l .inv .2)
 
--- src/lib.rt:161:1
 returns : tie.Need-returns Inv-loop μ-loop
 returns c = let s = c .before .before .before .before .before .before .before in let l = c .before .loop in let z : l .i ≡ s .args .count = omega (arith, l .inv .0, c .loop-test .left) in
     l .inv .2 ∙ ap (λ (j : ℕ). put (s .args .out .now) (s .args .k * 4096) (placesOf (s .args .words .now) (s .args .owners .now) (s .args .arrays .now) (s .args .depth) (rows (s .args .depth) j (s .args .points .now)) (s .args .k))) z

@@ -1,14 +1,10 @@
 -- `place`: r is the place by the first d dimensions.
-use mathlib.Core.Path.{_≡_, refl}
-use Prim.Native.Nat.{ℕ, _*_, _-_, _≤_, _<_}
+use mathlib.Core.Path.{_≡_}
+use Prim.Native.Nat.{_-_, _≤_, _<_}
 use native.Mathlib.Omega.{arith}
-use lib.ListN.{getD, take, length}
 use Rattle.elements.proofs.PlaceLaws.{owner-ends, flat, partialAt, roomAt, start, index-in, more, more-room, partial-small, index-small, place-small, place-is}
 use Rattle.elements.proofs.place.Statement.{statement}
 use Rattle.elements.proofs.place.Tie as tie
-use Rattle.elements.proofs.place.Reads as reads
-use Rattle.elements.proofs.place.Lts as lts
-use Rattle.elements.proofs.index.Reads as index-reads
 
 abbrev Inv-loop : tie.InvT-loop
 Inv-loop words owners arrays k b point at dimensions r₀ d₀ r d = (d ≤ dimensions) × (r ≡ partialAt words owners arrays k point d) × (r < roomAt owners arrays k d)
@@ -16,84 +12,64 @@ Inv-loop words owners arrays k b point at dimensions r₀ d₀ r d = (d ≤ dime
 abbrev μ-loop : tie.MeasureT-loop
 μ-loop words owners arrays k b point at dimensions r₀ d₀ r d = dimensions - d
 
--- src/lib.rt:142:14
 mul-at : tie.Need-mul-at Inv-loop μ-loop
 mul-at c = let s = c .before .before in let e = owner-ends (s .args .words .now) (s .args .owners .now) (s .args .arrays .now) (s .args .k) (s .args .b) (s .args .point .now) (s .pre) in let f = flat (s .args .words .now) (s .args .owners .now) (s .args .arrays .now) (s .args .k) (s .args .b) (s .args .point .now) (s .pre) in let t = s .pre .there in let m = s .pre .accesses .many in let g = s .pre .accesses .few in omega arith
 
--- src/lib.rt:142:14
 shared-slice-read-at : tie.Need-shared-slice-read-at Inv-loop μ-loop
 shared-slice-read-at c = c .before .before .before .pre .there
 
--- src/lib.rt:142:14
 mul-at-2 : tie.Need-mul-at-2 Inv-loop μ-loop
 mul-at-2 c = let s = c .before .before .before in let e = owner-ends (s .args .words .now) (s .args .owners .now) (s .args .arrays .now) (s .args .k) (s .args .b) (s .args .point .now) (s .pre) in let f = flat (s .args .words .now) (s .args .owners .now) (s .args .arrays .now) (s .args .k) (s .args .b) (s .args .point .now) (s .pre) in let t = s .pre .there in let m = s .pre .accesses .many in let g = s .pre .accesses .few in omega arith
 
--- src/lib.rt:143:22
 mul-dimensions : tie.Need-mul-dimensions Inv-loop μ-loop
 mul-dimensions c = let s = c .before .before .before in let e = owner-ends (s .args .words .now) (s .args .owners .now) (s .args .arrays .now) (s .args .k) (s .args .b) (s .args .point .now) (s .pre) in let f = flat (s .args .words .now) (s .args .owners .now) (s .args .arrays .now) (s .args .k) (s .args .b) (s .args .point .now) (s .pre) in let t = s .pre .there in let m = s .pre .accesses .many in let g = s .pre .accesses .few in omega arith
 
--- src/lib.rt:143:22
 shared-slice-read-dimensions : tie.Need-shared-slice-read-dimensions Inv-loop μ-loop
 shared-slice-read-dimensions c = let s = c .before .before .before .before in let e = owner-ends (s .args .words .now) (s .args .owners .now) (s .args .arrays .now) (s .args .k) (s .args .b) (s .args .point .now) (s .pre) in let f = flat (s .args .words .now) (s .args .owners .now) (s .args .arrays .now) (s .args .k) (s .args .b) (s .args .point .now) (s .pre) in let t = s .pre .there in let m = s .pre .accesses .many in let g = s .pre .accesses .few in omega arith
 
--- src/lib.rt:146:5
 loop-holds : tie.Need-loop-holds Inv-loop μ-loop
 loop-holds c = let s = c .before .before .before .before in let g = start (s .args .words .now) (s .args .owners .now) (s .args .arrays .now) (s .args .k) (s .args .b) (s .args .point .now) (s .pre) in (omega arith, g .0, g .1)
 
--- src/lib.rt:147:24
 add-r : tie.Need-add-r Inv-loop μ-loop
 add-r c = let s = c .before .before .before .before .before .before in let e = owner-ends (s .args .words .now) (s .args .owners .now) (s .args .arrays .now) (s .args .k) (s .args .b) (s .args .point .now) (s .pre) in let f = flat (s .args .words .now) (s .args .owners .now) (s .args .arrays .now) (s .args .k) (s .args .b) (s .args .point .now) (s .pre) in let t = s .pre .there in let m = s .pre .accesses .many in let g = s .pre .accesses .few in omega arith
 
--- src/lib.rt:147:24
 add-r-2 : tie.Need-add-r-2 Inv-loop μ-loop
 add-r-2 c = let s = c .before .before .before .before .before .before in let e = owner-ends (s .args .words .now) (s .args .owners .now) (s .args .arrays .now) (s .args .k) (s .args .b) (s .args .point .now) (s .pre) in let f = flat (s .args .words .now) (s .args .owners .now) (s .args .arrays .now) (s .args .k) (s .args .b) (s .args .point .now) (s .pre) in let t = s .pre .there in let m = s .pre .accesses .many in let g = s .pre .accesses .few in let v = c .loop-test .taken in omega arith
 
--- src/lib.rt:147:17
 mul-r : tie.Need-mul-r Inv-loop μ-loop
 mul-r c = let s = c .before .before .before .before .before .before in let e = owner-ends (s .args .words .now) (s .args .owners .now) (s .args .arrays .now) (s .args .k) (s .args .b) (s .args .point .now) (s .pre) in let f = flat (s .args .words .now) (s .args .owners .now) (s .args .arrays .now) (s .args .k) (s .args .b) (s .args .point .now) (s .pre) in let t = s .pre .there in let m = s .pre .accesses .many in let g = s .pre .accesses .few in let v = c .loop-test .taken in omega arith
 
--- src/lib.rt:147:17
 shared-slice-read-r : tie.Need-shared-slice-read-r Inv-loop μ-loop
 shared-slice-read-r c = let s = c .before .before .before .before .before .before .before in let e = owner-ends (s .args .words .now) (s .args .owners .now) (s .args .arrays .now) (s .args .k) (s .args .b) (s .args .point .now) (s .pre) in let f = flat (s .args .words .now) (s .args .owners .now) (s .args .arrays .now) (s .args .k) (s .args .b) (s .args .point .now) (s .pre) in let t = s .pre .there in let m = s .pre .accesses .many in let g = s .pre .accesses .few in let v = c .before .loop-test .taken in omega arith
 
--- src/lib.rt:147:13
 mul-r-2 : tie.Need-mul-r-2 Inv-loop μ-loop
 mul-r-2 c = let s = c .before .before .before .before .before .before .before in let l = c .before .before .loop in let q = partial-small (s .args .words .now) (s .args .owners .now) (s .args .arrays .now) (s .args .k) (s .args .b) (s .args .point .now) (s .pre) (l .d) (c .before .loop-test .taken) (l .r) (l .inv .2) in record { fits = omega arith }
 
--- src/lib.rt:147:51
 mul-index : tie.Need-mul-index Inv-loop μ-loop
 mul-index c = let s = c .before .before .before .before .before .before .before in let e = owner-ends (s .args .words .now) (s .args .owners .now) (s .args .arrays .now) (s .args .k) (s .args .b) (s .args .point .now) (s .pre) in let f = flat (s .args .words .now) (s .args .owners .now) (s .args .arrays .now) (s .args .k) (s .args .b) (s .args .point .now) (s .pre) in let t = s .pre .there in let m = s .pre .accesses .many in let g = s .pre .accesses .few in omega arith
 
--- src/lib.rt:147:51
 add-index : tie.Need-add-index Inv-loop μ-loop
 add-index c = let s = c .before .before .before .before .before .before .before in let e = owner-ends (s .args .words .now) (s .args .owners .now) (s .args .arrays .now) (s .args .k) (s .args .b) (s .args .point .now) (s .pre) in let f = flat (s .args .words .now) (s .args .owners .now) (s .args .arrays .now) (s .args .k) (s .args .b) (s .args .point .now) (s .pre) in let t = s .pre .there in let m = s .pre .accesses .many in let g = s .pre .accesses .few in let v = c .before .loop-test .taken in omega arith
 
--- src/lib.rt:147:38
 index-requires : tie.Need-index-requires Inv-loop μ-loop
 index-requires c κs = let s = c .before .before .before .before .before .before .before in index-in (s .args .words .now) (s .args .owners .now) (s .args .arrays .now) (s .args .k) (s .args .b) (s .args .point .now) (s .pre) (c .before .before .loop .d) (c .before .loop-test .taken)
 
--- src/lib.rt:147:13
 add-r-3 : tie.Need-add-r-3 Inv-loop μ-loop
 add-r-3 c = let s = c .before .before .before .before .before .before .before .before in let l = c .before .before .before .loop in let v = c .before .before .loop-test .taken in let q = partial-small (s .args .words .now) (s .args .owners .now) (s .args .arrays .now) (s .args .k) (s .args .b) (s .args .point .now) (s .pre) (l .d) v (l .r) (l .inv .2) in let i = index-small (s .args .words .now) (s .args .owners .now) (s .args .arrays .now) (s .args .k) (s .args .b) (s .args .point .now) (s .pre) (l .d) v in let x = c .index .ensures in record { fits = omega arith }
 
--- src/lib.rt:148:9
 add-d : tie.Need-add-d Inv-loop μ-loop
 add-d c = let s = c .before .before .before .before .before .before .before .before in let e = owner-ends (s .args .words .now) (s .args .owners .now) (s .args .arrays .now) (s .args .k) (s .args .b) (s .args .point .now) (s .pre) in let f = flat (s .args .words .now) (s .args .owners .now) (s .args .arrays .now) (s .args .k) (s .args .b) (s .args .point .now) (s .pre) in let t = s .pre .there in let m = s .pre .accesses .many in let g = s .pre .accesses .few in let v = c .before .before .loop-test .taken in omega arith
 
--- src/lib.rt:146:5
 loop-less : tie.Need-loop-less Inv-loop μ-loop
 loop-less c = let v = c .before .before .loop-test .taken in omega arith
 
--- src/lib.rt:146:5
 loop-again : tie.Need-loop-again Inv-loop μ-loop
 loop-again c = let s = c .before .before .before .before .before .before .before .before in let l = c .before .before .before .loop in let v = c .before .before .loop-test .taken in
     (omega arith, more (s .args .words .now) (s .args .owners .now) (s .args .arrays .now) (s .args .k) (s .args .b) (s .args .point .now) (s .pre) (l .d) v (l .r) (c .index .result) (l .inv .1) (l .inv .2) (c .index .ensures), more-room (s .args .words .now) (s .args .owners .now) (s .args .arrays .now) (s .args .k) (s .args .b) (s .args .point .now) (s .pre) (l .d) v (l .r) (c .index .result) (l .inv .1) (l .inv .2) (c .index .ensures))
 
--- src/lib.rt:150:5
 add-result : tie.Need-add-result Inv-loop μ-loop
 add-result c = let s = c .before .before .before .before .before .before in let l = c .before .loop in let q = place-small (s .args .words .now) (s .args .owners .now) (s .args .arrays .now) (s .args .k) (s .args .b) (s .args .point .now) (s .pre) (l .d) (l .r) (l .inv .0) (c .loop-test .left) (l .inv .1) (l .inv .2) in record { fits = omega arith }
 
--- src/lib.rt:138:1
 returns : tie.Need-returns Inv-loop μ-loop
 returns c = let s = c .before .before .before .before .before .before in let l = c .before .loop in
     (place-is (s .args .words .now) (s .args .owners .now) (s .args .arrays .now) (s .args .k) (s .args .b) (s .args .point .now) (s .pre) (l .d) (l .r) (l .inv .0) (c .loop-test .left) (l .inv .1) (l .inv .2), place-small (s .args .words .now) (s .args .owners .now) (s .args .arrays .now) (s .args .k) (s .args .b) (s .args .point .now) (s .pre) (l .d) (l .r) (l .inv .0) (c .loop-test .left) (l .inv .1) (l .inv .2))

@@ -1,7 +1,7 @@
 -- `tally_points`: the tally so far is that of the points of the first t indices. The number of loops left falls.
 use mathlib.Core.Path.{_≡_, sym}
 use mathlib.Core.List.{flatMap}
-use Prim.Native.Nat.{suc, _+_, _-_, _≤_}
+use Prim.Native.Nat.{suc, _-_, _≤_}
 use native.Mathlib.Omega.{arith}
 use lib.ListN.{take}
 use Rattle.model.specs.Points.{ints}
@@ -42,7 +42,6 @@ tally-points-Inv-loop nest counts k left bound most point e n b₀ t₀ b t = (t
 abbrev tally-points-μ-loop : tally-points-lts.MeasureT-loop
 tally-points-μ-loop nest counts k left bound most point e n b₀ t₀ b t = n - t
 
--- src/lib.rt:187:38
 tally-points-array-share-prefix-point : (t : ℕ) → tally-points-lts.Need-array-share-prefix-point (
   include-reads.Asked,
   include-reads.Learnt,
@@ -57,7 +56,6 @@ tally-points-array-share-prefix-point : (t : ℕ) → tally-points-lts.Need-arra
 ) (tally-points-at t) tally-points.Post tally-points-Inv-loop tally-points-μ-loop
 tally-points-array-share-prefix-point t c = let s = c .before .before in let h = room (s .args .nest .now) (s .args .counts .now) (s .args .k) (s .args .left) (s .args .t5) (s .args .bound) (s .args .most) (s .args .a) (s .pre .1) (s .good .1 .1 .1 .1 .0 .1 .0 .1) in let l = s .good .1 .1 .1 .1 .0 .1 .0 .1 in omega arith
 
--- src/lib.rt:187:38
 tally-points-slice-aggregate-include : (t : ℕ) → tally-points-lts.Need-slice-aggregate-include (
   include-reads.Asked,
   include-reads.Learnt,
@@ -72,7 +70,6 @@ tally-points-slice-aggregate-include : (t : ℕ) → tally-points-lts.Need-slice
 ) (tally-points-at t) tally-points.Post tally-points-Inv-loop tally-points-μ-loop
 tally-points-slice-aggregate-include t c = let s = c .before .before .before in sym (outer-length (s .args .nest .now) (s .args .counts .now) (s .args .k) (s .args .left) (s .args .t5) (s .args .bound) (s .args .most) (s .args .a) (s .pre .1) (s .good .1 .1 .1 .1 .0 .1 .0 .1))
 
--- src/lib.rt:187:9
 tally-points-include-requires : (t : ℕ) → tally-points-lts.Need-include-requires (
   include-reads.Asked,
   include-reads.Learnt,
@@ -87,7 +84,6 @@ tally-points-include-requires : (t : ℕ) → tally-points-lts.Need-include-requ
 ) (tally-points-at t) tally-points.Post tally-points-Inv-loop tally-points-μ-loop
 tally-points-include-requires t c κs = let s = c .before .before .before in leaf-in (s .args .nest .now) (s .args .counts .now) (s .args .k) (s .args .left) (s .args .t5) (s .args .bound) (s .args .most) (s .args .a) (s .pre .1) (s .good .1 .1 .1 .1 .0 .1 .0 .1)
 
--- src/lib.rt:187:9
 tally-points-returns : (t : ℕ) → tally-points-lts.Need-returns (
   include-reads.Asked,
   include-reads.Learnt,
@@ -102,7 +98,6 @@ tally-points-returns : (t : ℕ) → tally-points-lts.Need-returns (
 ) (tally-points-at t) tally-points.Post tally-points-Inv-loop tally-points-μ-loop
 tally-points-returns t c = let s = c .before .before .before .before in leaf-out (s .args .nest .now) (s .args .counts .now) (s .args .k) (s .args .left) (s .args .t5) (s .args .bound) (s .args .most) (s .args .a) (s .pre .1) (s .good .1 .1 .1 .1 .0 .1 .0 .1) (c .include .result) (c .before .before .if1 .taken) (c .include .ensures)
 
--- src/lib.rt:189:33
 tally-points-array-share-prefix-point-2 :
     (t : ℕ) → tally-points-lts.Need-array-share-prefix-point-2 (
       include-reads.Asked,
@@ -118,7 +113,6 @@ tally-points-array-share-prefix-point-2 :
     ) (tally-points-at t) tally-points.Post tally-points-Inv-loop tally-points-μ-loop
 tally-points-array-share-prefix-point-2 t c = let s = c .before .before in let h = room (s .args .nest .now) (s .args .counts .now) (s .args .k) (s .args .left) (s .args .t5) (s .args .bound) (s .args .most) (s .args .a) (s .pre .1) (s .good .1 .1 .1 .1 .0 .1 .0 .1) in let l = s .good .1 .1 .1 .1 .0 .1 .0 .1 in omega arith
 
--- src/lib.rt:189:33
 tally-points-slice-aggregate-range : (t : ℕ) → tally-points-lts.Need-slice-aggregate-range (
   include-reads.Asked,
   include-reads.Learnt,
@@ -133,7 +127,6 @@ tally-points-slice-aggregate-range : (t : ℕ) → tally-points-lts.Need-slice-a
 ) (tally-points-at t) tally-points.Post tally-points-Inv-loop tally-points-μ-loop
 tally-points-slice-aggregate-range t c = let s = c .before .before .before in sym (outer-length (s .args .nest .now) (s .args .counts .now) (s .args .k) (s .args .left) (s .args .t5) (s .args .bound) (s .args .most) (s .args .a) (s .pre .1) (s .good .1 .1 .1 .1 .0 .1 .0 .1))
 
--- src/lib.rt:189:9
 tally-points-range-requires : (t : ℕ) → tally-points-lts.Need-range-requires (
   include-reads.Asked,
   include-reads.Learnt,
@@ -148,7 +141,6 @@ tally-points-range-requires : (t : ℕ) → tally-points-lts.Need-range-requires
 ) (tally-points-at t) tally-points.Post tally-points-Inv-loop tally-points-μ-loop
 tally-points-range-requires t c κs = let s = c .before .before .before in outer-range (s .args .nest .now) (s .args .counts .now) (s .args .k) (s .args .left) (s .args .t5) (s .args .bound) (s .args .most) (s .args .a) (s .pre .1) (s .good .1 .1 .1 .1 .0 .1 .0 .1)
 
--- src/lib.rt:190:9
 tally-points-count-requires : (t : ℕ) → tally-points-lts.Need-count-requires (
   include-reads.Asked,
   include-reads.Learnt,
@@ -163,7 +155,6 @@ tally-points-count-requires : (t : ℕ) → tally-points-lts.Need-count-requires
 ) (tally-points-at t) tally-points.Post tally-points-Inv-loop tally-points-μ-loop
 tally-points-count-requires t c κs = (c .range .ensures .low-size, c .range .ensures .high-size)
 
--- src/lib.rt:193:5
 tally-points-loop-holds : (t : ℕ) → tally-points-lts.Need-loop-holds (
   include-reads.Asked,
   include-reads.Learnt,
@@ -178,7 +169,6 @@ tally-points-loop-holds : (t : ℕ) → tally-points-lts.Need-loop-holds (
 ) (tally-points-at t) tally-points.Post tally-points-Inv-loop tally-points-μ-loop
 tally-points-loop-holds t c = let s = c .before .before .before .before .before in (omega arith, s .pre .1 .counted, start (s .args .nest .now) (s .args .counts .now) (s .args .k) (s .args .left) (s .args .t5) (s .args .bound) (s .args .most) (s .args .a) (s .pre .1) (s .good .1 .1 .1 .1 .0 .1 .0 .1) (c .before .range .result .lo))
 
--- src/lib.rt:194:13
 tally-points-moved-requires : (t : ℕ) → tally-points-lts.Need-moved-requires (
   include-reads.Asked,
   include-reads.Learnt,
@@ -193,7 +183,6 @@ tally-points-moved-requires : (t : ℕ) → tally-points-lts.Need-moved-requires
 ) (tally-points-at t) tally-points.Post tally-points-Inv-loop tally-points-μ-loop
 tally-points-moved-requires t c κs = let s = c .before .before .before .before .before .before .before in let h = room (s .args .nest .now) (s .args .counts .now) (s .args .k) (s .args .left) (s .args .t5) (s .args .bound) (s .args .most) (s .args .a) (s .pre .1) (s .good .1 .1 .1 .1 .0 .1 .0 .1) in let u = c .before .before .count .ensures .1 in let v = c .loop-test .taken in (h, c .before .before .before .range .ensures .low-size, omega arith)
 
--- src/lib.rt:195:40
 tally-points-add-tally-points : (t : ℕ) → tally-points-lts.Need-add-tally-points (
   include-reads.Asked,
   include-reads.Learnt,
@@ -208,7 +197,6 @@ tally-points-add-tally-points : (t : ℕ) → tally-points-lts.Need-add-tally-po
 ) (tally-points-at t) tally-points.Post tally-points-Inv-loop tally-points-μ-loop
 tally-points-add-tally-points t c = let s = c .before .before .before .before .before .before .before .before in let h = room (s .args .nest .now) (s .args .counts .now) (s .args .k) (s .args .left) (s .args .t5) (s .args .bound) (s .args .most) (s .args .a) (s .pre .1) (s .good .1 .1 .1 .1 .0 .1 .0 .1) in record { fits = omega arith }
 
--- src/lib.rt:195:47
 tally-points-sub-tally-points : (t : ℕ) → tally-points-lts.Need-sub-tally-points (
   include-reads.Asked,
   include-reads.Learnt,
@@ -223,7 +211,6 @@ tally-points-sub-tally-points : (t : ℕ) → tally-points-lts.Need-sub-tally-po
 ) (tally-points-at t) tally-points.Post tally-points-Inv-loop tally-points-μ-loop
 tally-points-sub-tally-points t c = let s = c .before .before .before .before .before .before .before .before in s .pre .1 .some
 
--- src/lib.rt:195:9
 tally-points-tally-points-requires : (t : ℕ) → tally-points-lts.Need-tally-points-requires (
   include-reads.Asked,
   include-reads.Learnt,
@@ -239,7 +226,6 @@ tally-points-tally-points-requires : (t : ℕ) → tally-points-lts.Need-tally-p
 tally-points-tally-points-requires t c κs = let s = c .before .before .before .before .before .before .before .before in let l = c .before .before .loop in let h = s .pre .1 .some in let m = s .pre .0 in
     (omega arith, turn-in (s .args .nest .now) (s .args .counts .now) (s .args .k) (s .args .left) (s .args .t5) (s .args .bound) (s .args .most) (s .args .a) (s .pre .1) (s .good .1 .1 .1 .1 .0 .1 .0 .1) (c .before .before .before .before .range .result .lo) (c .before .before .before .before .range .result .hi) (c .before .before .before .count .result) (c .before .before .before .before .before .before .if1 .left) (c .before .before .before .before .range .ensures) (c .before .before .before .count .ensures .0) (l .t) (l .b) (c .moved .result) (c .before .loop-test .taken) (c .moved .ensures) (l .inv .1))
 
--- src/lib.rt:196:9
 tally-points-add-t : (t : ℕ) → tally-points-lts.Need-add-t (
   include-reads.Asked,
   include-reads.Learnt,
@@ -254,7 +240,6 @@ tally-points-add-t : (t : ℕ) → tally-points-lts.Need-add-t (
 ) (tally-points-at t) tally-points.Post tally-points-Inv-loop tally-points-μ-loop
 tally-points-add-t t c = let u = c .before .before .before .before .count .ensures .1 in let v = c .before .before .loop-test .taken in record { fits = omega arith }
 
--- src/lib.rt:193:5
 tally-points-loop-less : (t : ℕ) → tally-points-lts.Need-loop-less (
   include-reads.Asked,
   include-reads.Learnt,
@@ -269,7 +254,6 @@ tally-points-loop-less : (t : ℕ) → tally-points-lts.Need-loop-less (
 ) (tally-points-at t) tally-points.Post tally-points-Inv-loop tally-points-μ-loop
 tally-points-loop-less t c = let v = c .before .before .loop-test .taken in omega arith
 
--- src/lib.rt:193:5
 tally-points-loop-again : (t : ℕ) → tally-points-lts.Need-loop-again (
   include-reads.Asked,
   include-reads.Learnt,
@@ -285,7 +269,6 @@ tally-points-loop-again : (t : ℕ) → tally-points-lts.Need-loop-again (
 tally-points-loop-again t c = let s = c .before .before .before .before .before .before .before .before .before in let l = c .before .before .before .loop in let v = c .before .before .loop-test .taken in
     (omega arith, c .tally-points .ensures .counted, turn-out (s .args .nest .now) (s .args .counts .now) (s .args .k) (s .args .left) (s .args .t5) (s .args .bound) (s .args .most) (s .args .a) (s .pre .1) (s .good .1 .1 .1 .1 .0 .1 .0 .1) (c .before .before .before .before .before .range .result .lo) (c .before .before .before .before .before .range .result .hi) (c .before .before .before .before .count .result) (c .before .before .before .before .before .before .before .if1 .left) (c .before .before .before .before .before .range .ensures) (c .before .before .before .before .count .ensures .0) (l .t) (l .b) (c .before .moved .result) v (c .before .moved .ensures) (c .tally-points .result) (l .inv .2) (c .tally-points .ensures))
 
--- src/lib.rt:182:1
 tally-points-returns-2 : (t : ℕ) → tally-points-lts.Need-returns-2 (
   include-reads.Asked,
   include-reads.Learnt,
