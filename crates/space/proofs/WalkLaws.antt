@@ -17,7 +17,7 @@ use Rattle.space.proofs.ThroughLaws.{loops-step, loops-none, after, thr
 use Rattle.space.proofs.TallyLaws.{seen-append, seen-none}
 use Rattle.space.proofs.StepLaws.{within-snoc, take-moved, prefix, near-step}
 
-module _ (s : List ℤ) (c : List ℕ) (k left : ℕ) (point : List ℤ) (bound most : ℕ) (a : Tally) (p : TallyIn s c k left point bound most a) (len : length point ≡ 6) where
+module _ {s : List ℤ} {c : List ℕ} {k left : ℕ} {point : List ℤ} {bound most : ℕ} {a : Tally} (p : TallyIn s c k left point bound most a) (len : length point ≡ 6) where
   pub room : k < 6
   room = let d = p .nest .shallow in let h = p .some in omega arith
 
