@@ -21,11 +21,11 @@ pub record Reached (w : List ℤ) (o a sizes : List ℕ) (points : List ℤ) (de
   pub room : first + sum (drop s sizes) ≤ length o
   pub clear : inBodies (arraysOf a) (rows depth count points) 1 (bodiesFrom w o a depth 0 sizes) ≡ inBodies (arraysOf a) (rows depth count points) (suc s) (bodiesFrom w o a depth first (drop s sizes))
 
-module _ (w : List ℤ) (o a sizes : List ℕ) (points : List ℤ) (depth count : ℕ) (p : SearchIn w o a sizes points depth count) where
+module _ {w : List ℤ} {o a sizes : List ℕ} {points : List ℤ} {depth count : ℕ} (p : SearchIn w o a sizes points depth count) where
   pub start : Reached w o a sizes points depth count 0 0
   start = let e = p .each in record { inside = omega arith; room = omega arith; clear = refl }
 
-  module _ (first s : ℕ) (g : Reached w o a sizes points depth count first s) where
+  module _ {first s : ℕ} (g : Reached w o a sizes points depth count first s) where
     answered : (r : ℕ) → answerOf r ≡ inBodies (arraysOf a) (rows depth count points) (suc s) (bodiesFrom w o a depth first (drop s sizes)) → Searched w o a sizes points depth count r
     answered r e ss q = e ∙ sym (g .clear) ∙ ap (inBodies (arraysOf a) (rows depth count points) 1) (sym q) ∙ sym (in-bodies (arraysOf a) (rows depth count points) 1 ss)
 
@@ -52,7 +52,7 @@ module _ (w : List ℤ) (o a sizes : List ℕ) (points : List ℤ) (depth count 
             ∙ ap (λ (m : ℕ). inBodies (arraysOf a) (rows depth count points) (suc m) (bodiesFrom w o a depth (first + getD sizes s 0) (drop (s + 1) sizes))) (sym (add-one s));
       }
 
-      module _ (i : ℕ) (l : i < getD sizes s 0) where
+      module _ {i : ℕ} (l : i < getD sizes s 0) where
         pub there : first + i < length o
         there = let r = accesses-end in omega arith
 
@@ -77,7 +77,7 @@ module _ (w : List ℤ) (o a sizes : List ℕ) (points : List ℤ) (depth count 
             ∙ ap (dimensionsStray w (extentsAt a (getD o (first + i) 0)) depth (rows depth count points) ((first + i) * 3)) (sym q) ∙ e in
             rw (add-one i) (one-access w o a depth (rows depth count points) (p .accesses) first i ∙ rw (f, e′))
 
-        module _ (d : ℕ) (m : d < getD a (getD o (first + i) 0 * 4) 0) where
+        module _ {d : ℕ} (m : d < getD a (getD o (first + i) 0 * 4) 0) where
           pub stray-in : StrayIn w ((first + i) * 3 + d) (getD a (getD o (first + i) 0 * 4 + 1 + d) 0) points depth count
           stray-in = let k = there in let f = flat in let v = p .accesses .words in let u = p .accesses .many in record {
             inside = omega arith;
@@ -93,7 +93,7 @@ module _ (w : List ℤ) (o a sizes : List ℕ) (points : List ℤ) (depth count 
               ∙ ap (λ (x : ℕ). dimensionsStray w (extentsAt a (getD o (first + i) 0)) depth (rows depth count points) ((first + i) * 3) d || straysAt w depth ((first + i) * 3 + d) x (rows depth count points))
               (extent-read a (getD o (first + i) 0) array d m)
 
-          module _ (r : Bool) (q : r ≡ straysAt w depth ((first + i) * 3 + d) (getD a (getD o (first + i) 0 * 4 + 1 + d) 0) (rows depth count points))
+          module _ {r : Bool} (q : r ≡ straysAt w depth ((first + i) * 3 + d) (getD a (getD o (first + i) 0 * 4 + 1 + d) 0) (rows depth count points))
               (e : dimensionsStray w (extentsAt a (getD o (first + i) 0)) depth (rows depth count points) ((first + i) * 3) d ≡ false) where
             pub next-dimension : r ≡ false → dimensionsStray w (extentsAt a (getD o (first + i) 0)) depth (rows depth count points) ((first + i) * 3) (d + 1) ≡ false
             next-dimension t = rw (add-one d) (more ∙ rw (e, ← q, t))

@@ -74,7 +74,7 @@ forms-getD f w n j (suc m) (suc d) h = forms-getD f w n (suc j) m d (omega arith
 
 -- ---- an index
 
-module _ (w : List ℤ) (j : ℕ) (point : List ℤ) (p : IndexIn w j point) (r : ℤ) (e : r ≡ subscriptAt point (formAt w (length point) j)) (b : size r ≤ 34359738368) where
+module _ {w : List ℤ} {j : ℕ} {point : List ℤ} (p : IndexIn w j point) {r : ℤ} (e : r ≡ subscriptAt point (formAt w (length point) j)) (b : size r ≤ 34359738368) where
   not-negative : pos 0 ≤ℤ r
   not-negative = subst (λ (z : ℤ). pos 0 ≤ℤ z) (sym e) (p .inside)
 
@@ -93,7 +93,7 @@ partialAt w o a k point d = placeFrom 0 (take d (extentsAt a (getD o k 0))) (map
 abbrev pub roomAt : List ℕ → List ℕ → ℕ → ℕ → ℕ
 roomAt o a k d = elements (take d (extentsAt a (getD o k 0)))
 
-module _ (w : List ℤ) (o a : List ℕ) (k b : ℕ) (point : List ℤ) (p : PlaceIn w o a k b point) where
+module _ {w : List ℤ} {o a : List ℕ} {k b : ℕ} {point : List ℤ} (p : PlaceIn w o a k b point) where
   pub owner : getD o k 0 < length a / 4
   owner = p .accesses .there k (p .there)
 
@@ -114,7 +114,7 @@ module _ (w : List ℤ) (o a : List ℕ) (k b : ℕ) (point : List ℤ) (p : Pla
   unfolding strays accessAt
   whole = ap (λ (ns : List ℕ). outside ns (map (subscriptAt point) (formsFrom w (length point) (k * 3) (getD a (getD o k 0 * 4) 0)))) (sym (extents-are a (getD o k 0) array)) ∙ p .inside
 
-  module _ (d : ℕ) (h : d < getD a (getD o k 0 * 4) 0) where
+  module _ {d : ℕ} (h : d < getD a (getD o k 0 * 4) 0) where
     below : d < length (extentsAt a (getD o k 0))
     below = let e = extents-length a (getD o k 0) array in omega arith
 
@@ -137,7 +137,7 @@ module _ (w : List ℤ) (o a : List ℕ) (k b : ℕ) (point : List ℤ) (p : Pla
     extent-small : getD a (getD o k 0 * 4 + 1 + d) 0 ≤ 4096
     extent-small = p .accesses .extents (getD o k 0 * 4 + 1 + d)
 
-    module _ (r x : ℕ) (e : r ≡ partialAt w o a k point d) (g : r < roomAt o a k d) (q : x ≡ natAbs (subscriptAt point (formAt w (length point) (k * 3 + d)))) where
+    module _ {r x : ℕ} (e : r ≡ partialAt w o a k point d) (g : r < roomAt o a k d) (q : x ≡ natAbs (subscriptAt point (formAt w (length point) (k * 3 + d)))) where
       pub more : r * getD a (getD o k 0 * 4 + 1 + d) 0 + x ≡ partialAt w o a k point (d + 1)
       more = rw (add-one d) (sym (
           ap₂ (placeFrom 0) take-more (ap (map (subscriptAt point)) (forms-snoc w (length point) (k * 3) d) ∙ map-append (subscriptAt point) (formsFrom w (length point) (k * 3) d) (formAt w (length point) (k * 3 + d) ∷ []))
@@ -161,7 +161,7 @@ module _ (w : List ℤ) (o a : List ℕ) (k b : ℕ) (point : List ℤ) (p : Pla
     pub index-small : natAbs (subscriptAt point (formAt w (length point) (k * 3 + d))) ≤ 4096
     index-small = let i = kept .1 in let e = extent-small in omega arith
 
-  module _ (d r : ℕ) (h : d ≤ getD a (getD o k 0 * 4) 0) (g : getD a (getD o k 0 * 4) 0 ≤ d) (e : r ≡ partialAt w o a k point d) (l : r < roomAt o a k d) where
+  module _ {d r : ℕ} (h : d ≤ getD a (getD o k 0 * 4) 0) (g : getD a (getD o k 0 * 4) 0 ≤ d) (e : r ≡ partialAt w o a k point d) (l : r < roomAt o a k d) where
     all-extents : take d (extentsAt a (getD o k 0)) ≡ extentsAt a (getD o k 0)
     all-extents = let q : d ≡ length (extentsAt a (getD o k 0)) = (let z = extents-length a (getD o k 0) array in omega arith) in ap (λ (n : ℕ). take n (extentsAt a (getD o k 0))) q ∙ take-length (extentsAt a (getD o k 0))
 

@@ -32,7 +32,7 @@ abbrev μ-search : tie.MeasureT-search
 
 search-holds :
     tie.Need-search-holds Inv-dimensions μ-dimensions Inv-accesses μ-accesses Inv-search μ-search
-search-holds c = let s = c .before .before .before in (refl, start (s .args .words .now) (s .args .owners .now) (s .args .arrays .now) (s .args .sizes .now) (s .args .points .now) (s .args .depth) (s .args .count) (s .pre))
+search-holds c = let s = c .before .before .before in (refl, start (s .pre))
 
 mul-n : tie.Need-mul-n Inv-dimensions μ-dimensions Inv-accesses μ-accesses Inv-search μ-search
 mul-n c = let s = c .before .before .before .before .before in let g = c .before .search in let x = c .search-test .taken in let q = s .pre .statements in omega arith
@@ -52,10 +52,10 @@ accesses-holds :
 accesses-holds c = let s = c .before .before .before .before .before .before in let g = c .before .before .search in let x = c .before .search-test .taken in (g .inv .0, omega arith, no-access (s .args .words .now) (s .args .owners .now) (s .args .arrays .now) (s .args .depth) _ (s .pre .accesses) (g .first))
 
 add-k : tie.Need-add-k Inv-dimensions μ-dimensions Inv-accesses μ-accesses Inv-search μ-search
-add-k c = let s = c .before .before .before .before .before .before .before .before in let g = c .before .before .before .before .search in let x = c .before .before .before .search-test .taken in let l = c .before .accesses in let y = c .accesses-test .taken in let h = there (s .args .words .now) (s .args .owners .now) (s .args .arrays .now) (s .args .sizes .now) (s .args .points .now) (s .args .depth) (s .args .count) (s .pre) (g .first) (g .statement) (g .inv .1) x (l .i) y in let k = owner-ends (s .args .words .now) (s .args .owners .now) (s .args .arrays .now) (s .args .sizes .now) (s .args .points .now) (s .args .depth) (s .args .count) (s .pre) (g .first) (g .statement) (g .inv .1) x (l .i) y in let f = flat (s .args .words .now) (s .args .owners .now) (s .args .arrays .now) (s .args .sizes .now) (s .args .points .now) (s .args .depth) (s .args .count) (s .pre) (g .first) (g .statement) (g .inv .1) x (l .i) y in let q = s .pre .accesses .few in let r = s .pre .accesses .many in omega arith
+add-k c = let s = c .before .before .before .before .before .before .before .before in let g = c .before .before .before .before .search in let x = c .before .before .before .search-test .taken in let l = c .before .accesses in let y = c .accesses-test .taken in let h = there (s .pre) (g .inv .1) x y in let k = owner-ends (s .pre) (g .inv .1) x y in let f = flat (s .pre) (g .inv .1) x y in let q = s .pre .accesses .few in let r = s .pre .accesses .many in omega arith
 
 mul-at : tie.Need-mul-at Inv-dimensions μ-dimensions Inv-accesses μ-accesses Inv-search μ-search
-mul-at c = let s = c .before .before .before .before .before .before .before .before in let g = c .before .before .before .before .search in let x = c .before .before .before .search-test .taken in let l = c .before .accesses in let y = c .accesses-test .taken in let h = there (s .args .words .now) (s .args .owners .now) (s .args .arrays .now) (s .args .sizes .now) (s .args .points .now) (s .args .depth) (s .args .count) (s .pre) (g .first) (g .statement) (g .inv .1) x (l .i) y in let k = owner-ends (s .args .words .now) (s .args .owners .now) (s .args .arrays .now) (s .args .sizes .now) (s .args .points .now) (s .args .depth) (s .args .count) (s .pre) (g .first) (g .statement) (g .inv .1) x (l .i) y in let f = flat (s .args .words .now) (s .args .owners .now) (s .args .arrays .now) (s .args .sizes .now) (s .args .points .now) (s .args .depth) (s .args .count) (s .pre) (g .first) (g .statement) (g .inv .1) x (l .i) y in let q = s .pre .accesses .few in let r = s .pre .accesses .many in omega arith
+mul-at c = let s = c .before .before .before .before .before .before .before .before in let g = c .before .before .before .before .search in let x = c .before .before .before .search-test .taken in let l = c .before .accesses in let y = c .accesses-test .taken in let h = there (s .pre) (g .inv .1) x y in let k = owner-ends (s .pre) (g .inv .1) x y in let f = flat (s .pre) (g .inv .1) x y in let q = s .pre .accesses .few in let r = s .pre .accesses .many in omega arith
 
 shared-slice-read-at :
     tie.Need-shared-slice-read-at
@@ -65,15 +65,15 @@ shared-slice-read-at :
     μ-accesses
     Inv-search
     μ-search
-shared-slice-read-at c = let s = c .before .before .before .before .before .before .before .before .before in let g = c .before .before .before .before .before .search in let x = c .before .before .before .before .search-test .taken in let l = c .before .before .accesses in let y = c .before .accesses-test .taken in there (s .args .words .now) (s .args .owners .now) (s .args .arrays .now) (s .args .sizes .now) (s .args .points .now) (s .args .depth) (s .args .count) (s .pre) (g .first) (g .statement) (g .inv .1) x (l .i) y
+shared-slice-read-at c = let s = c .before .before .before .before .before .before .before .before .before in let g = c .before .before .before .before .before .search in let x = c .before .before .before .before .search-test .taken in let l = c .before .before .accesses in let y = c .before .accesses-test .taken in there (s .pre) (g .inv .1) x y
 
 mul-at-2 :
     tie.Need-mul-at-2 Inv-dimensions μ-dimensions Inv-accesses μ-accesses Inv-search μ-search
-mul-at-2 c = let s = c .before .before .before .before .before .before .before .before .before in let g = c .before .before .before .before .before .search in let x = c .before .before .before .before .search-test .taken in let l = c .before .before .accesses in let y = c .before .accesses-test .taken in let h = there (s .args .words .now) (s .args .owners .now) (s .args .arrays .now) (s .args .sizes .now) (s .args .points .now) (s .args .depth) (s .args .count) (s .pre) (g .first) (g .statement) (g .inv .1) x (l .i) y in let k = owner-ends (s .args .words .now) (s .args .owners .now) (s .args .arrays .now) (s .args .sizes .now) (s .args .points .now) (s .args .depth) (s .args .count) (s .pre) (g .first) (g .statement) (g .inv .1) x (l .i) y in let f = flat (s .args .words .now) (s .args .owners .now) (s .args .arrays .now) (s .args .sizes .now) (s .args .points .now) (s .args .depth) (s .args .count) (s .pre) (g .first) (g .statement) (g .inv .1) x (l .i) y in let q = s .pre .accesses .few in let r = s .pre .accesses .many in omega arith
+mul-at-2 c = let s = c .before .before .before .before .before .before .before .before .before in let g = c .before .before .before .before .before .search in let x = c .before .before .before .before .search-test .taken in let l = c .before .before .accesses in let y = c .before .accesses-test .taken in let h = there (s .pre) (g .inv .1) x y in let k = owner-ends (s .pre) (g .inv .1) x y in let f = flat (s .pre) (g .inv .1) x y in let q = s .pre .accesses .few in let r = s .pre .accesses .many in omega arith
 
 mul-dimensions :
     tie.Need-mul-dimensions Inv-dimensions μ-dimensions Inv-accesses μ-accesses Inv-search μ-search
-mul-dimensions c = let s = c .before .before .before .before .before .before .before .before .before in let g = c .before .before .before .before .before .search in let x = c .before .before .before .before .search-test .taken in let l = c .before .before .accesses in let y = c .before .accesses-test .taken in let h = there (s .args .words .now) (s .args .owners .now) (s .args .arrays .now) (s .args .sizes .now) (s .args .points .now) (s .args .depth) (s .args .count) (s .pre) (g .first) (g .statement) (g .inv .1) x (l .i) y in let k = owner-ends (s .args .words .now) (s .args .owners .now) (s .args .arrays .now) (s .args .sizes .now) (s .args .points .now) (s .args .depth) (s .args .count) (s .pre) (g .first) (g .statement) (g .inv .1) x (l .i) y in let f = flat (s .args .words .now) (s .args .owners .now) (s .args .arrays .now) (s .args .sizes .now) (s .args .points .now) (s .args .depth) (s .args .count) (s .pre) (g .first) (g .statement) (g .inv .1) x (l .i) y in let q = s .pre .accesses .few in let r = s .pre .accesses .many in omega arith
+mul-dimensions c = let s = c .before .before .before .before .before .before .before .before .before in let g = c .before .before .before .before .before .search in let x = c .before .before .before .before .search-test .taken in let l = c .before .before .accesses in let y = c .before .accesses-test .taken in let h = there (s .pre) (g .inv .1) x y in let k = owner-ends (s .pre) (g .inv .1) x y in let f = flat (s .pre) (g .inv .1) x y in let q = s .pre .accesses .few in let r = s .pre .accesses .many in omega arith
 
 shared-slice-read-dimensions :
     tie.Need-shared-slice-read-dimensions
@@ -83,7 +83,7 @@ shared-slice-read-dimensions :
     μ-accesses
     Inv-search
     μ-search
-shared-slice-read-dimensions c = let s = c .before .before .before .before .before .before .before .before .before .before in let g = c .before .before .before .before .before .before .search in let x = c .before .before .before .before .before .search-test .taken in let l = c .before .before .before .accesses in let y = c .before .before .accesses-test .taken in let h = there (s .args .words .now) (s .args .owners .now) (s .args .arrays .now) (s .args .sizes .now) (s .args .points .now) (s .args .depth) (s .args .count) (s .pre) (g .first) (g .statement) (g .inv .1) x (l .i) y in let k = owner-ends (s .args .words .now) (s .args .owners .now) (s .args .arrays .now) (s .args .sizes .now) (s .args .points .now) (s .args .depth) (s .args .count) (s .pre) (g .first) (g .statement) (g .inv .1) x (l .i) y in let f = flat (s .args .words .now) (s .args .owners .now) (s .args .arrays .now) (s .args .sizes .now) (s .args .points .now) (s .args .depth) (s .args .count) (s .pre) (g .first) (g .statement) (g .inv .1) x (l .i) y in let q = s .pre .accesses .few in let r = s .pre .accesses .many in omega arith
+shared-slice-read-dimensions c = let s = c .before .before .before .before .before .before .before .before .before .before in let g = c .before .before .before .before .before .before .search in let x = c .before .before .before .before .before .search-test .taken in let l = c .before .before .before .accesses in let y = c .before .before .accesses-test .taken in let h = there (s .pre) (g .inv .1) x y in let k = owner-ends (s .pre) (g .inv .1) x y in let f = flat (s .pre) (g .inv .1) x y in let q = s .pre .accesses .few in let r = s .pre .accesses .many in omega arith
 
 dimensions-holds :
     tie.Need-dimensions-holds
@@ -97,23 +97,23 @@ dimensions-holds c = let s = c .before .before .before .before .before .before .
 
 mul-strays :
     tie.Need-mul-strays Inv-dimensions μ-dimensions Inv-accesses μ-accesses Inv-search μ-search
-mul-strays c = let s = c .before .before .before .before .before .before .before .before .before .before .before .before in let g = c .before .before .before .before .before .before .before .before .search in let x = c .before .before .before .before .before .before .before .search-test .taken in let l = c .before .before .before .before .before .accesses in let y = c .before .before .before .before .accesses-test .taken in let e = c .before .dimensions in let z = c .dimensions-test .taken in let h = there (s .args .words .now) (s .args .owners .now) (s .args .arrays .now) (s .args .sizes .now) (s .args .points .now) (s .args .depth) (s .args .count) (s .pre) (g .first) (g .statement) (g .inv .1) x (l .i) y in let k = owner-ends (s .args .words .now) (s .args .owners .now) (s .args .arrays .now) (s .args .sizes .now) (s .args .points .now) (s .args .depth) (s .args .count) (s .pre) (g .first) (g .statement) (g .inv .1) x (l .i) y in let f = flat (s .args .words .now) (s .args .owners .now) (s .args .arrays .now) (s .args .sizes .now) (s .args .points .now) (s .args .depth) (s .args .count) (s .pre) (g .first) (g .statement) (g .inv .1) x (l .i) y in let q = s .pre .accesses .few in let r = s .pre .accesses .many in omega arith
+mul-strays c = let s = c .before .before .before .before .before .before .before .before .before .before .before .before in let g = c .before .before .before .before .before .before .before .before .search in let x = c .before .before .before .before .before .before .before .search-test .taken in let l = c .before .before .before .before .before .accesses in let y = c .before .before .before .before .accesses-test .taken in let e = c .before .dimensions in let z = c .dimensions-test .taken in let h = there (s .pre) (g .inv .1) x y in let k = owner-ends (s .pre) (g .inv .1) x y in let f = flat (s .pre) (g .inv .1) x y in let q = s .pre .accesses .few in let r = s .pre .accesses .many in omega arith
 
 add-strays :
     tie.Need-add-strays Inv-dimensions μ-dimensions Inv-accesses μ-accesses Inv-search μ-search
-add-strays c = let s = c .before .before .before .before .before .before .before .before .before .before .before .before in let g = c .before .before .before .before .before .before .before .before .search in let x = c .before .before .before .before .before .before .before .search-test .taken in let l = c .before .before .before .before .before .accesses in let y = c .before .before .before .before .accesses-test .taken in let e = c .before .dimensions in let z = c .dimensions-test .taken in let h = there (s .args .words .now) (s .args .owners .now) (s .args .arrays .now) (s .args .sizes .now) (s .args .points .now) (s .args .depth) (s .args .count) (s .pre) (g .first) (g .statement) (g .inv .1) x (l .i) y in let k = owner-ends (s .args .words .now) (s .args .owners .now) (s .args .arrays .now) (s .args .sizes .now) (s .args .points .now) (s .args .depth) (s .args .count) (s .pre) (g .first) (g .statement) (g .inv .1) x (l .i) y in let f = flat (s .args .words .now) (s .args .owners .now) (s .args .arrays .now) (s .args .sizes .now) (s .args .points .now) (s .args .depth) (s .args .count) (s .pre) (g .first) (g .statement) (g .inv .1) x (l .i) y in let q = s .pre .accesses .few in let r = s .pre .accesses .many in omega arith
+add-strays c = let s = c .before .before .before .before .before .before .before .before .before .before .before .before in let g = c .before .before .before .before .before .before .before .before .search in let x = c .before .before .before .before .before .before .before .search-test .taken in let l = c .before .before .before .before .before .accesses in let y = c .before .before .before .before .accesses-test .taken in let e = c .before .dimensions in let z = c .dimensions-test .taken in let h = there (s .pre) (g .inv .1) x y in let k = owner-ends (s .pre) (g .inv .1) x y in let f = flat (s .pre) (g .inv .1) x y in let q = s .pre .accesses .few in let r = s .pre .accesses .many in omega arith
 
 add-strays-2 :
     tie.Need-add-strays-2 Inv-dimensions μ-dimensions Inv-accesses μ-accesses Inv-search μ-search
-add-strays-2 c = let s = c .before .before .before .before .before .before .before .before .before .before .before .before in let g = c .before .before .before .before .before .before .before .before .search in let x = c .before .before .before .before .before .before .before .search-test .taken in let l = c .before .before .before .before .before .accesses in let y = c .before .before .before .before .accesses-test .taken in let e = c .before .dimensions in let z = c .dimensions-test .taken in let h = there (s .args .words .now) (s .args .owners .now) (s .args .arrays .now) (s .args .sizes .now) (s .args .points .now) (s .args .depth) (s .args .count) (s .pre) (g .first) (g .statement) (g .inv .1) x (l .i) y in let k = owner-ends (s .args .words .now) (s .args .owners .now) (s .args .arrays .now) (s .args .sizes .now) (s .args .points .now) (s .args .depth) (s .args .count) (s .pre) (g .first) (g .statement) (g .inv .1) x (l .i) y in let f = flat (s .args .words .now) (s .args .owners .now) (s .args .arrays .now) (s .args .sizes .now) (s .args .points .now) (s .args .depth) (s .args .count) (s .pre) (g .first) (g .statement) (g .inv .1) x (l .i) y in let q = s .pre .accesses .few in let r = s .pre .accesses .many in omega arith
+add-strays-2 c = let s = c .before .before .before .before .before .before .before .before .before .before .before .before in let g = c .before .before .before .before .before .before .before .before .search in let x = c .before .before .before .before .before .before .before .search-test .taken in let l = c .before .before .before .before .before .accesses in let y = c .before .before .before .before .accesses-test .taken in let e = c .before .dimensions in let z = c .dimensions-test .taken in let h = there (s .pre) (g .inv .1) x y in let k = owner-ends (s .pre) (g .inv .1) x y in let f = flat (s .pre) (g .inv .1) x y in let q = s .pre .accesses .few in let r = s .pre .accesses .many in omega arith
 
 add-strays-3 :
     tie.Need-add-strays-3 Inv-dimensions μ-dimensions Inv-accesses μ-accesses Inv-search μ-search
-add-strays-3 c = let s = c .before .before .before .before .before .before .before .before .before .before .before .before in let g = c .before .before .before .before .before .before .before .before .search in let x = c .before .before .before .before .before .before .before .search-test .taken in let l = c .before .before .before .before .before .accesses in let y = c .before .before .before .before .accesses-test .taken in let e = c .before .dimensions in let z = c .dimensions-test .taken in let h = there (s .args .words .now) (s .args .owners .now) (s .args .arrays .now) (s .args .sizes .now) (s .args .points .now) (s .args .depth) (s .args .count) (s .pre) (g .first) (g .statement) (g .inv .1) x (l .i) y in let k = owner-ends (s .args .words .now) (s .args .owners .now) (s .args .arrays .now) (s .args .sizes .now) (s .args .points .now) (s .args .depth) (s .args .count) (s .pre) (g .first) (g .statement) (g .inv .1) x (l .i) y in let f = flat (s .args .words .now) (s .args .owners .now) (s .args .arrays .now) (s .args .sizes .now) (s .args .points .now) (s .args .depth) (s .args .count) (s .pre) (g .first) (g .statement) (g .inv .1) x (l .i) y in let q = s .pre .accesses .few in let r = s .pre .accesses .many in omega arith
+add-strays-3 c = let s = c .before .before .before .before .before .before .before .before .before .before .before .before in let g = c .before .before .before .before .before .before .before .before .search in let x = c .before .before .before .before .before .before .before .search-test .taken in let l = c .before .before .before .before .before .accesses in let y = c .before .before .before .before .accesses-test .taken in let e = c .before .dimensions in let z = c .dimensions-test .taken in let h = there (s .pre) (g .inv .1) x y in let k = owner-ends (s .pre) (g .inv .1) x y in let f = flat (s .pre) (g .inv .1) x y in let q = s .pre .accesses .few in let r = s .pre .accesses .many in omega arith
 
 mul-strays-2 :
     tie.Need-mul-strays-2 Inv-dimensions μ-dimensions Inv-accesses μ-accesses Inv-search μ-search
-mul-strays-2 c = let s = c .before .before .before .before .before .before .before .before .before .before .before .before in let g = c .before .before .before .before .before .before .before .before .search in let x = c .before .before .before .before .before .before .before .search-test .taken in let l = c .before .before .before .before .before .accesses in let y = c .before .before .before .before .accesses-test .taken in let e = c .before .dimensions in let z = c .dimensions-test .taken in let h = there (s .args .words .now) (s .args .owners .now) (s .args .arrays .now) (s .args .sizes .now) (s .args .points .now) (s .args .depth) (s .args .count) (s .pre) (g .first) (g .statement) (g .inv .1) x (l .i) y in let k = owner-ends (s .args .words .now) (s .args .owners .now) (s .args .arrays .now) (s .args .sizes .now) (s .args .points .now) (s .args .depth) (s .args .count) (s .pre) (g .first) (g .statement) (g .inv .1) x (l .i) y in let f = flat (s .args .words .now) (s .args .owners .now) (s .args .arrays .now) (s .args .sizes .now) (s .args .points .now) (s .args .depth) (s .args .count) (s .pre) (g .first) (g .statement) (g .inv .1) x (l .i) y in let q = s .pre .accesses .few in let r = s .pre .accesses .many in omega arith
+mul-strays-2 c = let s = c .before .before .before .before .before .before .before .before .before .before .before .before in let g = c .before .before .before .before .before .before .before .before .search in let x = c .before .before .before .before .before .before .before .search-test .taken in let l = c .before .before .before .before .before .accesses in let y = c .before .before .before .before .accesses-test .taken in let e = c .before .dimensions in let z = c .dimensions-test .taken in let h = there (s .pre) (g .inv .1) x y in let k = owner-ends (s .pre) (g .inv .1) x y in let f = flat (s .pre) (g .inv .1) x y in let q = s .pre .accesses .few in let r = s .pre .accesses .many in omega arith
 
 shared-slice-read-strays :
     tie.Need-shared-slice-read-strays
@@ -123,7 +123,7 @@ shared-slice-read-strays :
     μ-accesses
     Inv-search
     μ-search
-shared-slice-read-strays c = let s = c .before .before .before .before .before .before .before .before .before .before .before .before .before in let g = c .before .before .before .before .before .before .before .before .before .search in let x = c .before .before .before .before .before .before .before .before .search-test .taken in let l = c .before .before .before .before .before .before .accesses in let y = c .before .before .before .before .before .accesses-test .taken in let e = c .before .before .dimensions in let z = c .before .dimensions-test .taken in let h = there (s .args .words .now) (s .args .owners .now) (s .args .arrays .now) (s .args .sizes .now) (s .args .points .now) (s .args .depth) (s .args .count) (s .pre) (g .first) (g .statement) (g .inv .1) x (l .i) y in let k = owner-ends (s .args .words .now) (s .args .owners .now) (s .args .arrays .now) (s .args .sizes .now) (s .args .points .now) (s .args .depth) (s .args .count) (s .pre) (g .first) (g .statement) (g .inv .1) x (l .i) y in let f = flat (s .args .words .now) (s .args .owners .now) (s .args .arrays .now) (s .args .sizes .now) (s .args .points .now) (s .args .depth) (s .args .count) (s .pre) (g .first) (g .statement) (g .inv .1) x (l .i) y in let q = s .pre .accesses .few in let r = s .pre .accesses .many in omega arith
+shared-slice-read-strays c = let s = c .before .before .before .before .before .before .before .before .before .before .before .before .before in let g = c .before .before .before .before .before .before .before .before .before .search in let x = c .before .before .before .before .before .before .before .before .search-test .taken in let l = c .before .before .before .before .before .before .accesses in let y = c .before .before .before .before .before .accesses-test .taken in let e = c .before .before .dimensions in let z = c .before .dimensions-test .taken in let h = there (s .pre) (g .inv .1) x y in let k = owner-ends (s .pre) (g .inv .1) x y in let f = flat (s .pre) (g .inv .1) x y in let q = s .pre .accesses .few in let r = s .pre .accesses .many in omega arith
 
 strays-requires :
     tie.Need-strays-requires
@@ -133,14 +133,14 @@ strays-requires :
     μ-accesses
     Inv-search
     μ-search
-strays-requires c κs = let s = c .before .before .before .before .before .before .before .before .before .before .before .before .before in let g = c .before .before .before .before .before .before .before .before .before .search in let x = c .before .before .before .before .before .before .before .before .search-test .taken in let l = c .before .before .before .before .before .before .accesses in let y = c .before .before .before .before .before .accesses-test .taken in let e = c .before .before .dimensions in let z = c .before .dimensions-test .taken in stray-in (s .args .words .now) (s .args .owners .now) (s .args .arrays .now) (s .args .sizes .now) (s .args .points .now) (s .args .depth) (s .args .count) (s .pre) (g .first) (g .statement) (g .inv .1) x (l .i) y (e .d) z
+strays-requires c κs = let s = c .before .before .before .before .before .before .before .before .before .before .before .before .before in let g = c .before .before .before .before .before .before .before .before .before .search in let x = c .before .before .before .before .before .before .before .before .search-test .taken in let l = c .before .before .before .before .before .before .accesses in let y = c .before .before .before .before .before .accesses-test .taken in let e = c .before .before .dimensions in let z = c .before .dimensions-test .taken in stray-in (s .pre) (g .inv .1) x y z
 
 add-found :
     tie.Need-add-found Inv-dimensions μ-dimensions Inv-accesses μ-accesses Inv-search μ-search
 add-found c = let s = c .before .before .before .before .before .before .before .before .before .before .before .before .before .before .before in let g = c .before .before .before .before .before .before .before .before .before .before .before .search in let x = c .before .before .before .before .before .before .before .before .before .before .search-test .taken in let l = c .before .before .before .before .before .before .before .before .accesses in let y = c .before .before .before .before .before .before .before .accesses-test .taken in let e = c .before .before .before .before .dimensions in let z = c .before .before .before .dimensions-test .taken in let q = s .pre .statements in omega arith
 
 add-d : tie.Need-add-d Inv-dimensions μ-dimensions Inv-accesses μ-accesses Inv-search μ-search
-add-d c = let s = c .before .before .before .before .before .before .before .before .before .before .before .before .before .before .before in let g = c .before .before .before .before .before .before .before .before .before .before .before .search in let x = c .before .before .before .before .before .before .before .before .before .before .search-test .taken in let l = c .before .before .before .before .before .before .before .before .accesses in let y = c .before .before .before .before .before .before .before .accesses-test .taken in let e = c .before .before .before .before .dimensions in let z = c .before .before .before .dimensions-test .taken in let h = there (s .args .words .now) (s .args .owners .now) (s .args .arrays .now) (s .args .sizes .now) (s .args .points .now) (s .args .depth) (s .args .count) (s .pre) (g .first) (g .statement) (g .inv .1) x (l .i) y in let k = owner-ends (s .args .words .now) (s .args .owners .now) (s .args .arrays .now) (s .args .sizes .now) (s .args .points .now) (s .args .depth) (s .args .count) (s .pre) (g .first) (g .statement) (g .inv .1) x (l .i) y in let f = flat (s .args .words .now) (s .args .owners .now) (s .args .arrays .now) (s .args .sizes .now) (s .args .points .now) (s .args .depth) (s .args .count) (s .pre) (g .first) (g .statement) (g .inv .1) x (l .i) y in let q = s .pre .accesses .few in let r = s .pre .accesses .many in omega arith
+add-d c = let s = c .before .before .before .before .before .before .before .before .before .before .before .before .before .before .before in let g = c .before .before .before .before .before .before .before .before .before .before .before .search in let x = c .before .before .before .before .before .before .before .before .before .before .search-test .taken in let l = c .before .before .before .before .before .before .before .before .accesses in let y = c .before .before .before .before .before .before .before .accesses-test .taken in let e = c .before .before .before .before .dimensions in let z = c .before .before .before .dimensions-test .taken in let h = there (s .pre) (g .inv .1) x y in let k = owner-ends (s .pre) (g .inv .1) x y in let f = flat (s .pre) (g .inv .1) x y in let q = s .pre .accesses .few in let r = s .pre .accesses .many in omega arith
 
 dimensions-less :
     tie.Need-dimensions-less
@@ -160,10 +160,10 @@ dimensions-again :
     μ-accesses
     Inv-search
     μ-search
-dimensions-again c = let s = c .before .before .before .before .before .before .before .before .before .before .before .before .before .before .before in let g = c .before .before .before .before .before .before .before .before .before .before .before .search in let x = c .before .before .before .before .before .before .before .before .before .before .search-test .taken in let l = c .before .before .before .before .before .before .before .before .accesses in let y = c .before .before .before .before .before .before .before .accesses-test .taken in let e = c .before .before .before .before .dimensions in let z = c .before .before .before .dimensions-test .taken in (e .inv .0, omega arith, next-dimension (s .args .words .now) (s .args .owners .now) (s .args .arrays .now) (s .args .sizes .now) (s .args .points .now) (s .args .depth) (s .args .count) (s .pre) (g .first) (g .statement) (g .inv .1) x (l .i) y (e .d) z (c .before .strays .result) (c .before .strays .ensures) (e .inv .2) (c .if1 .left))
+dimensions-again c = let s = c .before .before .before .before .before .before .before .before .before .before .before .before .before .before .before in let g = c .before .before .before .before .before .before .before .before .before .before .before .search in let x = c .before .before .before .before .before .before .before .before .before .before .search-test .taken in let l = c .before .before .before .before .before .before .before .before .accesses in let y = c .before .before .before .before .before .before .before .accesses-test .taken in let e = c .before .before .before .before .dimensions in let z = c .before .before .before .dimensions-test .taken in (e .inv .0, omega arith, next-dimension (s .pre) (g .inv .1) x y z (c .before .strays .ensures) (e .inv .2) (c .if1 .left))
 
 add-i : tie.Need-add-i Inv-dimensions μ-dimensions Inv-accesses μ-accesses Inv-search μ-search
-add-i c = let s = c .before .before .before .before .before .before .before .before .before .before .before .before in let g = c .before .before .before .before .before .before .before .before .search in let x = c .before .before .before .before .before .before .before .search-test .taken in let l = c .before .before .before .before .before .accesses in let y = c .before .before .before .before .accesses-test .taken in let h = there (s .args .words .now) (s .args .owners .now) (s .args .arrays .now) (s .args .sizes .now) (s .args .points .now) (s .args .depth) (s .args .count) (s .pre) (g .first) (g .statement) (g .inv .1) x (l .i) y in let k = owner-ends (s .args .words .now) (s .args .owners .now) (s .args .arrays .now) (s .args .sizes .now) (s .args .points .now) (s .args .depth) (s .args .count) (s .pre) (g .first) (g .statement) (g .inv .1) x (l .i) y in let f = flat (s .args .words .now) (s .args .owners .now) (s .args .arrays .now) (s .args .sizes .now) (s .args .points .now) (s .args .depth) (s .args .count) (s .pre) (g .first) (g .statement) (g .inv .1) x (l .i) y in let q = s .pre .accesses .few in let r = s .pre .accesses .many in omega arith
+add-i c = let s = c .before .before .before .before .before .before .before .before .before .before .before .before in let g = c .before .before .before .before .before .before .before .before .search in let x = c .before .before .before .before .before .before .before .search-test .taken in let l = c .before .before .before .before .before .accesses in let y = c .before .before .before .before .accesses-test .taken in let h = there (s .pre) (g .inv .1) x y in let k = owner-ends (s .pre) (g .inv .1) x y in let f = flat (s .pre) (g .inv .1) x y in let q = s .pre .accesses .few in let r = s .pre .accesses .many in omega arith
 
 accesses-less :
     tie.Need-accesses-less Inv-dimensions μ-dimensions Inv-accesses μ-accesses Inv-search μ-search
@@ -171,11 +171,11 @@ accesses-less c = let s = c .before .before .before .before .before .before .bef
 
 accesses-again :
     tie.Need-accesses-again Inv-dimensions μ-dimensions Inv-accesses μ-accesses Inv-search μ-search
-accesses-again c = let s = c .before .before .before .before .before .before .before .before .before .before .before .before in let g = c .before .before .before .before .before .before .before .before .search in let x = c .before .before .before .before .before .before .before .search-test .taken in let l = c .before .before .before .before .before .accesses in let y = c .before .before .before .before .accesses-test .taken in let e = c .before .dimensions in (e .inv .0, omega arith, next-access (s .args .words .now) (s .args .owners .now) (s .args .arrays .now) (s .args .sizes .now) (s .args .points .now) (s .args .depth) (s .args .count) (s .pre) (g .first) (g .statement) (g .inv .1) x (l .i) y (e .d) (e .inv .1) (c .dimensions-test .left) (e .inv .2) (l .inv .2))
+accesses-again c = let s = c .before .before .before .before .before .before .before .before .before .before .before .before in let g = c .before .before .before .before .before .before .before .before .search in let x = c .before .before .before .before .before .before .before .search-test .taken in let l = c .before .before .before .before .before .accesses in let y = c .before .before .before .before .accesses-test .taken in let e = c .before .dimensions in (e .inv .0, omega arith, next-access (s .pre) (g .inv .1) x y (e .d) (e .inv .1) (c .dimensions-test .left) (e .inv .2) (l .inv .2))
 
 add-first :
     tie.Need-add-first Inv-dimensions μ-dimensions Inv-accesses μ-accesses Inv-search μ-search
-add-first c = let s = c .before .before .before .before .before .before .before .before in let g = c .before .before .before .before .search in let x = c .before .before .before .search-test .taken in let h = accesses-end (s .args .words .now) (s .args .owners .now) (s .args .arrays .now) (s .args .sizes .now) (s .args .points .now) (s .args .depth) (s .args .count) (s .pre) (g .first) (g .statement) (g .inv .1) x in let r = s .pre .accesses .many in omega arith
+add-first c = let s = c .before .before .before .before .before .before .before .before in let g = c .before .before .before .before .search in let x = c .before .before .before .search-test .taken in let h = accesses-end (s .pre) (g .inv .1) x in let r = s .pre .accesses .many in omega arith
 
 add-statement :
     tie.Need-add-statement Inv-dimensions μ-dimensions Inv-accesses μ-accesses Inv-search μ-search
@@ -187,14 +187,14 @@ search-less c = let s = c .before .before .before .before .before .before .befor
 
 search-again :
     tie.Need-search-again Inv-dimensions μ-dimensions Inv-accesses μ-accesses Inv-search μ-search
-search-again c = let s = c .before .before .before .before .before .before .before .before in let g = c .before .before .before .before .search in let x = c .before .before .before .search-test .taken in let l = c .before .accesses in (l .inv .0, next-statement (s .args .words .now) (s .args .owners .now) (s .args .arrays .now) (s .args .sizes .now) (s .args .points .now) (s .args .depth) (s .args .count) (s .pre) (g .first) (g .statement) (g .inv .1) x (l .i) (l .inv .1) (c .accesses-test .left) (l .inv .2))
+search-again c = let s = c .before .before .before .before .before .before .before .before in let g = c .before .before .before .before .search in let x = c .before .before .before .search-test .taken in let l = c .before .accesses in (l .inv .0, next-statement (s .pre) (g .inv .1) x (l .i) (l .inv .1) (c .accesses-test .left) (l .inv .2))
 
 returns : tie.Need-returns Inv-dimensions μ-dimensions Inv-accesses μ-accesses Inv-search μ-search
-returns c = let s = c .before .before .before .before .before in let g = c .before .search in subst (Searched (s .args .words .now) (s .args .owners .now) (s .args .arrays .now) (s .args .sizes .now) (s .args .points .now) (s .args .depth) (s .args .count)) (sym (g .inv .0)) (finished (s .args .words .now) (s .args .owners .now) (s .args .arrays .now) (s .args .sizes .now) (s .args .points .now) (s .args .depth) (s .args .count) (s .pre) (g .first) (g .statement) (g .inv .1) (c .search-test .left))
+returns c = let s = c .before .before .before .before .before in let g = c .before .search in subst (Searched (s .args .words .now) (s .args .owners .now) (s .args .arrays .now) (s .args .sizes .now) (s .args .points .now) (s .args .depth) (s .args .count)) (sym (g .inv .0)) (finished (s .pre) (g .inv .1) (c .search-test .left))
 
 returns-2 :
     tie.Need-returns-2 Inv-dimensions μ-dimensions Inv-accesses μ-accesses Inv-search μ-search
-returns-2 c = let s = c .before .before .before .before .before .before .before .before .before .before .before .before .before .before .before in let g = c .before .before .before .before .before .before .before .before .before .before .before .search in let x = c .before .before .before .before .before .before .before .before .before .before .search-test .taken in let l = c .before .before .before .before .before .before .before .before .accesses in let y = c .before .before .before .before .before .before .before .accesses-test .taken in let e = c .before .before .before .before .dimensions in let z = c .before .before .before .dimensions-test .taken in found (s .args .words .now) (s .args .owners .now) (s .args .arrays .now) (s .args .sizes .now) (s .args .points .now) (s .args .depth) (s .args .count) (s .pre) (g .first) (g .statement) (g .inv .1) x (l .i) y (e .d) z (c .before .strays .result) (c .before .strays .ensures) (e .inv .2) (c .if1 .taken) (l .inv .2)
+returns-2 c = let s = c .before .before .before .before .before .before .before .before .before .before .before .before .before .before .before in let g = c .before .before .before .before .before .before .before .before .before .before .before .search in let x = c .before .before .before .before .before .before .before .before .before .before .search-test .taken in let l = c .before .before .before .before .before .before .before .before .accesses in let y = c .before .before .before .before .before .before .before .accesses-test .taken in let e = c .before .before .before .before .dimensions in let z = c .before .before .before .dimensions-test .taken in found (s .pre) (g .inv .1) x y z (c .before .strays .ensures) (e .inv .2) (c .if1 .taken) (l .inv .2)
 
 pub find-stray-spec : {M : Type 1} → statement M
 find-stray-spec =
