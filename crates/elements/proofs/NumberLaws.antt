@@ -18,7 +18,7 @@ use Rattle.elements.specs.Places.{BaseIn, PlaceIn, NumberIn, placeAt, pl
 use Rattle.elements.proofs.LayoutLaws.{array-in}
 use Rattle.elements.proofs.RowLaws.{lent, row-is, row-length, row-mem, row-near, next-rows}
 
-module _ (w : List ℤ) (o a : List ℕ) (points : List ℤ) (depth count room : ℕ) (p : NumberIn w o a points depth count room) (k : ℕ) (h : k < length o) where
+module _ {w : List ℤ} {o a : List ℕ} {points : List ℤ} {depth count room : ℕ} (p : NumberIn w o a points depth count room) {k : ℕ} (h : k < length o) where
   pub base-in : BaseIn a (getD o k 0)
   base-in = record { array = array-in w o a depth (getD o k 0) (p .accesses) (p .accesses .there k h); fits = p .fits }
 
@@ -34,21 +34,21 @@ module _ (w : List ℤ) (o a : List ℕ) (points : List ℤ) (depth count room :
   unfolding placesOf rows
   no-place out₀ = sym (put-nil out₀ (k * 4096))
 
-  module _ (b i at : ℕ) (q : b ≡ base (arraysOf a) (getD o k 0)) (l : i < count) (e : at ≡ i * depth) where
-    width : length (lent points depth count (p .stored) i at l e) ≡ depth
-    width = row-length points depth count (p .stored) i at l e
+  module _ {b i at : ℕ} (q : b ≡ base (arraysOf a) (getD o k 0)) (l : i < count) (e : at ≡ i * depth) where
+    width : length (lent (p .stored) l e) ≡ depth
+    width = row-length (p .stored) l e
 
     pub place-in : PlaceIn w o a k b (take (at + depth - at) (drop at points))
     place-in = record {
       accesses = rw width (p .accesses);
       there = h;
-      near = row-near points depth count (p .stored) i at l e;
-      inside = rw width (subst (λ (x : List ℤ). strays (arraysOf a) x (accessAt w o a depth k) ≡ false) (sym (row-is points depth count (p .stored) i at l e)) (p .inside k h (getD (rows depth count points) i []) (row-mem points depth count (p .stored) i at l e)));
+      near = row-near (p .stored) l e;
+      inside = rw width (subst (λ (x : List ℤ). strays (arraysOf a) x (accessAt w o a depth k) ≡ false) (sym (row-is (p .stored) l e)) (p .inside k h (getD (rows depth count points) i []) (row-mem (p .stored) l e)));
       fits = p .fits;
       begins = q;
     }
 
-    module _ (out out₀ : List ℕ) (len : length out₀ ≡ room) (f : out ≡ put out₀ (k * 4096) (placesOf w o a depth (rows depth i points) k)) where
+    module _ {out : List ℕ} (out₀ : List ℕ) (len : length out₀ ≡ room) (f : out ≡ put out₀ (k * 4096) (placesOf w o a depth (rows depth i points) k)) where
       ends : k * 4096 + i < room
       ends = let s = p .space in let c = p .stored .bound in omega arith
 
@@ -66,7 +66,7 @@ module _ (w : List ℤ) (o a : List ℕ) (points : List ℤ) (depth count room :
           ∙ set-put out₀ (k * 4096) (map (placeAt w o a depth k) (rows depth i points)) r (omega arith)
           ∙ ap (put out₀ (k * 4096)) (ap (λ (x : ℕ). map (placeAt w o a depth k) (rows depth i points) ++ (x ∷ [])) v
           ∙ sym (map-append (placeAt w o a depth k) (rows depth i points) (take (at + depth - at) (drop at points) ∷ []))
-          ∙ ap (map (placeAt w o a depth k)) (sym (next-rows points depth count (p .stored) i at l e)))
+          ∙ ap (map (placeAt w o a depth k)) (sym (next-rows (p .stored) l e)))
 
 -- ---- what is written and what is read back
 

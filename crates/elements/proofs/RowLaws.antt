@@ -20,7 +20,7 @@ use Rattle.model.specs.Bounds.{subscriptAt}
 use Rattle.elements.specs.Layout.{formAt}
 use Rattle.elements.specs.Search.{off, straysAt, SubscriptIn, RowsIn, StrayIn}
 
-module _ (points : List ℤ) (depth count : ℕ) (p : RowsIn points depth count) (i at : ℕ) (h : i < count) (e : at ≡ i * depth) where
+module _ {points : List ℤ} {depth count : ℕ} (p : RowsIn points depth count) {i at : ℕ} (h : i < count) (e : at ≡ i * depth) where
   pub row-ends : at + depth ≤ length points
   row-ends = let f = row-fits depth i count h in let r = p .room in omega arith
 
@@ -50,25 +50,25 @@ module _ (points : List ℤ) (depth count : ℕ) (p : RowsIn points depth count)
 
 -- ---- whether some point's subscript leaves its extent
 
-module _ (w : List ℤ) (j extent : ℕ) (points : List ℤ) (depth count : ℕ) (p : StrayIn w j extent points depth count) (i at : ℕ) (h : i < count) (e : at ≡ i * depth) where
+module _ {w : List ℤ} {j extent : ℕ} {points : List ℤ} {depth count : ℕ} (p : StrayIn w j extent points depth count) {i at : ℕ} (h : i < count) (e : at ≡ i * depth) where
   pub stray-in : SubscriptIn w j (take (at + depth - at) (drop at points)) × (extent ≤ 4096)
-  stray-in = let l = row-length points depth count (p .stored) i at h e in let f = p .stored .few in (
-    record { inside = p .inside; room = p .long; small = p .small; few = omega arith; near = row-near points depth count (p .stored) i at h e },
+  stray-in = let l = row-length (p .stored) h e in let f = p .stored .few in (
+    record { inside = p .inside; room = p .long; small = p .small; few = omega arith; near = row-near (p .stored) h e },
     p .extents,
   )
 
-  module _ (r : Bool) (g : r ≡ off extent (subscriptAt (take (at + depth - at) (drop at points)) (formAt w (length (take (at + depth - at) (drop at points))) j))) where
+  module _ {r : Bool} (g : r ≡ off extent (subscriptAt (take (at + depth - at) (drop at points)) (formAt w (length (take (at + depth - at) (drop at points))) j))) where
     here : r ≡ off extent (subscriptAt (take (at + depth - at) (drop at points)) (formAt w depth j))
-    here = g ∙ ap (λ (n : ℕ). off extent (subscriptAt (take (at + depth - at) (drop at points)) (formAt w n j))) (row-length points depth count (p .stored) i at h e)
+    here = g ∙ ap (λ (n : ℕ). off extent (subscriptAt (take (at + depth - at) (drop at points)) (formAt w n j))) (row-length (p .stored) h e)
 
     pub stray-found : r ≡ true → true ≡ straysAt w depth j extent (rows depth count points)
     unfolding straysAt
     stray-found t = sym (T-true (straysAt w depth j extent (rows depth count points)) (some-any (λ q. off extent (subscriptAt q (formAt w depth j))) (rows depth count points)
-        (row-mem points depth count (p .stored) i at h e)
-        (true-T (off extent (subscriptAt (getD (rows depth count points) i []) (formAt w depth j))) (ap (λ (q : List ℤ). off extent (subscriptAt q (formAt w depth j))) (sym (row-is points depth count (p .stored) i at h e)) ∙ sym here ∙ t))))
+        (row-mem (p .stored) h e)
+        (true-T (off extent (subscriptAt (getD (rows depth count points) i []) (formAt w depth j))) (ap (λ (q : List ℤ). off extent (subscriptAt q (formAt w depth j))) (sym (row-is (p .stored) h e)) ∙ sym here ∙ t))))
 
     pub stray-not : r ≡ false → straysAt w depth j extent (rows depth i points) ≡ false → straysAt w depth j extent (rows depth (i + 1) points) ≡ false
     unfolding straysAt any
-    stray-not t f = ap (straysAt w depth j extent) (next-rows points depth count (p .stored) i at h e)
+    stray-not t f = ap (straysAt w depth j extent) (next-rows (p .stored) h e)
         ∙ any-join (λ q. off extent (subscriptAt q (formAt w depth j))) (rows depth i points) (take (at + depth - at) (drop at points) ∷ [])
         ∙ rw (f, ← here, t)

@@ -23,7 +23,7 @@ use Rattle.elements.specs.Search.{off, SubscriptIn}
 abbrev coefficients : List ℤ → ℕ → List ℤ → List ℤ
 coefficients w j point = take (length point) (drop (j * 8 + 1) w)
 
-module _ (w : List ℤ) (j : ℕ) (point : List ℤ) (p : SubscriptIn w j point) where
+module _ {w : List ℤ} {j : ℕ} {point : List ℤ} (p : SubscriptIn w j point) where
   word : (i : ℕ) → size (getD w i (pos 0)) ≤ 32767
   word i = within-at 32767 w (p .small) i
 

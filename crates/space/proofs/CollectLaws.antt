@@ -38,7 +38,7 @@ joined-grows f a m (suc r) =
 abbrev pub words : List ℤ → List ℕ → ℕ → ℕ → List ℤ → ℤ → ℕ → List ℤ
 words s c k left point lo t = joined (flatMap (after s c k left (take k point)) (ints lo t))
 
-module _ (s : List ℤ) (c : List ℕ) (k left : ℕ) (point o : List ℤ) (at : ℕ) (p : CollectIn s c k left point (length o) at) (len : length point ≡ 6) where
+module _ {s : List ℤ} {c : List ℕ} {k left : ℕ} {point : List ℤ} (o : List ℤ) {at : ℕ} (p : CollectIn s c k left point (length o) at) (len : length point ≡ 6) where
   pub shallow : k + left ≤ 6
   shallow = p .nest .shallow
 
@@ -76,7 +76,7 @@ module _ (s : List ℤ) (c : List ℕ) (k left : ℕ) (point o : List ℤ) (at :
   start lo = let e : words s c k left point lo 0 ≡ [] = ap joined (no-turn (after s c k left (take k point)) lo) in
       (sym (ap (λ (l : List ℤ). at + length l) e ∙ add-zero at), sym (ap (put o at) e ∙ put-nil o at))
 
-  module _ (lo hi : ℤ) (n : ℕ) (some : left ≡ 0 → ⊥) (r : Ranged (loopAt s c (length (take k point))) (take k point) lo hi) (cnt : n ≡ span (hi -ℤ lo)) where
+  module _ {lo hi : ℤ} {n : ℕ} (some : left ≡ 0 → ⊥) (r : Ranged (loopAt s c (length (take k point))) (take k point) lo hi) (cnt : n ≡ span (hi -ℤ lo)) where
     here : Ranged (loopAt s c k) (take k point) lo hi
     here = subst (λ (j : ℕ). Ranged (loopAt s c j) (take k point) lo hi) outer-length r
 
@@ -89,7 +89,7 @@ module _ (s : List ℤ) (c : List ℕ) (k left : ℕ) (point o : List ℤ) (at :
         let g = subst (λ (m : ℕ). length (words s c k left point lo t) ≤ length (words s c k left point lo m)) e (joined-grows (after s c k left (take k point)) lo t (n - t)) in
         let f = p .fits in let w = ap length whole in omega arith
 
-    module _ (t place : ℕ) (out q : List ℤ) (lt : t < n) (pe : place ≡ at + length (words s c k left point lo t)) (oe : out ≡ put o at (words s c k left point lo t)) (moved : q ≡ set point k (lo +ℤ pos t)) where
+    module _ {t place : ℕ} {out q : List ℤ} (lt : t < n) (pe : place ≡ at + length (words s c k left point lo t)) (oe : out ≡ put o at (words s c k left point lo t)) (moved : q ≡ set point k (lo +ℤ pos t)) where
       next-outer : take (k + 1) q ≡ take k point ++ ((lo +ℤ pos t) ∷ [])
       next-outer = let h = shallow in let g = one some in take-moved point q k (lo +ℤ pos t) (omega arith) moved
 

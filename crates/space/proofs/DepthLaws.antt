@@ -41,7 +41,7 @@ blank = record { far = false; count = 0 }
 abbrev pub Passed : ℕ → ℕ → List Loop → ℕ → Type 0
 Passed bound most N level = (j : ℕ) → 1 ≤ j → j < level → Passes bound most N j
 
-module _ (s : List ℤ) (c : List ℕ) (depth bound most : ℕ) (p : SurveyIn s c depth bound most) (level : ℕ) (passed : Passed bound most (loopsFrom s c 0 depth) level) (some : 1 ≤ level) where
+module _ {s : List ℤ} {c : List ℕ} {depth bound most : ℕ} (p : SurveyIn s c depth bound most) {level : ℕ} (passed : Passed bound most (loopsFrom s c 0 depth) level) (some : 1 ≤ level) where
   module _ (h : level ≤ depth) (point : List ℤ) where
     passed-part : (j : ℕ) → 1 ≤ j → j ≤ length (loopsFrom s c 0 (level - 1)) → Passes bound most (loopsFrom s c 0 (level - 1)) j
     unfolding partialPoints
@@ -61,7 +61,7 @@ module _ (s : List ℤ) (c : List ℕ) (depth bound most : ℕ) (p : SurveyIn s 
       counted = omega arith;
     }
 
-    module _ (r : Tally) (g : Tallied s c 0 level point bound most blank r) where
+    module _ {r : Tally} (g : Tallied s c 0 level point bound most blank r) where
       whole : r ≡ seen bound most blank (partialPoints level (loopsFrom s c 0 depth))
       whole = g .tallied ∙ ap (seen bound most blank) (partial-are s c level depth h)
 

@@ -32,7 +32,7 @@ copied z h = back (size-fits h (omega arith))
 abbrev coefficients : List ℤ → ℕ → List ℤ → List ℤ
 coefficients s j outer = take (length outer) (drop (j * 8 + 2) s)
 
-module _ (s : List ℤ) (j : ℕ) (outer : List ℤ) (p : LimitIn s j outer) where
+module _ {s : List ℤ} {j : ℕ} {outer : List ℤ} (p : LimitIn s j outer) where
   word : (i : ℕ) → size (getD s i (pos 0)) ≤ 32767
   word i = within-at 32767 s (p .small) i
 
@@ -72,10 +72,10 @@ multiplier-is : (z : ℤ) → pos 0 <ℤ z → pos (natAbs z) ≡ z
 multiplier-is (pos n) h = refl
 multiplier-is (negsuc n) h = absurd (omega zarith)
 
-module _ (s : List ℤ) (j : ℕ) (outer : List ℤ) (p : DivisorIn s j outer) where
+module _ {s : List ℤ} {j : ℕ} {outer : List ℤ} (p : DivisorIn s j outer) where
   divisor-is : toZ w64 (ofZ w64 (getD s (j * 8) (pos 0))) ≡ pos (limitAt s (length outer) j .multiplier)
   unfolding limitAt
-  divisor-is = read-word s j outer (p .limit) (j * 8) ∙ sym (multiplier-is (getD s (j * 8) (pos 0)) (p .positive))
+  divisor-is = read-word (p .limit) (j * 8) ∙ sym (multiplier-is (getD s (j * 8) (pos 0)) (p .positive))
 
   module _ (v r : ℤ) (q : (v ≡ value (limitAt s (length outer) j) outer) × (size v ≤ 34359738368)) where
     pub ceil-is : r ≡ ceilDiv (toZ w64 (ofZ w64 v)) (toZ w64 (ofZ w64 (getD s (j * 8) (pos 0))))

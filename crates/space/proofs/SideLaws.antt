@@ -58,7 +58,7 @@ module _ (s : List ℤ) (j : ℕ) (outer : List ℤ) (n m : ℕ) where
   unfolding lastFrom limitsAt smallest
   last-more i e f = rw (e, f)
 
-module _ (s : List ℤ) (j n : ℕ) (outer : List ℤ) (p : SideIn s j n outer) where
+module _ {s : List ℤ} {j n : ℕ} {outer : List ℤ} (p : SideIn s j n outer) where
   pub divisor-at : (i : ℕ) → i < n → DivisorIn s (j + i) outer
   divisor-at i h = let v = p .inside in
       record { limit = record { words = p .words; small = p .small; inside = omega arith; outside = p .outside }; positive = p .positive i h }
@@ -72,7 +72,7 @@ module _ (s : List ℤ) (j n : ℕ) (outer : List ℤ) (p : SideIn s j n outer) 
   pub last-last : floorAt outer (limitAt s (length outer) (j + (n - 1))) ≡ lastFrom s (j + (n - 1)) (n - (n - 1)) outer
   last-last = sym (last-one s (j + (n - 1)) outer (n - (n - 1)) 0 one-left)
 
-  module _ (i : ℕ) (h : 1 ≤ i) (l : i < n) (r x : ℤ) where
+  module _ {i : ℕ} (h : 1 ≤ i) (l : i < n) (r x : ℤ) where
     more : n - (i - 1) ≡ suc (suc (n - i - 1))
     more = omega arith
 

@@ -48,14 +48,14 @@ module _ {s : List ℤ} {c : List ℕ} {k left : ℕ} {point : List ℤ} {bound 
   pub start : (lo : ℤ) → a ≡ seen bound most a (done lo 0)
   start lo = seen-none bound most a (p .counted) ∙ ap (seen bound most a) (sym (no-turn (after s c k left (take k point)) lo))
 
-  module _ (lo hi : ℤ) (n : ℕ) (more : left ≡ 1 → ⊥) (r : Ranged (loopAt s c (length (take k point))) (take k point) lo hi) (e : n ≡ span (hi -ℤ lo)) where
+  module _ {lo hi : ℤ} {n : ℕ} (more : left ≡ 1 → ⊥) (r : Ranged (loopAt s c (length (take k point))) (take k point) lo hi) (e : n ≡ span (hi -ℤ lo)) where
     two : 2 ≤ left
     two = let h = p .some in omega (arith, more)
 
     here : Ranged (loopAt s c k) (take k point) lo hi
     here = subst (λ (j : ℕ). Ranged (loopAt s c j) (take k point) lo hi) outer-length r
 
-    module _ (t : ℕ) (b : Tally) (q : List ℤ) (h : t < n) (moved : q ≡ set point k (lo +ℤ pos t)) where
+    module _ {t : ℕ} (b : Tally) {q : List ℤ} (h : t < n) (moved : q ≡ set point k (lo +ℤ pos t)) where
       next-outer : take (k + 1) q ≡ take k point ++ ((lo +ℤ pos t) ∷ [])
       next-outer = let g = room in take-moved point q k (lo +ℤ pos t) (omega arith) moved
 

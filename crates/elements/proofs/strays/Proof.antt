@@ -23,10 +23,10 @@ unfolding straysAt rows any
 loop-holds c = (omega arith, sym (zero-mul (c .args .depth)), refl)
 
 add-leaves : tie.Need-add-leaves Inv-loop μ-loop
-add-leaves c = let s = c .before .before in let l = c .before .loop in let r = row-small (s .args .points .now) (s .args .depth) (s .args .count) (s .pre .stored) (l .i) (l .at) (c .loop-test .taken) (l .inv .1) in omega arith
+add-leaves c = let s = c .before .before in let l = c .before .loop in let r = row-small (s .pre .stored) (c .loop-test .taken) (l .inv .1) in omega arith
 
 mul-leaves : tie.Need-mul-leaves Inv-loop μ-loop
-mul-leaves c = let s = c .before .before in let l = c .before .loop in let r = row-small (s .args .points .now) (s .args .depth) (s .args .count) (s .pre .stored) (l .i) (l .at) (c .loop-test .taken) (l .inv .1) in omega arith
+mul-leaves c = let s = c .before .before in let l = c .before .loop in let r = row-small (s .pre .stored) (c .loop-test .taken) (l .inv .1) in omega arith
 
 sub-leaves : tie.Need-sub-leaves Inv-loop μ-loop
 sub-leaves c = omega arith
@@ -35,16 +35,16 @@ part-leaves-start : tie.Need-part-leaves-start Inv-loop μ-loop
 part-leaves-start c = omega arith
 
 part-leaves-end : tie.Need-part-leaves-end Inv-loop μ-loop
-part-leaves-end c = let s = c .before .before in let l = c .before .loop in row-ends (s .args .points .now) (s .args .depth) (s .args .count) (s .pre .stored) (l .i) (l .at) (c .loop-test .taken) (l .inv .1)
+part-leaves-end c = let s = c .before .before in let l = c .before .loop in row-ends (s .pre .stored) (c .loop-test .taken) (l .inv .1)
 
 leaves-requires : tie.Need-leaves-requires Inv-loop μ-loop
-leaves-requires c κs = let s = c .before .before .before in let l = c .before .before .loop in stray-in (s .args .words .now) (s .args .j) (s .args .extent) (s .args .points .now) (s .args .depth) (s .args .count) (s .pre) (l .i) (l .at) (c .before .loop-test .taken) (l .inv .1)
+leaves-requires c κs = let s = c .before .before .before in let l = c .before .before .loop in stray-in (s .pre) (c .before .loop-test .taken) (l .inv .1)
 
 returns : tie.Need-returns Inv-loop μ-loop
-returns c = let s = c .before .before .before .before .before in let l = c .before .before .before .before .loop in stray-found (s .args .words .now) (s .args .j) (s .args .extent) (s .args .points .now) (s .args .depth) (s .args .count) (s .pre) (l .i) (l .at) (c .before .before .before .loop-test .taken) (l .inv .1) (c .before .leaves .result) (c .before .leaves .ensures) (c .if1 .taken)
+returns c = let s = c .before .before .before .before .before in let l = c .before .before .before .before .loop in stray-found (s .pre) (c .before .before .before .loop-test .taken) (l .inv .1) (c .before .leaves .ensures) (c .if1 .taken)
 
 add-at : tie.Need-add-at Inv-loop μ-loop
-add-at c = let s = c .before .before .before .before .before in let l = c .before .before .before .before .loop in let r = row-small (s .args .points .now) (s .args .depth) (s .args .count) (s .pre .stored) (l .i) (l .at) (c .before .before .before .loop-test .taken) (l .inv .1) in omega arith
+add-at c = let s = c .before .before .before .before .before in let l = c .before .before .before .before .loop in let r = row-small (s .pre .stored) (c .before .before .before .loop-test .taken) (l .inv .1) in omega arith
 
 add-i : tie.Need-add-i Inv-loop μ-loop
 add-i c = let s = c .before .before .before .before .before in let b = s .pre .stored .bound in omega arith
@@ -54,7 +54,7 @@ loop-less c = let v = c .before .before .before .loop-test .taken in omega arith
 
 loop-again : tie.Need-loop-again Inv-loop μ-loop
 loop-again c = let s = c .before .before .before .before .before in let l = c .before .before .before .before .loop in let v = c .before .before .before .loop-test .taken in
-    (omega arith, ap (λ (k : ℕ). k + s .args .depth) (l .inv .1) ∙ row-next (s .args .depth) (l .i), stray-not (s .args .words .now) (s .args .j) (s .args .extent) (s .args .points .now) (s .args .depth) (s .args .count) (s .pre) (l .i) (l .at) v (l .inv .1) (c .before .leaves .result) (c .before .leaves .ensures) (c .if1 .left) (l .inv .2))
+    (omega arith, ap (λ (k : ℕ). k + s .args .depth) (l .inv .1) ∙ row-next (s .args .depth) (l .i), stray-not (s .pre) v (l .inv .1) (c .before .leaves .ensures) (c .if1 .left) (l .inv .2))
 
 returns-2 : tie.Need-returns-2 Inv-loop μ-loop
 returns-2 c = let s = c .before .before in let l = c .before .loop in let e : l .i ≡ s .args .count = omega (arith, l .inv .0, c .loop-test .left) in

@@ -85,7 +85,7 @@ tally-points-sub-tally-points t c = let s = c .before .before .before .before .b
 
 tally-points-tally-points-requires : (t : ℕ) → tally-points-lts.Need-tally-points-requires (claims t) (tally-points-at t) tally-points.Post tally-points-Inv-loop tally-points-μ-loop
 tally-points-tally-points-requires t c κs = let s = c .before .before .before .before .before .before .before .before in let l = c .before .before .loop in let h = s .pre .1 .some in let m = s .pre .0 in
-    (omega arith, turn-in (s .pre .1) (s .good .1 .1 .1 .1 .0 .1 .0 .1) (c .before .before .before .before .range .result .lo) (c .before .before .before .before .range .result .hi) (c .before .before .before .count .result) (c .before .before .before .before .before .before .if1 .left) (c .before .before .before .before .range .ensures) (c .before .before .before .count .ensures .0) (l .t) (l .b) (c .moved .result) (c .before .loop-test .taken) (c .moved .ensures) (l .inv .1))
+    (omega arith, turn-in (s .pre .1) (s .good .1 .1 .1 .1 .0 .1 .0 .1) (c .before .before .before .before .before .before .if1 .left) (c .before .before .before .before .range .ensures) (c .before .before .before .count .ensures .0) (l .b) (c .before .loop-test .taken) (c .moved .ensures) (l .inv .1))
 
 tally-points-add-t : (t : ℕ) → tally-points-lts.Need-add-t (claims t) (tally-points-at t) tally-points.Post tally-points-Inv-loop tally-points-μ-loop
 tally-points-add-t t c = let u = c .before .before .before .before .count .ensures .1 in let v = c .before .before .loop-test .taken in record { fits = omega arith }
@@ -95,11 +95,11 @@ tally-points-loop-less t c = let v = c .before .before .loop-test .taken in omeg
 
 tally-points-loop-again : (t : ℕ) → tally-points-lts.Need-loop-again (claims t) (tally-points-at t) tally-points.Post tally-points-Inv-loop tally-points-μ-loop
 tally-points-loop-again t c = let s = c .before .before .before .before .before .before .before .before .before in let l = c .before .before .before .loop in let v = c .before .before .loop-test .taken in
-    (omega arith, c .tally-points .ensures .counted, turn-out (s .pre .1) (s .good .1 .1 .1 .1 .0 .1 .0 .1) (c .before .before .before .before .before .range .result .lo) (c .before .before .before .before .before .range .result .hi) (c .before .before .before .before .count .result) (c .before .before .before .before .before .before .before .if1 .left) (c .before .before .before .before .before .range .ensures) (c .before .before .before .before .count .ensures .0) (l .t) (l .b) (c .before .moved .result) v (c .before .moved .ensures) (c .tally-points .result) (l .inv .2) (c .tally-points .ensures))
+    (omega arith, c .tally-points .ensures .counted, turn-out (s .pre .1) (s .good .1 .1 .1 .1 .0 .1 .0 .1) (c .before .before .before .before .before .before .before .if1 .left) (c .before .before .before .before .before .range .ensures) (c .before .before .before .before .count .ensures .0) (l .b) v (c .before .moved .ensures) (c .tally-points .result) (l .inv .2) (c .tally-points .ensures))
 
 tally-points-returns-2 : (t : ℕ) → tally-points-lts.Need-returns-2 (claims t) (tally-points-at t) tally-points.Post tally-points-Inv-loop tally-points-μ-loop
 tally-points-returns-2 t c = let s = c .before .before .before .before .before .before .before in let l = c .before .loop in
-    level-out (s .pre .1) (s .good .1 .1 .1 .1 .0 .1 .0 .1) (c .before .before .before .range .result .lo) (c .before .before .before .range .result .hi) (c .before .before .count .result) (c .before .before .before .before .before .if1 .left) (c .before .before .before .range .ensures) (c .before .before .count .ensures .0) (l .t) (l .b) (l .inv .0) (c .loop-test .left) (l .inv .1) (l .inv .2)
+    level-out (s .pre .1) (s .good .1 .1 .1 .1 .0 .1 .0 .1) (c .before .before .before .before .before .if1 .left) (c .before .before .before .range .ensures) (c .before .before .count .ensures .0) (l .t) (l .b) (l .inv .0) (c .loop-test .left) (l .inv .1) (l .inv .2)
 
 pub +tally-points-spec : {M : Type 1} → statement M
 +tally-points-spec = close μ-tally-points λ t. tally-points-lts.spec (claims t)

@@ -20,7 +20,7 @@ floor-div-requires : tie.Need-floor-div-requires
 floor-div-requires c κs = search needs
 
 returns : tie.Need-returns
-returns c = let s = c .before .before .before in floor-is (s .args .nest .now) (s .args .j) (s .args .outer .now) (s .pre) (c .before .before .value .result) (c .floor-div .result) (c .before .before .value .ensures) (c .floor-div .ensures)
+returns c = let s = c .before .before .before in floor-is (s .pre) (c .before .before .value .result) (c .floor-div .result) (c .before .before .value .ensures) (c .floor-div .ensures)
 
 pub high-at-spec : {M : Type 1} → statement M
 high-at-spec =

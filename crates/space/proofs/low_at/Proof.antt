@@ -20,7 +20,7 @@ ceil-div-requires : tie.Need-ceil-div-requires
 ceil-div-requires c κs = search needs
 
 returns : tie.Need-returns
-returns c = let s = c .before .before .before in ceil-is (s .args .nest .now) (s .args .j) (s .args .outer .now) (s .pre) (c .before .before .value .result) (c .ceil-div .result) (c .before .before .value .ensures) (c .ceil-div .ensures)
+returns c = let s = c .before .before .before in ceil-is (s .pre) (c .before .before .value .result) (c .ceil-div .result) (c .before .before .value .ensures) (c .ceil-div .ensures)
 
 pub low-at-spec : {M : Type 1} → statement M
 low-at-spec =

@@ -16,15 +16,15 @@ loop-holds : tie.Need-loop-holds Inv-loop μ-loop
 loop-holds c = (omega arith, λ j a b. absurd (omega arith), omega arith)
 
 tally-points-requires : tie.Need-tally-points-requires Inv-loop μ-loop
-tally-points-requires c κs = let s = c .before .before .before in let l = c .before .loop in tally-in (s .args .nest .now) (s .args .counts .now) (s .args .depth) (s .args .bound) (s .args .most) (s .pre) (l .level) (l .inv .1) (l .inv .0) (c .loop-test .taken) _
+tally-points-requires c κs = let s = c .before .before .before in let l = c .before .loop in tally-in (s .pre) (l .inv .1) (l .inv .0) (c .loop-test .taken) _
 
 returns : tie.Need-returns Inv-loop μ-loop
 returns c = let s = c .before .before .before .before .before in let l = c .before .before .before .loop in let t = c .before .tally-points in
-    λ far crowded. far-answer (s .args .nest .now) (s .args .counts .now) (s .args .depth) (s .args .bound) (s .args .most) (s .pre) (l .level) (l .inv .1) (l .inv .0) (c .before .before .loop-test .taken) _ (t .result) (t .ensures) far crowded (c .if1 .taken)
+    λ far crowded. far-answer (s .pre) (l .inv .1) (l .inv .0) (c .before .before .loop-test .taken) _ (t .ensures) far crowded (c .if1 .taken)
 
 returns-2 : tie.Need-returns-2 Inv-loop μ-loop
 returns-2 c = let s = c .before .before .before .before .before .before .before in let l = c .before .before .before .before .before .loop in let t = c .before .before .before .tally-points in
-    λ far crowded. crowded-answer (s .args .nest .now) (s .args .counts .now) (s .args .depth) (s .args .bound) (s .args .most) (s .pre) (l .level) (l .inv .1) (l .inv .0) (c .before .before .before .before .loop-test .taken) _ (t .result) (t .ensures) far crowded (c .before .before .if1 .left) (c .if2 .taken)
+    λ far crowded. crowded-answer (s .pre) (l .inv .1) (l .inv .0) (c .before .before .before .before .loop-test .taken) _ (t .ensures) far crowded (c .before .before .if1 .left) (c .if2 .taken)
 
 add-level : tie.Need-add-level Inv-loop μ-loop
 add-level c = let d = c .before .before .before .before .before .before .before .pre .nest .shallow in let h = c .before .before .before .before .loop-test .taken in omega arith
@@ -34,10 +34,10 @@ loop-less c = let h = c .before .before .before .before .loop-test .taken in ome
 
 loop-again : tie.Need-loop-again Inv-loop μ-loop
 loop-again c = let s = c .before .before .before .before .before .before .before in let l = c .before .before .before .before .before .loop in let t = c .before .before .before .tally-points in let h = c .before .before .before .before .loop-test .taken in
-    (omega arith, passes (s .args .nest .now) (s .args .counts .now) (s .args .depth) (s .args .bound) (s .args .most) (s .pre) (l .level) (l .inv .1) (l .inv .0) h _ (t .result) (t .ensures) (c .before .before .if1 .left) (c .if2 .left), omega arith)
+    (omega arith, passes (s .pre) (l .inv .1) (l .inv .0) h _ (t .ensures) (c .before .before .if1 .left) (c .if2 .left), omega arith)
 
 returns-3 : tie.Need-returns-3 Inv-loop μ-loop
-returns-3 c = let s = c .before .before .before in let l = c .before .loop in λ far crowded. admitted-answer (s .args .nest .now) (s .args .counts .now) (s .args .depth) (s .args .bound) (s .args .most) (s .pre) (l .level) (l .inv .1) (l .inv .0) far crowded (omega (arith, l .inv .2, c .loop-test .left))
+returns-3 c = let s = c .before .before .before in let l = c .before .loop in λ far crowded. admitted-answer (s .pre) (l .inv .1) (l .inv .0) far crowded (omega (arith, l .inv .2, c .loop-test .left))
 
 pub survey-spec : {M : Type 1} → statement M
 survey-spec =

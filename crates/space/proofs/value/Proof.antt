@@ -38,10 +38,10 @@ part-affine-end : tie.Need-part-affine-end
 part-affine-end c = search needs
 
 affine-requires : tie.Need-affine-requires
-affine-requires c κs = let s = c .before .before in affine-in (s .args .nest .now) (s .args .j) (s .args .outer .now) (s .pre)
+affine-requires c κs = let s = c .before .before in affine-in (s .pre)
 
 returns : tie.Need-returns
-returns c = let s = c .before .before .before in value-is (s .args .nest .now) (s .args .j) (s .args .outer .now) (s .pre) (c .affine .result) (c .affine .ensures)
+returns c = let s = c .before .before .before in value-is (s .pre) (c .affine .result) (c .affine .ensures)
 
 pub value-spec : {M : Type 1} → statement M
 value-spec =
