@@ -15,7 +15,6 @@ use mir.Val.{Fits, toZ, ofZ}
 use lib.Dec.{T}
 use lib.Signed.{nonNeg}
 use Rattle.lists.proofs.MembershipLaws.{all-take}
-use Rattle.integers.specs.Difference.{size}
 use Rattle.integers.proofs.RingLaws.{zarith, nonneg-down}
 use Rattle.integers.proofs.RangeLaws.{test-lt-no, test-le-no, size-natAbs, size-fits, cast-ok}
 use Rattle.model.specs.Ticket.{Subscript}
@@ -24,6 +23,7 @@ use Rattle.model.specs.Bounds.{subscriptAt, outside, strays}
 use Rattle.model.specs.Machine.{element}
 use Rattle.model.specs.Store.{placeFrom, placeOf}
 use Rattle.space.proofs.LimitLaws.{copied}
+use Rattle.space.specs.Ranges.{Narrow}
 use Rattle.elements.specs.Layout.{extentsAt, formAt, formsFrom, accessAt, ArrayIn}
 use Rattle.elements.specs.Search.{off}
 use Rattle.elements.specs.Places.{IndexIn, PlaceIn, placeAt}
@@ -74,7 +74,7 @@ forms-getD f w n j (suc m) (suc d) h = forms-getD f w n (suc j) m d (omega arith
 
 -- ---- an index
 
-module _ {w : List ℤ} {j : ℕ} {point : List ℤ} (p : IndexIn w j point) {r : ℤ} (e : r ≡ subscriptAt point (formAt w (length point) j)) (b : size r ≤ 34359738368) where
+module _ {w : List ℤ} {j : ℕ} {point : List ℤ} (p : IndexIn w j point) {r : ℤ} (e : r ≡ subscriptAt point (formAt w (length point) j)) (b : Narrow r) where
   not-negative : pos 0 ≤ℤ r
   not-negative = subst (λ (z : ℤ). pos 0 ≤ℤ z) (sym e) (p .inside)
 

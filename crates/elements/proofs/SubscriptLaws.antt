@@ -17,6 +17,7 @@ use Rattle.integers.proofs.RangeLaws.{from-nat}
 use Rattle.integers.proofs.AffineLaws.{within-at, within-take, affine-size, nest-affine}
 use Rattle.model.specs.Bounds.{subscriptAt}
 use Rattle.space.proofs.LimitLaws.{copied, within-drop}
+use Rattle.space.specs.Ranges.{Narrow}
 use Rattle.elements.specs.Layout.{formAt}
 use Rattle.elements.specs.Search.{off, SubscriptIn}
 
@@ -42,23 +43,23 @@ module _ {w : List ℤ} {j : ℕ} {point : List ℤ} (p : SubscriptIn w j point)
   pub affine-in : AffineIn (toZ w64 (ofZ w64 (getD w (j * 8) (pos 0)))) (take (j * 8 + 1 + length point - (j * 8 + 1)) (drop (j * 8 + 1) w)) point
   affine-in = rw (read-word (j * 8), span-is) (let m = matched in let f = p .few in nest-affine m (omega arith) (word (j * 8)) small (p .near))
 
-  subscript-size : size (subscriptAt point (formAt w (length point) j)) ≤ 34359738368
+  subscript-size : Narrow (subscriptAt point (formAt w (length point) j))
   unfolding subscriptAt formAt
   subscript-size = let m = matched in let f = p .few in let h = word (j * 8) in let g : length (coefficients w j point) ≤ 6 = omega arith in
       omega (arith, affine-size 32767 100000 (getD w (j * 8) (pos 0)) (coefficients w j point) point small (p .near), mul-le-mul-right (32767 * 100000) g)
 
   pub subscript-is : (r : ℤ) → r ≡ affine (toZ w64 (ofZ w64 (getD w (j * 8) (pos 0)))) (take (j * 8 + 1 + length point - (j * 8 + 1)) (drop (j * 8 + 1) w)) point
-      → (toZ w64 (ofZ w64 r) ≡ subscriptAt point (formAt w (length point) j)) × (size (toZ w64 (ofZ w64 r)) ≤ 34359738368)
+      → (toZ w64 (ofZ w64 r) ≡ subscriptAt point (formAt w (length point) j)) × Narrow (toZ w64 (ofZ w64 r))
   unfolding subscriptAt formAt
   subscript-is r e =
       let f : r ≡ subscriptAt point (formAt w (length point) j) = e ∙ rw (read-word (j * 8), span-is) in
       let v = subscript-size in
       let g : toZ w64 (ofZ w64 r) ≡ subscriptAt point (formAt w (length point) j) = ap (λ (z : ℤ). toZ w64 (ofZ w64 z)) f ∙ copied _ v in
-      (g, subst (λ (z : ℤ). size z ≤ 34359738368) (sym g) v)
+      (g, subst Narrow (sym g) v)
 
 -- ---- the test
 
-module _ (extent : ℕ) (x z : ℤ) (h : extent ≤ 4096) (e : x ≡ z) (b : size x ≤ 34359738368) where
+module _ (extent : ℕ) (x z : ℤ) (h : extent ≤ 4096) (e : x ≡ z) (b : Narrow x) where
   read : toZ w64 (ofZ w64 x) ≡ z
   read = copied x b ∙ e
 

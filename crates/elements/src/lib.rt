@@ -5,10 +5,10 @@ ghost use Prim.Native.Nat.{_*_, _≤_, _<_};
 ghost use lib.IntN.{natAbs};
 ghost use lib.ListN.{length};
 ghost use Rattle.lists.specs.Parts.{rows, put};
-ghost use Rattle.integers.specs.Difference.{size};
 ghost use Rattle.model.specs.Grammar.{elements};
 ghost use Rattle.model.specs.Bounds.{subscriptAt};
 ghost use Rattle.model.specs.Store.{base};
+ghost use Rattle.space.specs.Ranges.{Narrow};
 ghost use Rattle.elements.specs.Layout.{extentsAt, arraysOf, formAt, ArrayIn};
 ghost use Rattle.elements.specs.Search.{off, straysAt, SubscriptIn, StrayIn, SearchIn, Searched};
 ghost use Rattle.elements.specs.Places.{BaseIn, IndexIn, PlaceIn, NumberIn, placeAt, placesOf, numbered};
@@ -16,7 +16,7 @@ ghost use Rattle.elements.specs.Places.{BaseIn, IndexIn, PlaceIn, Number
 // Subscript j of all, at a point.
 fn subscript(words: &[i64], j: usize, point: &[i64]) -> i64
     requires { ⌜ SubscriptIn (now words) j (now point) ⌝ }
-    ensures { λ r. ⌜ (r ≡ subscriptAt (now (point .entry)) (formAt (now (words .entry)) (length (now (point .entry))) j)) × (size r ≤ 34359738368) ⌝ }
+    ensures { λ r. ⌜ (r ≡ subscriptAt (now (point .entry)) (formAt (now (words .entry)) (length (now (point .entry))) j)) × Narrow r ⌝ }
 {
     let at = j * 8;
     integers::affine(words[at], &words[at + 1..at + 1 + point.len()], point)

@@ -18,7 +18,7 @@ use Rattle.integers.proofs.DivisionLaws.{size-ceil, size-floor}
 use Rattle.integers.proofs.AffineLaws.{within-at, within-take, affine-size, nest-affine}
 use Rattle.model.specs.Points.{value}
 use Rattle.space.specs.Flat.{limitAt}
-use Rattle.space.specs.Ranges.{ceilAt, floorAt, LimitIn, DivisorIn}
+use Rattle.space.specs.Ranges.{Narrow, ceilAt, floorAt, LimitIn, DivisorIn}
 
 pub within-drop : (n : ℕ) (l : List ℤ) (i : ℕ) → Within n l → Within n (drop i l)
 within-drop n l zero w = w
@@ -26,7 +26,7 @@ within-drop n [] (suc i) w = tt
 within-drop n (x ∷ l) (suc i) w = within-drop n l i (w .1)
 
 -- the machine's copy of a small number
-pub copied : (z : ℤ) → size z ≤ 34359738368 → toZ w64 (ofZ w64 z) ≡ z
+pub copied : (z : ℤ) → Narrow z → toZ w64 (ofZ w64 z) ≡ z
 copied z h = back (size-fits h (omega arith))
 
 abbrev coefficients : List ℤ → ℕ → List ℤ → List ℤ
@@ -52,19 +52,19 @@ module _ {s : List ℤ} {j : ℕ} {outer : List ℤ} (p : LimitIn s j outer) whe
   pub affine-in : AffineIn (toZ w64 (ofZ w64 (getD s (j * 8 + 1) (pos 0)))) (take (j * 8 + 2 + length outer - (j * 8 + 2)) (drop (j * 8 + 2) s)) outer
   affine-in = rw (read-word (j * 8 + 1), span-is) (let m = matched in let f = p .outside .few in nest-affine m (omega arith) (word (j * 8 + 1)) small (p .outside .near))
 
-  value-size : size (value (limitAt s (length outer) j) outer) ≤ 34359738368
+  value-size : Narrow (value (limitAt s (length outer) j) outer)
   unfolding value limitAt
   value-size = let m = matched in let f = p .outside .few in let w = word (j * 8 + 1) in let g : length (coefficients s j outer) ≤ 6 = omega arith in
       omega (arith, affine-size 32767 100000 (getD s (j * 8 + 1) (pos 0)) (coefficients s j outer) outer small (p .outside .near), mul-le-mul-right (32767 * 100000) g)
 
   pub value-is : (r : ℤ) → r ≡ affine (toZ w64 (ofZ w64 (getD s (j * 8 + 1) (pos 0)))) (take (j * 8 + 2 + length outer - (j * 8 + 2)) (drop (j * 8 + 2) s)) outer
-      → (toZ w64 (ofZ w64 r) ≡ value (limitAt s (length outer) j) outer) × (size (toZ w64 (ofZ w64 r)) ≤ 34359738368)
+      → (toZ w64 (ofZ w64 r) ≡ value (limitAt s (length outer) j) outer) × Narrow (toZ w64 (ofZ w64 r))
   unfolding value limitAt
   value-is r e =
       let f : r ≡ value (limitAt s (length outer) j) outer = e ∙ rw (read-word (j * 8 + 1), span-is) in
       let v = value-size in
       let g : toZ w64 (ofZ w64 r) ≡ value (limitAt s (length outer) j) outer = ap (λ (z : ℤ). toZ w64 (ofZ w64 z)) f ∙ copied _ v in
-      (g, subst (λ (z : ℤ). size z ≤ 34359738368) (sym g) v)
+      (g, subst Narrow (sym g) v)
 
 -- ---- the quotient
 
@@ -77,21 +77,21 @@ module _ {s : List ℤ} {j : ℕ} {outer : List ℤ} (p : DivisorIn s j outer) w
   unfolding limitAt
   divisor-is = read-word (p .limit) (j * 8) ∙ sym (multiplier-is (getD s (j * 8) (pos 0)) (p .positive))
 
-  module _ (v r : ℤ) (q : (v ≡ value (limitAt s (length outer) j) outer) × (size v ≤ 34359738368)) where
+  module _ (v r : ℤ) (q : (v ≡ value (limitAt s (length outer) j) outer) × Narrow v) where
     pub ceil-is : r ≡ ceilDiv (toZ w64 (ofZ w64 v)) (toZ w64 (ofZ w64 (getD s (j * 8) (pos 0))))
-        → (toZ w64 (ofZ w64 r) ≡ ceilAt outer (limitAt s (length outer) j)) × (size (toZ w64 (ofZ w64 r)) ≤ 34359738368)
+        → (toZ w64 (ofZ w64 r) ≡ ceilAt outer (limitAt s (length outer) j)) × Narrow (toZ w64 (ofZ w64 r))
     unfolding ceilAt
     ceil-is e = let b = q .1 in
         let f : r ≡ ceilDiv v (pos (limitAt s (length outer) j .multiplier)) = e ∙ rw (copied v b, divisor-is) in
-        let k : size r ≤ 34359738368 = subst (λ (z : ℤ). size z ≤ 34359738368) (sym f) (omega (arith, size-ceil v (pos (limitAt s (length outer) j .multiplier)))) in
+        let k : Narrow r = subst Narrow (sym f) (omega (arith, size-ceil v (pos (limitAt s (length outer) j .multiplier)))) in
         let g : toZ w64 (ofZ w64 r) ≡ r = copied r k in
-        (g ∙ f ∙ rw (q .0), subst (λ (z : ℤ). size z ≤ 34359738368) (sym g) k)
+        (g ∙ f ∙ rw (q .0), subst Narrow (sym g) k)
 
     pub floor-is : r ≡ floorDiv (toZ w64 (ofZ w64 v)) (toZ w64 (ofZ w64 (getD s (j * 8) (pos 0))))
-        → (toZ w64 (ofZ w64 r) ≡ floorAt outer (limitAt s (length outer) j)) × (size (toZ w64 (ofZ w64 r)) ≤ 34359738368)
+        → (toZ w64 (ofZ w64 r) ≡ floorAt outer (limitAt s (length outer) j)) × Narrow (toZ w64 (ofZ w64 r))
     unfolding floorAt
     floor-is e = let b = q .1 in
         let f : r ≡ floorDiv v (pos (limitAt s (length outer) j .multiplier)) = e ∙ rw (copied v b, divisor-is) in
-        let k : size r ≤ 34359738368 = subst (λ (z : ℤ). size z ≤ 34359738368) (sym f) (omega (arith, size-floor v (pos (limitAt s (length outer) j .multiplier)))) in
+        let k : Narrow r = subst Narrow (sym f) (omega (arith, size-floor v (pos (limitAt s (length outer) j .multiplier)))) in
         let g : toZ w64 (ofZ w64 r) ≡ r = copied r k in
-        (g ∙ f ∙ rw (q .0), subst (λ (z : ℤ). size z ≤ 34359738368) (sym g) k)
+        (g ∙ f ∙ rw (q .0), subst Narrow (sym g) k)

@@ -18,7 +18,7 @@ use Rattle.integers.proofs.RingLaws.{zarith}
 use Rattle.integers.proofs.RangeLaws.{back, size-fits, size-sub, size-natAbs, cast-ok, test-lt, test-lt-no}
 use Rattle.model.specs.Points.{span, firstIndex, lastIndex}
 use Rattle.space.specs.Flat.{NestOk, loopAt}
-use Rattle.space.specs.Ranges.{ceilAt, floorAt, firstFrom, lastFrom, Outside, RangeIn, Ranged}
+use Rattle.space.specs.Ranges.{Narrow, ceilAt, floorAt, firstFrom, lastFrom, Outside, RangeIn, Ranged}
 use Rattle.space.proofs.LimitLaws.{copied}
 
 pub range-in : (s : List ℤ) (c : List ℕ) (depth : ℕ) (outer : List ℤ) → NestOk s c depth → length outer < depth → Within 100000 outer → RangeIn s c outer
@@ -35,8 +35,8 @@ range-in s c depth outer p h w =
 
 -- the model's ends
 pub ranged : (s : List ℤ) (c : List ℕ) (outer : List ℤ) (lo hi : ℤ)
-    → (lo ≡ firstFrom s (length outer * 32) (getD c (length outer * 2) 0) outer) × (size lo ≤ 34359738368)
-    → (hi ≡ lastFrom s (length outer * 32 + 16) (getD c (length outer * 2 + 1) 0) outer) × (size hi ≤ 34359738368)
+    → (lo ≡ firstFrom s (length outer * 32) (getD c (length outer * 2) 0) outer) × Narrow lo
+    → (hi ≡ lastFrom s (length outer * 32 + 16) (getD c (length outer * 2 + 1) 0) outer) × Narrow hi
     → Ranged (loopAt s c (length outer)) outer (toZ w64 (ofZ w64 lo)) (toZ w64 (ofZ w64 hi))
 unfolding loopAt firstFrom lastFrom firstIndex lastIndex ceilAt floorAt
 ranged s c outer lo hi p q = let a = copied lo (p .1) in let b = copied hi (q .1) in
@@ -54,7 +54,7 @@ unfolding span
 span-positive (pos n) h = add-one n
 span-positive (negsuc n) h = absurd (omega zarith)
 
-module _ (lo hi : ℤ) (p : (size lo ≤ 34359738368) × (size hi ≤ 34359738368)) where
+module _ (lo hi : ℤ) (p : Narrow lo × Narrow hi) where
   difference-size : size (hi -ℤ lo) ≤ 68719476736
   difference-size = omega (arith, size-sub hi lo)
 

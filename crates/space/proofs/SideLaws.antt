@@ -10,31 +10,30 @@ use lib.Signed.{ltZ}
 use lib.ListN.{length}
 use mir.Syntax.{w64}
 use mir.Val.{toZ, ofZ}
-use Rattle.integers.specs.Difference.{size}
 use Rattle.model.specs.Points.{maxZ, minZ, largest, smallest}
 use Rattle.space.specs.Flat.{limitAt, limitsAt}
-use Rattle.space.specs.Ranges.{ceilAt, floorAt, firstFrom, lastFrom, DivisorIn, SideIn}
+use Rattle.space.specs.Ranges.{Narrow, ceilAt, floorAt, firstFrom, lastFrom, DivisorIn, SideIn}
 use Rattle.space.proofs.LimitLaws.{copied}
 
 -- ---- the larger and the smaller of two
 
-module _ (x y : ℤ) (p : (size x ≤ 34359738368) × (size y ≤ 34359738368)) where
-  pub max-left : ltZ (toZ w64 (ofZ w64 y)) (toZ w64 (ofZ w64 x)) ≡ true → (toZ w64 (ofZ w64 x) ≡ maxZ x y) × (size (toZ w64 (ofZ w64 x)) ≤ 34359738368)
+module _ (x y : ℤ) (p : Narrow x × Narrow y) where
+  pub max-left : ltZ (toZ w64 (ofZ w64 y)) (toZ w64 (ofZ w64 x)) ≡ true → (toZ w64 (ofZ w64 x) ≡ maxZ x y) × Narrow (toZ w64 (ofZ w64 x))
   unfolding maxZ
   max-left e = let a = copied x (p .0) in let b = copied y (p .1) in
       let f : ltZ y x ≡ true = rw (a, b) at e in (a ∙ rw f, rw a (p .0))
 
-  pub max-right : ltZ (toZ w64 (ofZ w64 y)) (toZ w64 (ofZ w64 x)) ≡ false → (y ≡ maxZ x y) × (size y ≤ 34359738368)
+  pub max-right : ltZ (toZ w64 (ofZ w64 y)) (toZ w64 (ofZ w64 x)) ≡ false → (y ≡ maxZ x y) × Narrow y
   unfolding maxZ
   max-right e = let a = copied x (p .0) in let b = copied y (p .1) in
       let f : ltZ y x ≡ false = rw (a, b) at e in (rw f, p .1)
 
-  pub min-left : ltZ (toZ w64 (ofZ w64 x)) (toZ w64 (ofZ w64 y)) ≡ true → (toZ w64 (ofZ w64 x) ≡ minZ x y) × (size (toZ w64 (ofZ w64 x)) ≤ 34359738368)
+  pub min-left : ltZ (toZ w64 (ofZ w64 x)) (toZ w64 (ofZ w64 y)) ≡ true → (toZ w64 (ofZ w64 x) ≡ minZ x y) × Narrow (toZ w64 (ofZ w64 x))
   unfolding minZ
   min-left e = let a = copied x (p .0) in let b = copied y (p .1) in
       let f : ltZ x y ≡ true = rw (a, b) at e in (a ∙ rw f, rw a (p .0))
 
-  pub min-right : ltZ (toZ w64 (ofZ w64 x)) (toZ w64 (ofZ w64 y)) ≡ false → (y ≡ minZ x y) × (size y ≤ 34359738368)
+  pub min-right : ltZ (toZ w64 (ofZ w64 x)) (toZ w64 (ofZ w64 y)) ≡ false → (y ≡ minZ x y) × Narrow y
   unfolding minZ
   min-right e = let a = copied x (p .0) in let b = copied y (p .1) in
       let f : ltZ x y ≡ false = rw (a, b) at e in (rw f, p .1)
@@ -97,8 +96,8 @@ module _ {s : List ℤ} {j n : ℕ} {outer : List ℤ} (p : SideIn s j n outer) 
     all-left : n - i ≡ n
     all-left = omega arith
 
-    pub first-all : r ≡ firstFrom s (j + i) (n - i) outer → size r ≤ 34359738368 → (toZ w64 (ofZ w64 r) ≡ firstFrom s j n outer) × (size (toZ w64 (ofZ w64 r)) ≤ 34359738368)
+    pub first-all : r ≡ firstFrom s (j + i) (n - i) outer → Narrow r → (toZ w64 (ofZ w64 r) ≡ firstFrom s j n outer) × Narrow (toZ w64 (ofZ w64 r))
     first-all e b = let a = copied r b in (a ∙ e ∙ rw (same-place, all-left), rw a b)
 
-    pub last-all : r ≡ lastFrom s (j + i) (n - i) outer → size r ≤ 34359738368 → (toZ w64 (ofZ w64 r) ≡ lastFrom s j n outer) × (size (toZ w64 (ofZ w64 r)) ≤ 34359738368)
+    pub last-all : r ≡ lastFrom s (j + i) (n - i) outer → Narrow r → (toZ w64 (ofZ w64 r) ≡ lastFrom s j n outer) × Narrow (toZ w64 (ofZ w64 r))
     last-all e b = let a = copied r b in (a ∙ e ∙ rw (same-place, all-left), rw a b)

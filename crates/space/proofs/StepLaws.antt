@@ -16,7 +16,7 @@ use Rattle.integers.proofs.RangeLaws.{back, from-nat, size-add, size-fits}
 use Rattle.model.specs.Ticket.{Loop}
 use Rattle.model.specs.Points.{span}
 use Rattle.space.specs.Flat.{loopAt, loopsFrom}
-use Rattle.space.specs.Ranges.{Ranged}
+use Rattle.space.specs.Ranges.{Narrow, Ranged}
 use Rattle.space.specs.Tallies.{Near}
 use Rattle.space.proofs.LimitLaws.{copied}
 use Rattle.space.proofs.ThroughLaws.{indices-are, loops-step}
@@ -28,7 +28,7 @@ within-snoc n (x ∷ l) i w h = (w .0, within-snoc n l i (w .1) h)
 
 -- ---- the next index
 
-module _ (lo : ℤ) (t : ℕ) (h : size lo ≤ 34359738368) (g : t ≤ 68719476737) where
+module _ (lo : ℤ) (t : ℕ) (h : Narrow lo) (g : t ≤ 68719476737) where
   index-is : toZ w64 (ofZ w64 lo) +ℤ toZ w64 t ≡ lo +ℤ pos t
   index-is = ap₂ _+ℤ_ (copied lo h) (from-nat (omega arith))
 

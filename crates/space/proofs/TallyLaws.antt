@@ -14,13 +14,12 @@ use mir.Syntax.{w64}
 use mir.Val.{SFits, toZ, ofZ}
 use Rattle.lists.specs.Tests.{any}
 use Rattle.lists.proofs.TestLaws.{any-join, cond-cases}
-use Rattle.integers.specs.Difference.{size}
 use Rattle.integers.proofs.RangeLaws.{back, from-nat, size-fits, size-sub}
 use Rattle.model.specs.Ticket.{Loop}
 use Rattle.model.specs.Points.{span, ints}
 use Rattle.model.specs.Bounds.{lastOf, beyond}
 use Rattle.space.specs.declared.Tally.{Tally}
-use Rattle.space.specs.Ranges.{Ranged}
+use Rattle.space.specs.Ranges.{Narrow, Ranged}
 use Rattle.space.specs.Tallies.{through, capped, outside, seen}
 use Rattle.space.proofs.LimitLaws.{copied}
 use Rattle.space.proofs.ThroughLaws.{through-one, indices-are, length-ints}
@@ -60,7 +59,7 @@ capped-test most n = cond-cases (λ (k : ℕ). ltb most k ≡ ltb most n) (ltb m
 
 -- ---- the ends of a range
 
-module _ (bound : ℕ) (lo hi : ℤ) (p : (bound ≤ 100000) × (size lo ≤ 34359738368) × (size hi ≤ 34359738368)) where
+module _ (bound : ℕ) (lo hi : ℤ) (p : (bound ≤ 100000) × Narrow lo × Narrow hi) where
   bound-is : toZ w64 bound ≡ pos bound
   bound-is = from-nat (omega arith)
 

@@ -12,6 +12,10 @@ use Rattle.model.specs.Ticket.{Limit, Loop}
 use Rattle.model.specs.Points.{value, largest, smallest, firstIndex, lastIndex}
 use Rattle.space.specs.Flat.{limitsAt, Positive}
 
+-- within ±2^35, as the value of every limit is at indices within ±100,000
+abbrev pub Narrow : ℤ → Type 0
+Narrow z = size z ≤ 34359738368
+
 -- the smallest index that a lower limit allows, and the largest that an upper one does
 unfoldable pub ceilAt : List ℤ → Limit → ℤ
 ceilAt outer l = ceilDiv (value l outer) (pos (l .multiplier))
@@ -61,5 +65,5 @@ pub record RangeIn (s : List ℤ) (c : List ℕ) (outer : List ℤ) : Type 0 whe
 pub record Ranged (L : Loop) (outer : List ℤ) (lo hi : ℤ) : Type 0 where
   pub first : lo ≡ firstIndex L outer
   pub last : hi ≡ lastIndex L outer
-  pub low-size : size lo ≤ 34359738368
-  pub high-size : size hi ≤ 34359738368
+  pub low-size : Narrow lo
+  pub high-size : Narrow hi

@@ -5,10 +5,9 @@ ghost use Prim.Native.Nat.{suc, _+_, _≤_, _<_};
 ghost use lib.IntN.{pos, _+ℤ_, _-ℤ_};
 ghost use lib.ListN.{length, set};
 ghost use Rattle.lists.specs.Parts.{put};
-ghost use Rattle.integers.specs.Difference.{size};
 ghost use Rattle.model.specs.Points.{value, maxZ, minZ, span};
 ghost use Rattle.space.specs.Flat.{limitAt, loopAt};
-ghost use Rattle.space.specs.Ranges.{ceilAt, floorAt, firstFrom, lastFrom, LimitIn, DivisorIn, SideIn, RangeIn, Ranged};
+ghost use Rattle.space.specs.Ranges.{Narrow, ceilAt, floorAt, firstFrom, lastFrom, LimitIn, DivisorIn, SideIn, RangeIn, Ranged};
 ghost use Rattle.space.specs.Tallies.{through, capped, outside, seen, IncludeIn, TallyIn, Tallied};
 ghost use Rattle.space.specs.Surveys.{SurveyIn, Surveyed};
 ghost use Rattle.space.specs.Stored.{CollectIn, Collected, PointsIn, Listed};
@@ -16,7 +15,7 @@ ghost use Rattle.space.specs.Stored.{CollectIn, Collected, PointsIn, Lis
 // What limit j has against its multiplier times the index: the constant and the coefficients times the indices outside.
 fn value(nest: &[i64], j: usize, outer: &[i64]) -> i64
     requires { ⌜ LimitIn (now nest) j (now outer) ⌝ }
-    ensures { λ r. ⌜ (r ≡ Rattle.model.specs.Points.value (limitAt (now (nest .entry)) (length (now (outer .entry))) j) (now (outer .entry))) × (size r ≤ 34359738368) ⌝ }
+    ensures { λ r. ⌜ (r ≡ Rattle.model.specs.Points.value (limitAt (now (nest .entry)) (length (now (outer .entry))) j) (now (outer .entry))) × Narrow r ⌝ }
 {
     let at = j * 8;
     integers::affine(nest[at + 1], &nest[at + 2..at + 2 + outer.len()], outer)
@@ -25,7 +24,7 @@ fn value(nest: &[i64], j: usize, outer: &[i64]) -> i64
 // The smallest index that lower limit j allows.
 fn low_at(nest: &[i64], j: usize, outer: &[i64]) -> i64
     requires { ⌜ DivisorIn (now nest) j (now outer) ⌝ }
-    ensures { λ r. ⌜ (r ≡ ceilAt (now (outer .entry)) (limitAt (now (nest .entry)) (length (now (outer .entry))) j)) × (size r ≤ 34359738368) ⌝ }
+    ensures { λ r. ⌜ (r ≡ ceilAt (now (outer .entry)) (limitAt (now (nest .entry)) (length (now (outer .entry))) j)) × Narrow r ⌝ }
 {
     integers::ceil_div(value(nest, j, outer), nest[j * 8])
 }
@@ -33,7 +32,7 @@ fn low_at(nest: &[i64], j: usize, outer: &[i64]) -> i64
 // The largest index that upper limit j allows.
 fn high_at(nest: &[i64], j: usize, outer: &[i64]) -> i64
     requires { ⌜ DivisorIn (now nest) j (now outer) ⌝ }
-    ensures { λ r. ⌜ (r ≡ floorAt (now (outer .entry)) (limitAt (now (nest .entry)) (length (now (outer .entry))) j)) × (size r ≤ 34359738368) ⌝ }
+    ensures { λ r. ⌜ (r ≡ floorAt (now (outer .entry)) (limitAt (now (nest .entry)) (length (now (outer .entry))) j)) × Narrow r ⌝ }
 {
     integers::floor_div(value(nest, j, outer), nest[j * 8])
 }
@@ -44,8 +43,8 @@ struct Whole {
 }
 
 fn larger(x: i64, rest: Whole) -> Whole
-    requires { ⌜ (size x ≤ 34359738368) × (size (rest .value) ≤ 34359738368) ⌝ }
-    ensures { λ r. ⌜ (r .value ≡ maxZ x (rest .value)) × (size (r .value) ≤ 34359738368) ⌝ }
+    requires { ⌜ Narrow x × Narrow (rest .value) ⌝ }
+    ensures { λ r. ⌜ (r .value ≡ maxZ x (rest .value)) × Narrow (r .value) ⌝ }
 {
     if rest.value < x {
         Whole { value: x }
@@ -55,8 +54,8 @@ fn larger(x: i64, rest: Whole) -> Whole
 }
 
 fn smaller(x: i64, rest: Whole) -> Whole
-    requires { ⌜ (size x ≤ 34359738368) × (size (rest .value) ≤ 34359738368) ⌝ }
-    ensures { λ r. ⌜ (r .value ≡ minZ x (rest .value)) × (size (r .value) ≤ 34359738368) ⌝ }
+    requires { ⌜ Narrow x × Narrow (rest .value) ⌝ }
+    ensures { λ r. ⌜ (r .value ≡ minZ x (rest .value)) × Narrow (r .value) ⌝ }
 {
     if x < rest.value {
         Whole { value: x }
@@ -68,7 +67,7 @@ fn smaller(x: i64, rest: Whole) -> Whole
 // The largest of what n lower limits from limit j on allow, the last one first.
 fn first_from(nest: &[i64], j: usize, n: usize, outer: &[i64]) -> i64
     requires { ⌜ SideIn (now nest) j n (now outer) ⌝ }
-    ensures { λ r. ⌜ (r ≡ firstFrom (now (nest .entry)) j n (now (outer .entry))) × (size r ≤ 34359738368) ⌝ }
+    ensures { λ r. ⌜ (r ≡ firstFrom (now (nest .entry)) j n (now (outer .entry))) × Narrow r ⌝ }
 {
     let mut i = n - 1;
     let mut r = Whole {
@@ -84,7 +83,7 @@ fn first_from(nest: &[i64], j: usize, n: usize, outer: &[i64]) -> i64
 // The smallest of what n upper limits from limit j on allow.
 fn last_from(nest: &[i64], j: usize, n: usize, outer: &[i64]) -> i64
     requires { ⌜ SideIn (now nest) j n (now outer) ⌝ }
-    ensures { λ r. ⌜ (r ≡ lastFrom (now (nest .entry)) j n (now (outer .entry))) × (size r ≤ 34359738368) ⌝ }
+    ensures { λ r. ⌜ (r ≡ lastFrom (now (nest .entry)) j n (now (outer .entry))) × Narrow r ⌝ }
 {
     let mut i = n - 1;
     let mut r = Whole {
@@ -119,7 +118,7 @@ pub fn range(nest: &[i64], counts: &[usize], outer: &[i64]) -> Ends
 
 // How many indices there are from the one end to the other.
 pub fn count(e: Ends) -> usize
-    requires { ⌜ (size (e .lo) ≤ 34359738368) × (size (e .hi) ≤ 34359738368) ⌝ }
+    requires { ⌜ Narrow (e .lo) × Narrow (e .hi) ⌝ }
     ensures { λ r. ⌜ (r ≡ span (e .hi -ℤ e .lo)) × (r ≤ 68719476737) ⌝ }
 {
     if e.hi < e.lo {
@@ -144,7 +143,7 @@ fn capped(n: usize, most: usize) -> usize
 
 // Whether an end lies beyond the bound.
 fn outside(e: Ends, bound: usize) -> bool
-    requires { ⌜ (bound ≤ 100000) × (size (e .lo) ≤ 34359738368) × (size (e .hi) ≤ 34359738368) ⌝ }
+    requires { ⌜ (bound ≤ 100000) × Narrow (e .lo) × Narrow (e .hi) ⌝ }
     ensures { λ r. ⌜ r ≡ Rattle.space.specs.Tallies.outside bound (e .lo) (e .hi) ⌝ }
 {
     let b = bound as i64;
@@ -180,7 +179,7 @@ fn include(
 
 // The point with index k set to the one t places after the first.
 fn moved(point: [i64; 6], k: usize, e: Ends, t: usize) -> [i64; 6]
-    requires { ⌜ (k < 6) × (size (e .lo) ≤ 34359738368) × (t ≤ 68719476737) ⌝ }
+    requires { ⌜ (k < 6) × Narrow (e .lo) × (t ≤ 68719476737) ⌝ }
     ensures { λ r. ⌜ r ≡ set point k (e .lo +ℤ pos t) ⌝ }
 {
     let mut q = point;

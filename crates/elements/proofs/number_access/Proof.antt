@@ -3,7 +3,6 @@ use mathlib.Core.Path.{_≡_, refl, sym, _∙_, ap}
 use Prim.Native.Nat.{ℕ, _+_, _*_, _-_, _≤_}
 use native.Mathlib.Omega.{arith}
 use native.Mathlib.Nat.{zero-mul}
-use lib.ListN.{length}
 use Rattle.lists.specs.Parts.{rows, put}
 use Rattle.lists.proofs.PartLaws.{row-next}
 use Rattle.elements.specs.Places.{placesOf}

@@ -1,12 +1,11 @@
 -- `collect`: the points of the first t indices are written, and p stands after them. The number of loops left falls.
 use mathlib.Core.Path.{_≡_, sym, ap, _∙_}
-use Prim.Native.Nat.{_+_, _-_, _≤_}
+use Prim.Native.Nat.{ℕ, _+_, _-_, _≤_, _<_}
 use native.Mathlib.Omega.{arith}
 use lib.ListN.{length}
 use Rattle.lists.specs.Parts.{put}
 use Rattle.lists.proofs.PartLaws.{length-put}
 use Rattle.space.proofs.CollectLaws.{words, shallow, outer-length, leaf-fits, leaf-room, leaf-out, one, outer-range, start, room, turn-in, turn-out, level-out}
-use Prim.Native.Nat.{ℕ, _<_}
 use borrow.Fn.Kinds.{In}
 use borrow.Fn.PlainCycle.{Measures, is, falls, and}
 use Rattle.space.proofs.collect.Reads as collect

@@ -1,14 +1,13 @@
 -- `tally_points`: the tally so far is that of the points of the first t indices. The number of loops left falls.
 use mathlib.Core.Path.{_≡_, sym}
 use mathlib.Core.List.{flatMap}
-use Prim.Native.Nat.{suc, _-_, _≤_}
+use Prim.Native.Nat.{ℕ, suc, _-_, _≤_, _<_}
 use native.Mathlib.Omega.{arith}
 use lib.ListN.{take}
 use Rattle.model.specs.Points.{ints}
 use Rattle.space.specs.Tallies.{seen}
 use Rattle.space.proofs.ThroughLaws.{after}
 use Rattle.space.proofs.WalkLaws.{room, outer-length, outer-range, leaf-in, leaf-out, start, turn-in, turn-out, level-out}
-use Prim.Native.Nat.{ℕ, _<_}
 use borrow.Fn.Kinds.{In}
 use borrow.Fn.PlainCycle.{Measures, is, falls, and}
 use Rattle.space.proofs.tally_points.Reads as tally-points

@@ -1,16 +1,15 @@
 -- `first_from`: r is what the limits from limit j + i on allow.
 use mathlib.Core.Path.{_≡_, _∙_}
-use Prim.Native.Nat.{_+_, _-_, _≤_, _<_}
+use Prim.Native.Nat.{_+_, _-_, _<_}
 use native.Mathlib.Omega.{arith}
-use Rattle.integers.specs.Difference.{size}
-use Rattle.space.specs.Ranges.{firstFrom}
+use Rattle.space.specs.Ranges.{Narrow, firstFrom}
 use Rattle.space.proofs.LimitLaws.{copied}
 use Rattle.space.proofs.SideLaws.{divisor-at, first-last, first-before, first-all}
 use Rattle.space.proofs.first_from.Statement.{statement}
 use Rattle.space.proofs.first_from.Tie as tie
 
 abbrev Inv-loop : tie.InvT-loop
-Inv-loop nest j n outer i₀ r₀ i r = (i < n) × (r .value ≡ firstFrom nest (j + i) (n - i) outer) × (size (r .value) ≤ 34359738368)
+Inv-loop nest j n outer i₀ r₀ i r = (i < n) × (r .value ≡ firstFrom nest (j + i) (n - i) outer) × Narrow (r .value)
 
 abbrev μ-loop : tie.MeasureT-loop
 μ-loop nest j n outer i₀ r₀ i r = i
