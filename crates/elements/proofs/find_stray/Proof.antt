@@ -1,7 +1,8 @@
 -- `find_stray`: the statements before this one are clear, its accesses before this one, and the dimensions before this one.
 use mathlib.Core.Path.{_≡_, refl, sym, subst}
 use mathlib.Core.Bool.{false}
-use Prim.Native.Nat.{_+_, _*_, _-_, _≤_}
+use mathlib.Core.List.{List}
+use Prim.Native.Nat.{ℕ, _+_, _*_, _-_, _≤_, _<_}
 use native.Mathlib.Omega.{arith}
 use lib.ListN.{length, getD}
 use Rattle.lists.specs.Parts.{rows}
@@ -30,6 +31,24 @@ Inv-search words owners arrays sizes points depth count found₀ first₀ statem
 abbrev μ-search : tie.MeasureT-search
 μ-search words owners arrays sizes points depth count found₀ first₀ statement₀ found first statement = length sizes - statement
 
+-- what is known of access i of the statement
+record Bounds (o a : List ℕ) (first i : ℕ) : Type 0 where
+  there : first + i < length o
+  ends : getD o (first + i) 0 * 4 + 4 ≤ length a
+  flat : getD a (getD o (first + i) 0 * 4) 0 ≤ 3
+  few : length a ≤ 16
+  many : length o ≤ 20
+
+module _ (c : tie.In-accesses Inv-dimensions μ-dimensions Inv-accesses μ-accesses Inv-search μ-search) where
+  bounds : Bounds (c .before .before .before .before .before .before .before .before .args .owners .now) (c .before .before .before .before .before .before .before .before .args .arrays .now) (c .before .before .before .before .search .first) (c .before .accesses .i)
+  bounds = let s = c .before .before .before .before .before .before .before .before in let g = c .before .before .before .before .search in let x = c .before .before .before .search-test .taken in let y = c .accesses-test .taken in record {
+    there = there (s .pre) (g .inv .1) x y;
+    ends = owner-ends (s .pre) (g .inv .1) x y;
+    flat = flat (s .pre) (g .inv .1) x y;
+    few = s .pre .accesses .few;
+    many = s .pre .accesses .many;
+  }
+
 search-holds :
     tie.Need-search-holds Inv-dimensions μ-dimensions Inv-accesses μ-accesses Inv-search μ-search
 search-holds c = let s = c .before .before .before in (refl, start (s .pre))
@@ -52,10 +71,10 @@ accesses-holds :
 accesses-holds c = let s = c .before .before .before .before .before .before in let g = c .before .before .search in let x = c .before .search-test .taken in (g .inv .0, omega arith, no-access (s .args .words .now) (s .args .owners .now) (s .args .arrays .now) (s .args .depth) _ (s .pre .accesses) (g .first))
 
 add-k : tie.Need-add-k Inv-dimensions μ-dimensions Inv-accesses μ-accesses Inv-search μ-search
-add-k c = let s = c .before .before .before .before .before .before .before .before in let g = c .before .before .before .before .search in let x = c .before .before .before .search-test .taken in let l = c .before .accesses in let y = c .accesses-test .taken in let h = there (s .pre) (g .inv .1) x y in let k = owner-ends (s .pre) (g .inv .1) x y in let f = flat (s .pre) (g .inv .1) x y in let q = s .pre .accesses .few in let r = s .pre .accesses .many in omega arith
+add-k c = let b = bounds c in omega arith
 
 mul-at : tie.Need-mul-at Inv-dimensions μ-dimensions Inv-accesses μ-accesses Inv-search μ-search
-mul-at c = let s = c .before .before .before .before .before .before .before .before in let g = c .before .before .before .before .search in let x = c .before .before .before .search-test .taken in let l = c .before .accesses in let y = c .accesses-test .taken in let h = there (s .pre) (g .inv .1) x y in let k = owner-ends (s .pre) (g .inv .1) x y in let f = flat (s .pre) (g .inv .1) x y in let q = s .pre .accesses .few in let r = s .pre .accesses .many in omega arith
+mul-at c = let b = bounds c in omega arith
 
 shared-slice-read-at :
     tie.Need-shared-slice-read-at
@@ -69,11 +88,11 @@ shared-slice-read-at c = let s = c .before .before .before .before .before .befo
 
 mul-at-2 :
     tie.Need-mul-at-2 Inv-dimensions μ-dimensions Inv-accesses μ-accesses Inv-search μ-search
-mul-at-2 c = let s = c .before .before .before .before .before .before .before .before .before in let g = c .before .before .before .before .before .search in let x = c .before .before .before .before .search-test .taken in let l = c .before .before .accesses in let y = c .before .accesses-test .taken in let h = there (s .pre) (g .inv .1) x y in let k = owner-ends (s .pre) (g .inv .1) x y in let f = flat (s .pre) (g .inv .1) x y in let q = s .pre .accesses .few in let r = s .pre .accesses .many in omega arith
+mul-at-2 c = let b = bounds (c .before) in omega arith
 
 mul-dimensions :
     tie.Need-mul-dimensions Inv-dimensions μ-dimensions Inv-accesses μ-accesses Inv-search μ-search
-mul-dimensions c = let s = c .before .before .before .before .before .before .before .before .before in let g = c .before .before .before .before .before .search in let x = c .before .before .before .before .search-test .taken in let l = c .before .before .accesses in let y = c .before .accesses-test .taken in let h = there (s .pre) (g .inv .1) x y in let k = owner-ends (s .pre) (g .inv .1) x y in let f = flat (s .pre) (g .inv .1) x y in let q = s .pre .accesses .few in let r = s .pre .accesses .many in omega arith
+mul-dimensions c = let b = bounds (c .before) in omega arith
 
 shared-slice-read-dimensions :
     tie.Need-shared-slice-read-dimensions
@@ -83,7 +102,7 @@ shared-slice-read-dimensions :
     μ-accesses
     Inv-search
     μ-search
-shared-slice-read-dimensions c = let s = c .before .before .before .before .before .before .before .before .before .before in let g = c .before .before .before .before .before .before .search in let x = c .before .before .before .before .before .search-test .taken in let l = c .before .before .before .accesses in let y = c .before .before .accesses-test .taken in let h = there (s .pre) (g .inv .1) x y in let k = owner-ends (s .pre) (g .inv .1) x y in let f = flat (s .pre) (g .inv .1) x y in let q = s .pre .accesses .few in let r = s .pre .accesses .many in omega arith
+shared-slice-read-dimensions c = let b = bounds (c .before .before) in omega arith
 
 dimensions-holds :
     tie.Need-dimensions-holds
@@ -97,23 +116,23 @@ dimensions-holds c = let s = c .before .before .before .before .before .before .
 
 mul-strays :
     tie.Need-mul-strays Inv-dimensions μ-dimensions Inv-accesses μ-accesses Inv-search μ-search
-mul-strays c = let s = c .before .before .before .before .before .before .before .before .before .before .before .before in let g = c .before .before .before .before .before .before .before .before .search in let x = c .before .before .before .before .before .before .before .search-test .taken in let l = c .before .before .before .before .before .accesses in let y = c .before .before .before .before .accesses-test .taken in let e = c .before .dimensions in let z = c .dimensions-test .taken in let h = there (s .pre) (g .inv .1) x y in let k = owner-ends (s .pre) (g .inv .1) x y in let f = flat (s .pre) (g .inv .1) x y in let q = s .pre .accesses .few in let r = s .pre .accesses .many in omega arith
+mul-strays c = let b = bounds (c .before .before .before .before) in let z = c .dimensions-test .taken in omega arith
 
 add-strays :
     tie.Need-add-strays Inv-dimensions μ-dimensions Inv-accesses μ-accesses Inv-search μ-search
-add-strays c = let s = c .before .before .before .before .before .before .before .before .before .before .before .before in let g = c .before .before .before .before .before .before .before .before .search in let x = c .before .before .before .before .before .before .before .search-test .taken in let l = c .before .before .before .before .before .accesses in let y = c .before .before .before .before .accesses-test .taken in let e = c .before .dimensions in let z = c .dimensions-test .taken in let h = there (s .pre) (g .inv .1) x y in let k = owner-ends (s .pre) (g .inv .1) x y in let f = flat (s .pre) (g .inv .1) x y in let q = s .pre .accesses .few in let r = s .pre .accesses .many in omega arith
+add-strays c = let b = bounds (c .before .before .before .before) in let z = c .dimensions-test .taken in omega arith
 
 add-strays-2 :
     tie.Need-add-strays-2 Inv-dimensions μ-dimensions Inv-accesses μ-accesses Inv-search μ-search
-add-strays-2 c = let s = c .before .before .before .before .before .before .before .before .before .before .before .before in let g = c .before .before .before .before .before .before .before .before .search in let x = c .before .before .before .before .before .before .before .search-test .taken in let l = c .before .before .before .before .before .accesses in let y = c .before .before .before .before .accesses-test .taken in let e = c .before .dimensions in let z = c .dimensions-test .taken in let h = there (s .pre) (g .inv .1) x y in let k = owner-ends (s .pre) (g .inv .1) x y in let f = flat (s .pre) (g .inv .1) x y in let q = s .pre .accesses .few in let r = s .pre .accesses .many in omega arith
+add-strays-2 c = let b = bounds (c .before .before .before .before) in let z = c .dimensions-test .taken in omega arith
 
 add-strays-3 :
     tie.Need-add-strays-3 Inv-dimensions μ-dimensions Inv-accesses μ-accesses Inv-search μ-search
-add-strays-3 c = let s = c .before .before .before .before .before .before .before .before .before .before .before .before in let g = c .before .before .before .before .before .before .before .before .search in let x = c .before .before .before .before .before .before .before .search-test .taken in let l = c .before .before .before .before .before .accesses in let y = c .before .before .before .before .accesses-test .taken in let e = c .before .dimensions in let z = c .dimensions-test .taken in let h = there (s .pre) (g .inv .1) x y in let k = owner-ends (s .pre) (g .inv .1) x y in let f = flat (s .pre) (g .inv .1) x y in let q = s .pre .accesses .few in let r = s .pre .accesses .many in omega arith
+add-strays-3 c = let b = bounds (c .before .before .before .before) in let z = c .dimensions-test .taken in omega arith
 
 mul-strays-2 :
     tie.Need-mul-strays-2 Inv-dimensions μ-dimensions Inv-accesses μ-accesses Inv-search μ-search
-mul-strays-2 c = let s = c .before .before .before .before .before .before .before .before .before .before .before .before in let g = c .before .before .before .before .before .before .before .before .search in let x = c .before .before .before .before .before .before .before .search-test .taken in let l = c .before .before .before .before .before .accesses in let y = c .before .before .before .before .accesses-test .taken in let e = c .before .dimensions in let z = c .dimensions-test .taken in let h = there (s .pre) (g .inv .1) x y in let k = owner-ends (s .pre) (g .inv .1) x y in let f = flat (s .pre) (g .inv .1) x y in let q = s .pre .accesses .few in let r = s .pre .accesses .many in omega arith
+mul-strays-2 c = let b = bounds (c .before .before .before .before) in let z = c .dimensions-test .taken in omega arith
 
 shared-slice-read-strays :
     tie.Need-shared-slice-read-strays
@@ -123,7 +142,7 @@ shared-slice-read-strays :
     μ-accesses
     Inv-search
     μ-search
-shared-slice-read-strays c = let s = c .before .before .before .before .before .before .before .before .before .before .before .before .before in let g = c .before .before .before .before .before .before .before .before .before .search in let x = c .before .before .before .before .before .before .before .before .search-test .taken in let l = c .before .before .before .before .before .before .accesses in let y = c .before .before .before .before .before .accesses-test .taken in let e = c .before .before .dimensions in let z = c .before .dimensions-test .taken in let h = there (s .pre) (g .inv .1) x y in let k = owner-ends (s .pre) (g .inv .1) x y in let f = flat (s .pre) (g .inv .1) x y in let q = s .pre .accesses .few in let r = s .pre .accesses .many in omega arith
+shared-slice-read-strays c = let b = bounds (c .before .before .before .before .before) in let z = c .before .dimensions-test .taken in omega arith
 
 strays-requires :
     tie.Need-strays-requires
@@ -140,7 +159,7 @@ add-found :
 add-found c = let s = c .before .before .before .before .before .before .before .before .before .before .before .before .before .before .before in let g = c .before .before .before .before .before .before .before .before .before .before .before .search in let x = c .before .before .before .before .before .before .before .before .before .before .search-test .taken in let l = c .before .before .before .before .before .before .before .before .accesses in let y = c .before .before .before .before .before .before .before .accesses-test .taken in let e = c .before .before .before .before .dimensions in let z = c .before .before .before .dimensions-test .taken in let q = s .pre .statements in omega arith
 
 add-d : tie.Need-add-d Inv-dimensions μ-dimensions Inv-accesses μ-accesses Inv-search μ-search
-add-d c = let s = c .before .before .before .before .before .before .before .before .before .before .before .before .before .before .before in let g = c .before .before .before .before .before .before .before .before .before .before .before .search in let x = c .before .before .before .before .before .before .before .before .before .before .search-test .taken in let l = c .before .before .before .before .before .before .before .before .accesses in let y = c .before .before .before .before .before .before .before .accesses-test .taken in let e = c .before .before .before .before .dimensions in let z = c .before .before .before .dimensions-test .taken in let h = there (s .pre) (g .inv .1) x y in let k = owner-ends (s .pre) (g .inv .1) x y in let f = flat (s .pre) (g .inv .1) x y in let q = s .pre .accesses .few in let r = s .pre .accesses .many in omega arith
+add-d c = let b = bounds (c .before .before .before .before .before .before .before) in let z = c .before .before .before .dimensions-test .taken in omega arith
 
 dimensions-less :
     tie.Need-dimensions-less
@@ -163,7 +182,7 @@ dimensions-again :
 dimensions-again c = let s = c .before .before .before .before .before .before .before .before .before .before .before .before .before .before .before in let g = c .before .before .before .before .before .before .before .before .before .before .before .search in let x = c .before .before .before .before .before .before .before .before .before .before .search-test .taken in let l = c .before .before .before .before .before .before .before .before .accesses in let y = c .before .before .before .before .before .before .before .accesses-test .taken in let e = c .before .before .before .before .dimensions in let z = c .before .before .before .dimensions-test .taken in (e .inv .0, omega arith, next-dimension (s .pre) (g .inv .1) x y z (c .before .strays .ensures) (e .inv .2) (c .if1 .left))
 
 add-i : tie.Need-add-i Inv-dimensions μ-dimensions Inv-accesses μ-accesses Inv-search μ-search
-add-i c = let s = c .before .before .before .before .before .before .before .before .before .before .before .before in let g = c .before .before .before .before .before .before .before .before .search in let x = c .before .before .before .before .before .before .before .search-test .taken in let l = c .before .before .before .before .before .accesses in let y = c .before .before .before .before .accesses-test .taken in let h = there (s .pre) (g .inv .1) x y in let k = owner-ends (s .pre) (g .inv .1) x y in let f = flat (s .pre) (g .inv .1) x y in let q = s .pre .accesses .few in let r = s .pre .accesses .many in omega arith
+add-i c = let b = bounds (c .before .before .before .before) in omega arith
 
 accesses-less :
     tie.Need-accesses-less Inv-dimensions μ-dimensions Inv-accesses μ-accesses Inv-search μ-search
