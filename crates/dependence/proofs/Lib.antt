@@ -1,0 +1,7 @@
+-- Laws of what `specs` defines.
+pub mod SomeLaws
+pub mod NumberLaws
+pub mod ChainLaws
+pub mod WalkLaws
+pub mod FullLaws
+pub mod SearchLaws
