@@ -1,16 +1,13 @@
--- Theorems about the definitions of `specs/`.
+-- Theorems about the definitions of `specs/`. `Demands` states what is promised; the rest proves it.
+pub mod Demands
 pub mod CaseLaws
--- the plain machine: conflicts, instances and their order, runs in another order
-pub mod ElementLaws
-pub mod EarlierLaws
-pub mod InstanceLaws
-pub mod DirectionLaws
-pub mod ReorderLaws
-pub mod CommuteLaws
-pub mod SameRunLaws
-pub mod OrderedRunLaws
--- the store against the plain machine
-pub mod PlaceLaws
-pub mod RuleLaws
-pub mod StoreLaws
-pub mod NewStoreLaws
+pub mod Answers
+pub mod Grammar
+pub mod Points
+pub mod Steps
+pub mod Machine
+pub mod Store
+pub mod Listing
+pub mod Quick
+pub mod Verdict
+pub mod Promise

@@ -14,9 +14,9 @@ use Rattle.model.specs.Ticket.{Statement}
 use Rattle.model.specs.Grammar.{total}
 use Rattle.model.specs.Machine.{Element, same, Instance, State, accesses, bodyAt, store, storeAll, perform, run, exec}
 use Rattle.model.specs.Store.{placeOf, make, storeWords, performOn, ownRules}
-use Rattle.model.proofs.ElementLaws.{same-decides}
-use Rattle.model.proofs.CommuteLaws.{store-same, store-other}
-use Rattle.model.proofs.PlaceLaws.{Valid, place-below, place-injective, place-onto}
+use Rattle.model.proofs.Machine.ElementLaws.{same-decides}
+use Rattle.model.proofs.Machine.CommuteLaws.{store-same, store-other}
+use Rattle.model.proofs.Store.PlaceLaws.{Valid, place-below, place-injective, place-onto}
 
 -- the words have a place for every element, and hold its value there
 pub record Shows (as′ : List (List ℕ)) (w : List ℕ) (s : State) : Type 0 where

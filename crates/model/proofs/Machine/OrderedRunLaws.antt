@@ -12,10 +12,10 @@ use Rattle.lists.proofs.OrderLaws.{ordered-map, ordered-distinct, ordered-prece
 use Rattle.model.specs.Inside.{Earlier}
 use Rattle.model.specs.Machine.{Element, Instance, Accesses, State, Rules, instances, exec, originally}
 use Rattle.model.specs.Directions.{signs, backwards, conflict}
-use Rattle.model.proofs.EarlierLaws.{earlier-irreflexive, backwards-earlier}
-use Rattle.model.proofs.InstanceLaws.{Rises, rises-irreflexive, rises-transitive, Before, whole, instances-ordered, instances-members}
-use Rattle.model.proofs.CommuteLaws.{reordering}
-use Rattle.model.proofs.SameRunLaws.{NamesAlike, run-same}
+use Rattle.model.proofs.Points.EarlierLaws.{earlier-irreflexive, backwards-earlier}
+use Rattle.model.proofs.Machine.InstanceLaws.{Rises, rises-irreflexive, rises-transitive, Before, whole, instances-ordered, instances-members}
+use Rattle.model.proofs.Machine.CommuteLaws.{reordering}
+use Rattle.model.proofs.Machine.SameRunLaws.{NamesAlike, run-same}
 
 before-irreflexive : (key : List ℤ → List ℤ) (i : Instance) → Before key i i → ⊥
 before-irreflexive key i (inl h) = earlier-irreflexive (key (i .iteration)) h

@@ -14,8 +14,8 @@ use Rattle.lists.proofs.OrderLaws.{precedes-ordered, precedes-irrefl, precedes-
 use Rattle.lists.proofs.TestLaws.{T-true, not-T-false, equal-test, mem-cases}
 use Rattle.model.specs.Machine.{Element, same, Instance, Accesses, State, Rules, store, storeAll, perform, run}
 use Rattle.model.specs.Directions.{flow, anti, output, conflict}
-use Rattle.model.proofs.ElementLaws.{same-decides, shared-conflictOf, kind-conflict}
-use Rattle.model.proofs.ReorderLaws.{run-reordered}
+use Rattle.model.proofs.Machine.ElementLaws.{same-decides, shared-conflictOf, kind-conflict}
+use Rattle.model.proofs.Machine.ReorderLaws.{run-reordered}
 
 -- ---- stores
 

@@ -18,8 +18,8 @@ use Rattle.lists.proofs.TestLaws.{or-cases, or-left, or-right, and-both, and-in
 use Rattle.model.specs.Inside.{Earlier}
 use Rattle.model.specs.Machine.{Instance, body, instances}
 use Rattle.model.specs.Directions.{earlier, comesFirst}
-use Rattle.model.proofs.ElementLaws.{subscripts-decide}
-use Rattle.model.proofs.EarlierLaws.{earlier-irreflexive, earlier-transitive}
+use Rattle.model.proofs.Machine.ElementLaws.{subscripts-decide}
+use Rattle.model.proofs.Points.EarlierLaws.{earlier-irreflexive, earlier-transitive}
 
 -- ---- one point
 

@@ -6,7 +6,7 @@ use Prim.Native.Nat.{ℕ, zero, suc}
 use lib.IntN.{ℤ}
 use Rattle.lists.specs.Membership.{All}
 use Rattle.model.specs.Machine.{Element, Instance, Accesses, State, Rules, body, instances, storeAll, perform, run, originally}
-use Rattle.model.proofs.ReorderLaws.{run-append}
+use Rattle.model.proofs.Machine.ReorderLaws.{run-append}
 
 abbrev pub instanceAt : ℕ → List ℤ → Instance
 instanceAt j p = record { statement = j; iteration = p }
