@@ -2,12 +2,13 @@
 -- links; a walk along them.
 use mathlib.Core.Path.{_≡_, refl, sym, ap, _∙_}
 use mathlib.Core.Bool.{Bool, true, false, cond, _&&_, _||_}
-use mathlib.Core.Logic.{_⊎_, inl, inr}
+use mathlib.Core.Logic.{_⊎_, inl, inr, ⊎-elim}
 use mathlib.Core.List.{List}
 use Prim.Native.Nat.{ℕ, zero, suc, _+_, _≤_, _<_}
+use native.Mathlib.Nat.{eq-or-lt-of-le}
 use native.Mathlib.Numerals.{add-one}
 use native.Mathlib.Omega.{arith}
-use lib.Dec.{eqb}
+use lib.Dec.{T, eqb}
 use lib.ListN.{length, getD, set, replicate, getD-replicate}
 use lib.Seq.{getD-set-same, getD-set-other}
 use borrow.Author.Count.{below-more}
@@ -53,6 +54,18 @@ pub upTo-le : (own : Bool) (y n : ℕ) → y < n → upTo own y ≤ n
 unfolding upTo
 upTo-le true y n h = omega arith
 upTo-le false y n h = omega arith
+
+pub upTo-cases : (own : Bool) (x y : ℕ) → x < upTo own y → (x < y) ⊎ ((x ≡ y) × T own)
+unfolding upTo
+upTo-cases true x y h = ⊎-elim (λ e. inr (e, tt)) inl (eq-or-lt-of-le (let g : x ≤ y = omega arith in g))
+upTo-cases false x y h = inl h
+
+pub cases-upTo : (own : Bool) (x y : ℕ) → (x < y) ⊎ ((x ≡ y) × T own) → x < upTo own y
+unfolding upTo
+cases-upTo true x y (inl h) = omega arith
+cases-upTo false x y (inl h) = h
+cases-upTo true x y (inr h) = let e = h .0 in omega arith
+cases-upTo false x y (inr h) = absurd (h .1)
 
 -- ---- the heads of the chains: for each element its latest place below y
 

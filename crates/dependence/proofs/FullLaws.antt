@@ -42,7 +42,7 @@ full-first k s base m e = let a = stride-half k s e in ((0, let b = zero-mul (st
     none : (u w : ℕ) → u ≡ w * stride k + middle k → u < middle k → ⊥
     none u w f l = omega arith
 
-le-cases : (u v : ℕ) → (u ≤ v) ⊎ (v < u)
+pub le-cases : (u v : ℕ) → (u ≤ v) ⊎ (v < u)
 le-cases u v = go (ltb v u) refl
   where
     go : (b : Bool) → ltb v u ≡ b → (u ≤ v) ⊎ (v < u)

@@ -5,3 +5,8 @@ pub mod ChainLaws
 pub mod WalkLaws
 pub mod FullLaws
 pub mod SearchLaws
+pub mod FlatLaws
+pub mod UseLaws
+pub mod MeetLaws
+pub mod MarkLaws
+pub mod WitnessLaws

@@ -1,14 +1,14 @@
 -- Laws of `some`: as a statement; equal tests; the marks that a loop gathers.
 use mathlib.Core.Path.{_≡_, sym, ap, _∙_, subst}
 use mathlib.Core.Bool.{Bool, true, false, _||_, or-false, or-assoc, or-comm}
-use mathlib.Core.Logic.{⊎-elim}
+use mathlib.Core.Logic.{_⊎_, inl, inr, ⊎-elim}
 use mathlib.Core.List.{List}
 use Prim.Native.Nat.{ℕ, zero, suc, _+_, _<_}
 use native.Mathlib.Nat.{eq-or-lt-of-le, le-of-suc-le-suc}
 use native.Mathlib.Omega.{arith}
 use native.Mathlib.Numerals.{add-one}
 use lib.Dec.{T}
-use lib.ListN.{getD}
+use lib.ListN.{length, getD}
 use Rattle.lists.proofs.TestLaws.{T-same, or-cases, or-left, or-right}
 use Rattle.dependence.specs.Search.{some, Adds}
 
@@ -53,3 +53,13 @@ gathered-more m₀ m m′ n p g h j = rw (add-one n) (h j ∙ ap (_|| p n j) (g 
 pub gathered-again : (m₀ m : List Bool) (n k : ℕ) (p : ℕ → ℕ → Bool) → k < n → ((j : ℕ) → p k j ≡ p n j) → Gathered m₀ m n p → Gathered m₀ m (n + 1) p
 gathered-again m₀ m n k p l e g = gathered-more m₀ m m n p g (λ j. or-implied (getD m j false) (p n j)
     (λ h. subst T (sym (g j)) (or-right (getD m₀ j false) (some n (λ i. p i j)) (there-some n k (λ i. p i j) l (subst T (sym (e j)) h)))))
+
+-- what a turn has done: the number n set its marks, or a lesser one k sets the same
+pub record Done (m m′ : List Bool) (p : ℕ → Bool) : Type 0 where
+  pub same-length : length m′ ≡ length m
+  pub adds : Adds m m′ p
+
+pub gathered-turn : (m₀ m m′ : List Bool) (n k : ℕ) (p : ℕ → ℕ → Bool) → Gathered m₀ m n p → length m ≡ length m₀
+    → Done m m′ (p n) ⊎ ((m′ ≡ m) × (k < n) × ((j : ℕ) → p k j ≡ p n j)) → (length m′ ≡ length m₀) × Gathered m₀ m′ (n + 1) p
+gathered-turn m₀ m m′ n k p g l (inl d) = (d .same-length ∙ l, gathered-more m₀ m m′ n p g (d .adds))
+gathered-turn m₀ m m′ n k p g l (inr d) = subst (λ z. (length z ≡ length m₀) × Gathered m₀ z (n + 1) p) (sym (d .0)) (l, gathered-again m₀ m n k p (d .1) (d .2) g)

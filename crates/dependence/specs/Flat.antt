@@ -64,8 +64,11 @@ usesFrom k (s ∷ ss) = (map (use·of k true) (s .writes) ++ map (use·of k fals
 abbrev pub uses : List Statement → List Use
 uses ss = usesFrom 0 ss
 
+abbrev pub noUse : Use
+noUse = use·of 0 false (record { array = 0; subscripts = [] })
+
 unfoldable pub useAt : List Statement → ℕ → Use
-useAt ss a = getD (uses ss) a (record { statement = 0; writes = false; access = record { array = 0; subscripts = [] } })
+useAt ss a = getD (uses ss) a noUse
 
 -- the flat data are those of the statements ss: equal numbers are equal elements
 pub record Describes (ss : List Statement) (F : Flat) : Type 0 where
@@ -103,20 +106,33 @@ kindOf false true = 1
 kindOf true true = 2
 kindOf false false = 3
 
-unfoldable pub numbersOf : Flat → ℕ → List ℕ
-numbersOf F a = take (F .count) (drop (a * 4096) (F .numbers))
+-- the element numbers of access a at n points
+unfoldable pub numbersOf : ℕ → List ℕ → ℕ → List ℕ
+numbersOf n numbers a = take n (drop (a * 4096) numbers)
 
 unfoldable pub setBy : Flat → ℕ → ℕ → ℕ → Bool
 setBy F a b j = ltb (kindOf (writesAt F a) (writesAt F b)) 3
-    && found (F .depth) (F .points) (F .count) (numbersOf F a) (numbersOf F b) (ltb (statementOf F a) (statementOf F b))
+    && found (F .depth) (F .points) (F .count) (numbersOf (F .count) (F .numbers) a) (numbersOf (F .count) (F .numbers) b) (ltb (statementOf F a) (statementOf F b))
     (placeOf (F .body) (statementOf F a) (statementOf F b) (kindOf (writesAt F a) (writesAt F b)) 0) j
 
 -- with all sinks
 unfoldable pub setFrom : Flat → ℕ → ℕ → Bool
 setFrom F a j = some (length (F .statements)) (λ b. setBy F a b j)
 
+-- ---- accesses that are searched once
+
+pub record Listed (n : ℕ) (numbers statements : List ℕ) (writes : List Bool) : Type 0 where
+  pub few : n ≤ 4096
+  pub both : length writes ≡ length statements
+  pub table : length statements * 4096 ≤ length numbers
+
 -- two accesses of one statement that name the same elements in the same way
-pub record Alike (F : Flat) (a b : ℕ) : Type 0 where
-  pub statement : statementOf F a ≡ statementOf F b
-  pub writes : writesAt F a ≡ writesAt F b
-  pub elements : numbersOf F a ≡ numbersOf F b
+pub record Alike (n : ℕ) (numbers statements : List ℕ) (writes : List Bool) (a b : ℕ) : Type 0 where
+  pub statement : getD statements a 0 ≡ getD statements b 0
+  pub way : getD writes a false ≡ getD writes b false
+  pub elements : numbersOf n numbers a ≡ numbersOf n numbers b
+
+-- access r is a, or an earlier one like it
+pub record FirstLike (n : ℕ) (numbers statements : List ℕ) (writes : List Bool) (a r : ℕ) : Type 0 where
+  pub earlier : r ≤ a
+  pub alike : r < a → Alike n numbers statements writes r a

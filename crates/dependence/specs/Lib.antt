@@ -2,4 +2,3 @@
 pub mod Numbers
 pub mod Search
 pub mod Flat
-pub mod Cases

@@ -1,7 +1,7 @@
 // The search for dependences: from stored points and element numbers, the mark of every line that a listing has.
 ghost use mathlib.Core.Path.{_≡_};
 ghost use mathlib.Core.Bool.{Bool, true, false, _||_};
-ghost use Prim.Native.Nat.{ℕ, _+_, _*_, _-_, _≤_, _<_};
+ghost use Prim.Native.Nat.{ℕ, _+_, _*_, _-_, _^_, _≤_, _<_};
 ghost use lib.ListN.{length, getD};
 ghost use Rattle.integers.specs.Sign.{Sign};
 ghost use Rattle.integers.specs.Sign.{sign as «sign-of»};
@@ -9,7 +9,7 @@ ghost use Rattle.model.specs.Directions.{signs};
 ghost use Rattle.dependence.specs.Numbers.{digit, numberAfter, number, placeOf};
 ghost use Rattle.dependence.specs.Search.{Links, Linkable, upTo, code, Adds, walked, Walkable, Full, found, Searchable};
 ghost use Rattle.dependence.specs.Search.{stride as «stride-of»};
-ghost use Rattle.dependence.specs.Flat.{flat, Ready, Searched};
+ghost use Rattle.dependence.specs.Flat.{flat, Ready, Searched, kindOf, setBy, setFrom, Listed, Alike, FirstLike};
 
 // ---- vectors
 
@@ -172,5 +172,118 @@ fn search(points: &[i64], depth: usize, from: &[u16], to: &[u16], own: bool, bas
             }
             spent = 0;
         }
+    }
+}
+
+// ---- accesses that are searched once
+
+// Whether two lists of as many numbers are equal.
+fn same(p: &[u16], q: &[u16]) -> bool
+    requires { ⌜ length (now p) ≡ length (now q) ⌝ }
+    ensures { λ r. ⌜ (r ≡ true → now (p .entry) ≡ now (q .entry)) ⌝ }
+{
+    let mut i = 0;
+    while i < p.len() {
+        if p[i] != q[i] {
+            return false;
+        }
+        i += 1;
+    }
+    true
+}
+
+// Whether the accesses a and b belong to one statement and name the same elements in the same way.
+fn alike(count: usize, numbers: &[u16], statements: &[usize], writes: &[bool], a: usize, b: usize) -> bool
+    requires { ⌜ Listed count (now numbers) (now statements) (now writes) × (a < length (now statements)) × (b < length (now statements)) ⌝ }
+    ensures { λ r. ⌜ (r ≡ true → Alike count (now (numbers .entry)) (now (statements .entry)) (now (writes .entry)) a b) ⌝ }
+{
+    if statements[a] != statements[b] {
+        return false;
+    }
+    if writes[a] != writes[b] {
+        return false;
+    }
+    same(&numbers[a * 4096..a * 4096 + count], &numbers[b * 4096..b * 4096 + count])
+}
+
+// The first access that is like a.
+fn first_like(count: usize, numbers: &[u16], statements: &[usize], writes: &[bool], a: usize) -> usize
+    requires { ⌜ Listed count (now numbers) (now statements) (now writes) × (a < length (now statements)) ⌝ }
+    ensures { λ r. ⌜ FirstLike count (now (numbers .entry)) (now (statements .entry)) (now (writes .entry)) a r ⌝ }
+{
+    let mut b = 0;
+    while b < a {
+        if alike(count, numbers, statements, writes, b, a) {
+            return b;
+        }
+        b += 1;
+    }
+    a
+}
+
+// ---- all accesses
+
+// The kind of a source access and a sink access: 0 is flow, 1 is anti, 2 is output, and 3 is two reads.
+fn kind(source: bool, sink: bool) -> usize
+    ensures { λ r. ⌜ r ≡ kindOf source sink ⌝ }
+{
+    if source {
+        if sink {
+            return 2;
+        }
+        return 0;
+    }
+    if sink {
+        return 1;
+    }
+    3
+}
+
+// Where the marks of a source statement, a sink statement and a kind begin.
+fn block(body: usize, s: usize, t: usize, k: usize) -> usize
+    requires { ⌜ (body * body * 2187 < 2 ^ 64) × (s < body) × (t < body) × (k < 3) ⌝ }
+    ensures { λ r. ⌜ (r ≡ placeOf body s t k 0) × (r + 729 ≤ body * body * 2187) ⌝ }
+{
+    ((s * body + t) * 3 + k) * 729
+}
+
+// Marks the conflicts of access a, as the source, with access b.
+fn between(points: &[i64], depth: usize, count: usize, numbers: &[u16], statements: &[usize], writes: &[bool], body: usize, a: usize, b: usize, marks: &mut [bool])
+    requires { ⌜ Ready (flat (now points) depth count (now numbers) (now statements) (now writes) body) (now marks) × (a < length (now statements)) × (b < length (now statements)) ⌝ }
+    ensures { λ _. ⌜ Adds (now (marks .entry)) (now (marks .exit)) (setBy (flat (now (points .entry)) depth count (now (numbers .entry)) (now (statements .entry)) (now (writes .entry)) body) a b) ⌝ }
+{
+    let k = kind(writes[a], writes[b]);
+    if k < 3 {
+        let s = statements[a];
+        let t = statements[b];
+        search(points, depth, &numbers[a * 4096..a * 4096 + count], &numbers[b * 4096..b * 4096 + count], s < t, block(body, s, t, k), marks);
+    }
+}
+
+// Marks the conflicts of access a, as the source, with every access.
+fn from_access(points: &[i64], depth: usize, count: usize, numbers: &[u16], statements: &[usize], writes: &[bool], body: usize, a: usize, marks: &mut [bool])
+    requires { ⌜ Ready (flat (now points) depth count (now numbers) (now statements) (now writes) body) (now marks) × (a < length (now statements)) ⌝ }
+    ensures { λ _. ⌜ Adds (now (marks .entry)) (now (marks .exit)) (setFrom (flat (now (points .entry)) depth count (now (numbers .entry)) (now (statements .entry)) (now (writes .entry)) body) a) ⌝ }
+{
+    let mut b = 0;
+    while b < statements.len() {
+        if first_like(count, numbers, statements, writes, b) == b {
+            between(points, depth, count, numbers, statements, writes, body, a, b, marks);
+        }
+        b += 1;
+    }
+}
+
+// Marks every line that the listing of the nest has.
+pub fn dependences(points: &[i64], depth: usize, count: usize, numbers: &[u16], statements: &[usize], writes: &[bool], body: usize, marks: &mut [bool])
+    requires { ⌜ Ready (flat (now points) depth count (now numbers) (now statements) (now writes) body) (now marks) ⌝ }
+    ensures { λ _. ⌜ Searched (flat (now (points .entry)) depth count (now (numbers .entry)) (now (statements .entry)) (now (writes .entry)) body) (now (marks .entry)) (now (marks .exit)) ⌝ }
+{
+    let mut a = 0;
+    while a < statements.len() {
+        if first_like(count, numbers, statements, writes, a) == a {
+            from_access(points, depth, count, numbers, statements, writes, body, a, marks);
+        }
+        a += 1;
     }
 }

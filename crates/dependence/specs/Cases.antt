@@ -1,1 +1,0 @@
--- What the search asks can be met: document 01's case 1 cut to one loop, and its flat data.
