@@ -1,12 +1,11 @@
 -- The flat data as the calls have them. In order: places of marks; the numbers of one access; what a pair of accesses sets; accesses
 -- that are alike.
-use mathlib.Core.Path.{_≡_, refl, sym, ap, ap₂, _∙_}
-use mathlib.Core.Bool.{Bool, true, false, not, Bool·beq, _&&_, _||_, or-false, true≢false}
+use mathlib.Core.Path.{_≡_, refl, sym, ap, _∙_}
+use mathlib.Core.Bool.{Bool, true, false, not, Bool·beq, _||_, or-false, true≢false}
 use mathlib.Core.List.{List}
 use Prim.Native.Nat.{ℕ, _+_, _*_, _-_, _≤_, _<_}
 use native.Mathlib.Omega.{arith}
 use lib.Dec.{ltb}
-use lib.IntN.{ℤ}
 use lib.ListN.{length, getD, take, drop, length-take, length-drop}
 use lib.Seq.{getD-take, getD-drop}
 use borrow.Author.Tests.{lt-ltb, le-ltb}
@@ -49,9 +48,15 @@ module _ (F : Flat) (marks : List Bool) (ok : Ready F marks) where
   searchable : (a b base : ℕ) → a < length (F .statements) → b < length (F .statements) → base + 729 ≤ F .body * F .body * 2187
       → Searchable (F .points) (F .depth) (numbersOf (F .count) (F .numbers) a) (numbersOf (F .count) (F .numbers) b) base marks
   searchable a b base h g r = let e = numbers-length a h in let f = numbers-length b g in let p = ok .few in let m = ok .room in record {
-    few = omega arith; both = omega arith; shallow = ok .shallow;
-    stored = rw e (ok .stored); rising = rw e (ok .rising);
-    sources = numbers-below a h; sinks = numbers-below b g; room = omega arith }
+    few = omega arith;
+    both = omega arith;
+    shallow = ok .shallow;
+    stored = rw e (ok .stored);
+    rising = rw e (ok .rising);
+    sources = numbers-below a h;
+    sinks = numbers-below b g;
+    room = omega arith;
+  }
 
   pub call-ready : (a b base : ℕ) → a < length (F .statements) → b < length (F .statements) → base + 729 ≤ F .body * F .body * 2187
       → Searchable (F .points) (F .depth) (take (a * 4096 + F .count - a * 4096) (drop (a * 4096) (F .numbers))) (take (b * 4096 + F .count - b * 4096) (drop (b * 4096) (F .numbers))) base marks
@@ -59,14 +64,14 @@ module _ (F : Flat) (marks : List Bool) (ok : Ready F marks) where
 
   call-found : (a b k base : ℕ) → a < length (F .statements) → k ≡ kindOf (writesAt F a) (writesAt F b) → k < 3 → base ≡ placeOf (F .body) (statementOf F a) (statementOf F b) k 0
       → (j : ℕ) → found (F .depth) (F .points) (length (take (a * 4096 + F .count - a * 4096) (drop (a * 4096) (F .numbers)))) (take (a * 4096 + F .count - a * 4096) (drop (a * 4096) (F .numbers))) (take (b * 4096 + F .count - b * 4096) (drop (b * 4096) (F .numbers)))
-          (ltb (statementOf F a) (statementOf F b)) base j ≡ setBy F a b j
+      (ltb (statementOf F a) (statementOf F b)) base j ≡ setBy F a b j
   unfolding setBy
   call-found a b k base h e l f j = let t : ltb (kindOf (writesAt F a) (writesAt F b)) 3 ≡ true = lt-ltb (kindOf (writesAt F a) (writesAt F b)) 3 (rw e at l) in
       rw (part-is (F .count) (F .numbers) a, part-is (F .count) (F .numbers) b, numbers-length a h, f, e, t)
 
   pub call-sets : (m : List Bool) (a b k base : ℕ) → a < length (F .statements) → k ≡ kindOf (writesAt F a) (writesAt F b) → k < 3 → base ≡ placeOf (F .body) (statementOf F a) (statementOf F b) k 0
       → Adds marks m (found (F .depth) (F .points) (length (take (a * 4096 + F .count - a * 4096) (drop (a * 4096) (F .numbers)))) (take (a * 4096 + F .count - a * 4096) (drop (a * 4096) (F .numbers))) (take (b * 4096 + F .count - b * 4096) (drop (b * 4096) (F .numbers)))
-          (ltb (statementOf F a) (statementOf F b)) base)
+      (ltb (statementOf F a) (statementOf F b)) base)
       → Adds marks m (setBy F a b)
   call-sets m a b k base h e l f w j = w j ∙ ap (getD marks j false ||_) (call-found a b k base h e l f j)
 
@@ -79,8 +84,16 @@ module _ (F : Flat) (marks : List Bool) (ok : Ready F marks) where
 -- marks of the same length
 pub ready-still : (F : Flat) (m m′ : List Bool) → length m′ ≡ length m → Ready F m → Ready F m′
 ready-still F m m′ e r = record {
-  few = r .few; shallow = r .shallow; stored = r .stored; rising = r .rising; both = r .both; inBody = r .inBody; table = r .table; small = r .small;
-  room = (let l = r .room in omega arith) }
+  few = r .few;
+  shallow = r .shallow;
+  stored = r .stored;
+  rising = r .rising;
+  both = r .both;
+  inBody = r .inBody;
+  table = r .table;
+  small = r .small;
+  room = (let l = r .room in omega arith);
+}
 
 -- ---- accesses that are alike
 

@@ -50,9 +50,12 @@ le-cases u v = go (ltb v u) refl
     go false e = inl (ltb-false v u e)
 
 pub full-next : (k s base : ℕ) (m : List Bool) (v : ℕ) → s ≡ stride k → getD m (base + v) false ≡ true → FullBelow k base m v → FullBelow k base m (v + s)
-full-next k s base m v e h (a, f) = (aligned-next k s v e a, λ u b l. ⊎-elim
-    (λ c. ⊎-elim (λ i. subst (λ z. getD m (base + z) false ≡ true) (sym i) h) (λ i. f u b i) (eq-or-lt-of-le c))
-    (λ c. absurd (aligned-gap k s u v e b a l c)) (le-cases u v))
+full-next k s base m v e h (a, f) = (
+  aligned-next k s v e a,
+  λ u b l. ⊎-elim
+      (λ c. ⊎-elim (λ i. subst (λ z. getD m (base + z) false ≡ true) (sym i) h) (λ i. f u b i) (eq-or-lt-of-le c))
+      (λ c. absurd (aligned-gap k s u v e b a l c)) (le-cases u v),
+)
 
 pub full-done : (d base : ℕ) (own : Bool) (m : List Bool) (v : ℕ) → upTo own 364 ≤ v → FullBelow (6 - d) base m v → Full d own base m
 full-done d base own m v h (a, f) u b l = f u b (omega arith)
@@ -95,8 +98,8 @@ pub left-early : (s : List ℤ) (d : ℕ) (from to : List ℕ) (own : Bool) (bas
 unfolding found hit
 left-early s d from to own base m₀ m y ok h full a j = T-same (getD m j false) (getD m₀ j false || found d s n from to own base j)
     (λ g. ⊎-elim (λ k. or-left (getD m₀ j false) (found d s n from to own base j) k)
-        (λ k. or-right (getD m₀ j false) (found d s n from to own base j) (let r = some-there y (sink j) k in there-some n (r .0) (sink j) (let l = r .1 in omega arith) (r .2)))
-        (or-cases (getD m₀ j false) (found d s y from to own base j) (subst T (a j) g)))
+    (λ k. or-right (getD m₀ j false) (found d s n from to own base j) (let r = some-there y (sink j) k in there-some n (r .0) (sink j) (let l = r .1 in omega arith) (r .2)))
+    (or-cases (getD m₀ j false) (found d s y from to own base j) (subst T (a j) g)))
     (λ g. ⊎-elim (λ k. subst T (sym (a j)) (or-left (getD m₀ j false) (found d s y from to own base j) k)) marked (or-cases (getD m₀ j false) (found d s n from to own base j) g))
   where
     n : ℕ

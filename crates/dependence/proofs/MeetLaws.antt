@@ -1,8 +1,8 @@
 -- What the marks that the search sets mean: two accesses at two points, by number.
 use mathlib.Core.Path.{_≡_, sym, _∙_}
-use mathlib.Core.Bool.{Bool, _&&_}
+use mathlib.Core.Bool.{Bool}
 use mathlib.Core.List.{List}
-use Prim.Native.Nat.{ℕ, _+_, _≤_, _<_}
+use Prim.Native.Nat.{ℕ, _+_, _<_}
 use native.Mathlib.Omega.{arith}
 use lib.Dec.{T, eqb, ltb, eqb→eq, ltb→lt, lt→ltb}
 use lib.ListN.{length, getD}
@@ -51,6 +51,9 @@ module _ (F : Flat) (marks : List Bool) (ok : Ready F marks) (j : ℕ) where
   before : (a b x y : ℕ) → x < upTo (own a b) y → y < F .count → x < F .count
   before a b x y h g = let k = upTo-le (own a b) y (F .count) g in omega arith
 
+  one-element : (a b x y : ℕ) → x < F .count → y < F .count → T (eqb (getD (ids a) x 0) (getD (ids b) y 0)) → numberAt F a x ≡ numberAt F b y
+  one-element a b x y h g e = sym (numbers-at F marks ok a x h) ∙ eqb→eq (getD (ids a) x 0) (getD (ids b) y 0) e ∙ numbers-at F marks ok b y g
+
   pub set-meets : T (some (length (F .statements)) (λ a. setFrom F a j)) → Meets F j
   unfolding setFrom setBy found hit
   set-meets h =
@@ -63,8 +66,16 @@ module _ (F : Flat) (marks : List Bool) (ok : Ready F marks) (j : ℕ) where
       let y = s .0 in let x = t .0 in
       let u = and-both (eqb (getD (ids a) x 0) (getD (ids b) y 0)) (eqb (base a b + code (F .depth) (F .points) x y) j) (t .2) in
       record {
-        a = a; b = b; x = x; y = y; source = p .1; sink = q .1; conflicts = ltb→lt (kind a b) 3 (r .0); first = t .1; late = s .1;
-        element = sym (numbers-at F marks ok a x (before a b x y (t .1) (s .1))) ∙ eqb→eq (getD (ids a) x 0) (getD (ids b) y 0) (u .0) ∙ numbers-at F marks ok b y (s .1);
+        a = a;
+        b = b;
+        x = x;
+        y = y;
+        source = p .1;
+        sink = q .1;
+        conflicts = ltb→lt (kind a b) 3 (r .0);
+        first = t .1;
+        late = s .1;
+        element = one-element a b x y (before a b x y (t .1) (s .1)) (s .1) (u .0);
         placed = eqb→eq (base a b + code (F .depth) (F .points) x y) j (u .1);
       }
 

@@ -1,7 +1,7 @@
 -- Numbers of vectors. In order: digits; numbers of one length rise; numbers below 729; a vector is given by its number; the numbers of
 -- vectors of d loops; points in order have a number below 364; then the loop that reads signs as digits.
 use mathlib.Core.Path.{_≡_, refl, sym, ap, ap₂, _∙_, subst}
-use mathlib.Core.Bool.{Bool, true, false, cond}
+use mathlib.Core.Bool.{true, false}
 use mathlib.Core.List.{List, [], _∷_, _++_}
 use Prim.Native.Nat.{ℕ, zero, suc, _+_, _*_, _-_, _/_, _≤_, _<_}
 use native.Mathlib.Nat.{le-antisymm, mul-assoc, mul-comm, add-mul, one-mul, zero-add, suc-add}
@@ -199,8 +199,10 @@ earlier-lt (x ∷ p) (y ∷ q) u n e h = go (λ g. earlier-lt p q u (n * 3 + 1) 
   where
     l : length p ≡ length q
     l = omega arith
+
     even : length (signs p q ++ u) ≡ length (replicate (length p) equal ++ u)
     even = simp (length-append, length-replicate, signs-length p q l)
+
     go : (Earlier p q → numberAfter (n * 3 + 1) (signs p q ++ u) < numberAfter (n * 3 + 1) (replicate (length p) equal ++ u))
         → (s : Sign) → T (bySign s true (earlier p q) false) → numberAfter n ((s ∷ signs p q) ++ u) < numberAfter n ((equal ∷ replicate (length p) equal) ++ u)
     go later less g = after-rises (signs p q ++ u) (replicate (length p) equal ++ u) (n * 3 + 0) (n * 3 + 1) even (omega arith)

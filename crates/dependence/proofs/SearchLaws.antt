@@ -1,8 +1,8 @@
 -- The search of two accesses, sink by sink.
-use mathlib.Core.Path.{_≡_, refl, sym, ap, _∙_}
+use mathlib.Core.Path.{_≡_, refl, ap, _∙_}
 use mathlib.Core.Bool.{Bool, false, _||_}
 use mathlib.Core.List.{List}
-use Prim.Native.Nat.{ℕ, _+_, _*_, _≤_, _<_}
+use Prim.Native.Nat.{ℕ, _+_, _≤_, _<_}
 use native.Mathlib.Nat.{mul-le-mul-right}
 use native.Mathlib.Omega.{arith}
 use lib.Dec.{eqb}
@@ -27,7 +27,14 @@ module _ (s : List ℤ) (d : ℕ) (from to : List ℕ) (own : Bool) (base : ℕ)
   pub search-begins : (next start : List ℕ) (m : List Bool) → length next ≡ 4096 → Links from from false next → Links from to own start → Searching next start m m 0 0
   unfolding found
   search-begins next start m l n k = record {
-    inside = omega arith; light = omega arith; same-length = refl; table = l; nexts = n; starts = k; adds = gathered-none m (λ y j. some (upTo own y) (hit d s from to base j y)) }
+    inside = omega arith;
+    light = omega arith;
+    same-length = refl;
+    table = l;
+    nexts = n;
+    starts = k;
+    adds = gathered-none m (λ y j. some (upTo own y) (hit d s from to base j y));
+  }
 
   module _ (next start : List ℕ) (m₀ m : List Bool) (spent y first : ℕ) (h : y < length from) (e : first ≡ getD start y 0) (w : Searching next start m₀ m spent y) where
     is-latest : first ≡ latest from (getD to y 0) (upTo own y)
@@ -43,7 +50,8 @@ module _ (s : List ℤ) (d : ℕ) (from to : List ℕ) (own : Bool) (base : ℕ)
       sink = (let b = row-fits d y (length from) h in omega arith);
       linked = omega arith;
       falling = λ x k. links-fall from next (w .nexts) x (omega arith);
-      room = omega arith }
+      room = omega arith;
+    }
 
     walked-is : (j : ℕ) → walked d s next base y first j ≡ some (upTo own y) (hit d s from to base j y)
     unfolding walked hit
@@ -55,5 +63,11 @@ module _ (s : List ℤ) (d : ℕ) (from to : List ℕ) (own : Bool) (base : ℕ)
     pub search-turns : (m′ : List Bool) (spent′ : ℕ) → length m′ ≡ length m → spent′ ≤ 729 → Adds m m′ (walked d s next base y first) → Searching next start m₀ m′ spent′ (y + 1)
     unfolding found
     search-turns m′ spent′ l t a = record {
-      inside = omega arith; light = t; same-length = l ∙ w .same-length; table = w .table; nexts = w .nexts; starts = w .starts;
-      adds = gathered-more m₀ m m′ y (λ y j. some (upTo own y) (hit d s from to base j y)) (w .adds) (λ j. a j ∙ ap (getD m j false ||_) (walked-is j)) }
+      inside = omega arith;
+      light = t;
+      same-length = l ∙ w .same-length;
+      table = w .table;
+      nexts = w .nexts;
+      starts = w .starts;
+      adds = gathered-more m₀ m m′ y (λ y j. some (upTo own y) (hit d s from to base j y)) (w .adds) (λ j. a j ∙ ap (getD m j false ||_) (walked-is j));
+    }

@@ -1,6 +1,6 @@
 -- Laws of `some`: as a statement; equal tests; the marks that a loop gathers.
 use mathlib.Core.Path.{_≡_, sym, ap, _∙_, subst}
-use mathlib.Core.Bool.{Bool, true, false, _||_, or-false, or-assoc, or-comm}
+use mathlib.Core.Bool.{Bool, false, _||_, or-false, or-assoc, or-comm}
 use mathlib.Core.Logic.{_⊎_, inl, inr, ⊎-elim}
 use mathlib.Core.List.{List}
 use Prim.Native.Nat.{ℕ, zero, suc, _+_, _<_}

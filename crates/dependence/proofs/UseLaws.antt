@@ -1,5 +1,5 @@
 -- The accesses of statements in ticket order: what each is, and that none is missing. Then the flat data that describe them, by number.
-use mathlib.Core.Path.{_≡_, refl, sym, ap, _∙_, subst}
+use mathlib.Core.Path.{_≡_, sym, ap, _∙_, subst}
 use mathlib.Core.Bool.{Bool, true, false}
 use mathlib.Core.Logic.{⊎-elim}
 use mathlib.Core.List.{List, [], _∷_, _++_, map, List·Memᴰ·not-nil, List·Memᴰ·append-cases, Memᴰ·append-left, Memᴰ·append-right, Memᴰ·map, Memᴰ·of-map}
@@ -31,7 +31,7 @@ unfolding usesFrom bodyAt
 uses-of k [] m = absurd (List·Memᴰ·not-nil m)
 uses-of k (s ∷ ss) {u} m = ⊎-elim
     (λ h. ⊎-elim (λ g. here true (Memᴰ·of-map (use·of k true) (s .writes) g)) (λ g. here false (Memᴰ·of-map (use·of k false) (s .reads) g))
-        (List·Memᴰ·append-cases (map (use·of k true) (s .writes)) h))
+    (List·Memᴰ·append-cases (map (use·of k true) (s .writes)) h))
     (λ h. later (uses-of (suc k) ss h)) (List·Memᴰ·append-cases (map (use·of k true) (s .writes) ++ map (use·of k false) (s .reads)) m)
   where
     here : (w : Bool) → (a : Access) × Mem a (side w s) × (use·of k w a ≡ u) → UseOf k (s ∷ ss) u

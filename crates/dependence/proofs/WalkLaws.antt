@@ -41,11 +41,15 @@ module _ (d : ℕ) (s : List ℤ) (next : List ℕ) (base y : ℕ) where
   walk-turns first m₀ m l steps v l′ falling nz ve b e w =
       let h = w .inside in
       let i : l ≡ suc (l - 1) = (let z : l ≡ (l - 1) + 1 = omega arith in z) ∙ add-one (l - 1) in
-      let a = falling (l - 1) (omega arith) in
-      (omega arith, record {
-        inside = omega arith; same-length = length-set m (base + v) true ∙ w .same-length;
-        adds = λ j. ap (_|| walked d s next base y l′ j) (set-mark m (base + v) b j) ∙ or-assoc (getD m j false) (eqb (base + v) j) (walked d s next base y l′ j)
-            ∙ ap (getD m j false ||_) (ap (λ k. eqb (base + v) j || walked d s next base y k j) e ∙ walked-more j (l - 1) v ve (λ z k. falling z (omega arith)) ∙ ap (λ k. walked d s next base y k j) (sym i)) ∙ w .adds j })
+      let a = falling (l - 1) (omega arith) in (
+        omega arith,
+        record {
+          inside = omega arith;
+          same-length = length-set m (base + v) true ∙ w .same-length;
+          adds = λ j. ap (_|| walked d s next base y l′ j) (set-mark m (base + v) b j) ∙ or-assoc (getD m j false) (eqb (base + v) j) (walked d s next base y l′ j)
+              ∙ ap (getD m j false ||_) (ap (λ k. eqb (base + v) j || walked d s next base y k j) e ∙ walked-more j (l - 1) v ve (λ z k. falling z (omega arith)) ∙ ap (λ k. walked d s next base y k j) (sym i)) ∙ w .adds j;
+        },
+      )
 
   pub walk-ends : (first : ℕ) (m₀ m : List Bool) (l steps : ℕ) → l ≡ 0 → Walking first m₀ m l steps → Adds m₀ m (walked d s next base y first)
   unfolding walked along

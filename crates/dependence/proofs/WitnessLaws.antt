@@ -1,12 +1,12 @@
 -- What the search asks can be met: i 0..1, A(0) written once in each iteration.
 use mathlib.Core.Path.{_≡_, refl, sym, ap₂, _∙_}
 use mathlib.Core.Bool.{Bool, true, false}
-use mathlib.Core.List.{List, [], _∷_, map, List·Memᴰ·not-nil}
+use mathlib.Core.List.{List, [], _∷_}
 use Prim.Native.Nat.{ℕ, zero, suc, _+_, _*_, _<_}
 use native.Mathlib.Omega.{arith}
 use lib.Dec.{eqb}
-use lib.IntN.{ℤ, pos}
-use lib.ListN.{length, getD, replicate, take, drop, length-replicate, getD-replicate}
+use lib.IntN.{pos}
+use lib.ListN.{getD, replicate, length-replicate, getD-replicate}
 use Rattle.integers.specs.Affine.{affine, dot}
 use Rattle.integers.specs.Sign.{sign}
 use Rattle.lists.specs.Parts.{rows}
@@ -39,13 +39,16 @@ element-is (suc a) x h g = absurd (omega arith)
 pub ready : Ready stored (replicate 2187 false)
 unfolding rows earlier sign
 ready = record {
-  few = omega arith; shallow = omega arith; stored = omega arith;
+  few = omega arith;
+  shallow = omega arith;
+  stored = omega arith;
   rising = (all-cons (Earlier (pos 0 ∷ [])) tt (all-nil (Earlier (pos 0 ∷ []))), (all-nil (Earlier (pos 1 ∷ [])), tt));
   both = refl;
   inBody = one;
   table = omega (arith, length-replicate {A = ℕ} 4096 0);
   small = λ a x h g. (let e = number-is a x h g in omega arith);
-  room = omega (arith, length-replicate {A = Bool} 2187 false) }
+  room = omega (arith, length-replicate {A = Bool} 2187 false);
+}
   where
     one : (a : ℕ) → a < 1 → getD (0 ∷ []) a 0 < 1
     one zero h = omega arith

@@ -70,7 +70,10 @@ fn pair(points: &[i64], depth: usize, x: usize, y: usize) -> usize
     requires { ⌜ (depth ≤ 6) × (x * depth + depth ≤ length (now points)) × (y * depth + depth ≤ length (now points)) ⌝ }
     ensures { λ r. ⌜ (r ≡ code depth (now (points .entry)) x y) × (r < 729) ⌝ }
 {
-    vector(&points[x * depth..x * depth + depth], &points[y * depth..y * depth + depth])
+    vector(
+        &points[x * depth..x * depth + depth],
+        &points[y * depth..y * depth + depth],
+    )
 }
 
 // ---- chains of points by element
@@ -108,7 +111,15 @@ fn link(from: &[u16], to: &[u16], own: bool, out: &mut [u16])
 }
 
 // Marks the vectors of the sink y with all sources of the chain that begins at `first`, and counts them.
-fn walk(points: &[i64], depth: usize, y: usize, first: usize, next: &[u16], base: usize, marks: &mut [bool]) -> usize
+fn walk(
+    points: &[i64],
+    depth: usize,
+    y: usize,
+    first: usize,
+    next: &[u16],
+    base: usize,
+    marks: &mut [bool],
+) -> usize
     requires { ⌜ Walkable (now points) depth y first (now next) base (now marks) ⌝ }
     ensures { λ r. ⌜ (r ≤ first) × Adds (now (marks .entry)) (now (marks .exit)) (walked depth (now (points .entry)) (now (next .entry)) base y first) ⌝ }
 {
@@ -153,7 +164,15 @@ fn full(marks: &[bool], base: usize, depth: usize, own: bool) -> bool
 
 // Marks the vectors of all conflicts of a source access and a sink access, from `base` on. Left once there is nothing more to find,
 // which is looked at as often as the walks pay for it.
-fn search(points: &[i64], depth: usize, from: &[u16], to: &[u16], own: bool, base: usize, marks: &mut [bool])
+fn search(
+    points: &[i64],
+    depth: usize,
+    from: &[u16],
+    to: &[u16],
+    own: bool,
+    base: usize,
+    marks: &mut [bool],
+)
     requires { ⌜ Searchable (now points) depth (now from) (now to) base (now marks) ⌝ }
     ensures { λ _. ⌜ Adds (now (marks .entry)) (now (marks .exit)) (found depth (now (points .entry)) (length (now (from .entry))) (now (from .entry)) (now (to .entry)) own base) ⌝ }
 {
@@ -193,7 +212,14 @@ fn same(p: &[u16], q: &[u16]) -> bool
 }
 
 // Whether the accesses a and b belong to one statement and name the same elements in the same way.
-fn alike(count: usize, numbers: &[u16], statements: &[usize], writes: &[bool], a: usize, b: usize) -> bool
+fn alike(
+    count: usize,
+    numbers: &[u16],
+    statements: &[usize],
+    writes: &[bool],
+    a: usize,
+    b: usize,
+) -> bool
     requires { ⌜ Listed count (now numbers) (now statements) (now writes) × (a < length (now statements)) × (b < length (now statements)) ⌝ }
     ensures { λ r. ⌜ (r ≡ true → Alike count (now (numbers .entry)) (now (statements .entry)) (now (writes .entry)) a b) ⌝ }
 {
@@ -203,11 +229,20 @@ fn alike(count: usize, numbers: &[u16], statements: &[usize], writes: &[bool], a
     if writes[a] != writes[b] {
         return false;
     }
-    same(&numbers[a * 4096..a * 4096 + count], &numbers[b * 4096..b * 4096 + count])
+    same(
+        &numbers[a * 4096..a * 4096 + count],
+        &numbers[b * 4096..b * 4096 + count],
+    )
 }
 
 // The first access that is like a.
-fn first_like(count: usize, numbers: &[u16], statements: &[usize], writes: &[bool], a: usize) -> usize
+fn first_like(
+    count: usize,
+    numbers: &[u16],
+    statements: &[usize],
+    writes: &[bool],
+    a: usize,
+) -> usize
     requires { ⌜ Listed count (now numbers) (now statements) (now writes) × (a < length (now statements)) ⌝ }
     ensures { λ r. ⌜ FirstLike count (now (numbers .entry)) (now (statements .entry)) (now (writes .entry)) a r ⌝ }
 {
@@ -248,7 +283,18 @@ fn block(body: usize, s: usize, t: usize, k: usize) -> usize
 }
 
 // Marks the conflicts of access a, as the source, with access b.
-fn between(points: &[i64], depth: usize, count: usize, numbers: &[u16], statements: &[usize], writes: &[bool], body: usize, a: usize, b: usize, marks: &mut [bool])
+fn between(
+    points: &[i64],
+    depth: usize,
+    count: usize,
+    numbers: &[u16],
+    statements: &[usize],
+    writes: &[bool],
+    body: usize,
+    a: usize,
+    b: usize,
+    marks: &mut [bool],
+)
     requires { ⌜ Ready (flat (now points) depth count (now numbers) (now statements) (now writes) body) (now marks) × (a < length (now statements)) × (b < length (now statements)) ⌝ }
     ensures { λ _. ⌜ Adds (now (marks .entry)) (now (marks .exit)) (setBy (flat (now (points .entry)) depth count (now (numbers .entry)) (now (statements .entry)) (now (writes .entry)) body) a b) ⌝ }
 {
@@ -256,33 +302,81 @@ fn between(points: &[i64], depth: usize, count: usize, numbers: &[u16], statemen
     if k < 3 {
         let s = statements[a];
         let t = statements[b];
-        search(points, depth, &numbers[a * 4096..a * 4096 + count], &numbers[b * 4096..b * 4096 + count], s < t, block(body, s, t, k), marks);
+        search(
+            points,
+            depth,
+            &numbers[a * 4096..a * 4096 + count],
+            &numbers[b * 4096..b * 4096 + count],
+            s < t,
+            block(body, s, t, k),
+            marks,
+        );
     }
 }
 
 // Marks the conflicts of access a, as the source, with every access.
-fn from_access(points: &[i64], depth: usize, count: usize, numbers: &[u16], statements: &[usize], writes: &[bool], body: usize, a: usize, marks: &mut [bool])
+fn from_access(
+    points: &[i64],
+    depth: usize,
+    count: usize,
+    numbers: &[u16],
+    statements: &[usize],
+    writes: &[bool],
+    body: usize,
+    a: usize,
+    marks: &mut [bool],
+)
     requires { ⌜ Ready (flat (now points) depth count (now numbers) (now statements) (now writes) body) (now marks) × (a < length (now statements)) ⌝ }
     ensures { λ _. ⌜ Adds (now (marks .entry)) (now (marks .exit)) (setFrom (flat (now (points .entry)) depth count (now (numbers .entry)) (now (statements .entry)) (now (writes .entry)) body) a) ⌝ }
 {
     let mut b = 0;
     while b < statements.len() {
         if first_like(count, numbers, statements, writes, b) == b {
-            between(points, depth, count, numbers, statements, writes, body, a, b, marks);
+            between(
+                points,
+                depth,
+                count,
+                numbers,
+                statements,
+                writes,
+                body,
+                a,
+                b,
+                marks,
+            );
         }
         b += 1;
     }
 }
 
 // Marks every line that the listing of the nest has.
-pub fn dependences(points: &[i64], depth: usize, count: usize, numbers: &[u16], statements: &[usize], writes: &[bool], body: usize, marks: &mut [bool])
+pub fn dependences(
+    points: &[i64],
+    depth: usize,
+    count: usize,
+    numbers: &[u16],
+    statements: &[usize],
+    writes: &[bool],
+    body: usize,
+    marks: &mut [bool],
+)
     requires { ⌜ Ready (flat (now points) depth count (now numbers) (now statements) (now writes) body) (now marks) ⌝ }
     ensures { λ _. ⌜ Searched (flat (now (points .entry)) depth count (now (numbers .entry)) (now (statements .entry)) (now (writes .entry)) body) (now (marks .entry)) (now (marks .exit)) ⌝ }
 {
     let mut a = 0;
     while a < statements.len() {
         if first_like(count, numbers, statements, writes, a) == a {
-            from_access(points, depth, count, numbers, statements, writes, body, a, marks);
+            from_access(
+                points,
+                depth,
+                count,
+                numbers,
+                statements,
+                writes,
+                body,
+                a,
+                marks,
+            );
         }
         a += 1;
     }

@@ -1,111 +1,86 @@
 -- `alike`: one statement, one way, equal numbers.
 use mathlib.Core.Path.{sym, _∙_}
-use mathlib.Core.Bool.{Bool, true, false, false≢true}
+use mathlib.Core.Bool.{false≢true}
 use Rattle.dependence.proofs.FlatLaws.{part-is, flags-equal}
 use borrow.Author.Needs.{needs}
 use Rattle.dependence.proofs.alike.Statement.{statement}
 use Rattle.dependence.proofs.alike.Tie as tie
-use Rattle.dependence.proofs.alike.Reads as reads
-use Rattle.dependence.proofs.alike.Lts as lts
-use Rattle.dependence.proofs.same.Reads as same-reads
 
--- src/lib.rt:200:8
 mul-if1 : tie.Need-mul-if1
 mul-if1 c = search needs
 
--- src/lib.rt:200:8
 shared-slice-read-if1 : tie.Need-shared-slice-read-if1
 shared-slice-read-if1 c = search needs
 
--- src/lib.rt:200:25
 mul-if1-2 : tie.Need-mul-if1-2
 mul-if1-2 c = search needs
 
--- src/lib.rt:200:25
 shared-slice-read-if1-2 : tie.Need-shared-slice-read-if1-2
 shared-slice-read-if1-2 c = search needs
 
--- src/lib.rt:201:9
 returns : tie.Need-returns
 returns c = λ e. absurd (false≢true e)
 
--- src/lib.rt:203:8
 shared-slice-read-if2 : tie.Need-shared-slice-read-if2
 shared-slice-read-if2 c = search needs
 
--- src/lib.rt:203:21
 shared-slice-read-if2-2 : tie.Need-shared-slice-read-if2-2
 shared-slice-read-if2-2 c = search needs
 
--- src/lib.rt:204:9
 returns-2 : tie.Need-returns-2
 returns-2 c = λ e. absurd (false≢true e)
 
--- src/lib.rt:206:19
 mul-same : tie.Need-mul-same
 mul-same c = search needs
 
--- src/lib.rt:206:29
 mul-same-2 : tie.Need-mul-same-2
 mul-same-2 c = search needs
 
--- src/lib.rt:206:29
 add-same : tie.Need-add-same
 add-same c = search needs
 
--- src/lib.rt:206:10
 mul-same-3 : tie.Need-mul-same-3
 mul-same-3 c = search needs
 
--- src/lib.rt:206:10
 sub-same : tie.Need-sub-same
 sub-same c = search needs
 
--- src/lib.rt:206:10
 part-same-start : tie.Need-part-same-start
 part-same-start c = search needs
 
--- src/lib.rt:206:10
 part-same-end : tie.Need-part-same-end
 part-same-end c = search needs
 
--- src/lib.rt:206:57
 mul-same-4 : tie.Need-mul-same-4
 mul-same-4 c = search needs
 
--- src/lib.rt:206:67
 mul-same-5 : tie.Need-mul-same-5
 mul-same-5 c = search needs
 
--- src/lib.rt:206:67
 add-same-2 : tie.Need-add-same-2
 add-same-2 c = search needs
 
--- src/lib.rt:206:48
 mul-same-6 : tie.Need-mul-same-6
 mul-same-6 c = search needs
 
--- src/lib.rt:206:48
 sub-same-2 : tie.Need-sub-same-2
 sub-same-2 c = search needs
 
--- src/lib.rt:206:48
 part-same-start-2 : tie.Need-part-same-start-2
 part-same-start-2 c = search needs
 
--- src/lib.rt:206:48
 part-same-end-2 : tie.Need-part-same-end-2
 part-same-end-2 c = search needs
 
--- src/lib.rt:206:5
 same-requires : tie.Need-same-requires
 same-requires c κs = search needs
 
--- src/lib.rt:196:1
 returns-3 : tie.Need-returns-3
 returns-3 c = λ e. let s = c .before .before .before .before .before .before .before .before .before .before .before .before .args in record {
-  statement = c .before .before .before .before .before .before .if1 .left; way = flags-equal _ _ (c .before .before .before .if2 .left);
-  elements = sym (part-is (s .count) (s .numbers .now) (s .a)) ∙ c .same .ensures e ∙ part-is (s .count) (s .numbers .now) (s .b) }
+  statement = c .before .before .before .before .before .before .if1 .left;
+  way = flags-equal _ _ (c .before .before .before .if2 .left);
+  elements = sym (part-is (s .count) (s .numbers .now) (s .a)) ∙ c .same .ensures e ∙ part-is (s .count) (s .numbers .now) (s .b);
+}
 
 pub alike-spec : {M : Type 1} → statement M
 alike-spec =

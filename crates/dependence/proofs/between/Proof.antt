@@ -5,118 +5,87 @@ use Rattle.dependence.proofs.FlatLaws.{call-ready, call-sets, no-call}
 use borrow.Author.Needs.{needs}
 use Rattle.dependence.proofs.between.Statement.{statement}
 use Rattle.dependence.proofs.between.Tie as tie
-use Rattle.dependence.proofs.between.Reads as reads
-use Rattle.dependence.proofs.between.Lts as lts
-use Rattle.dependence.proofs.block.Reads as block-reads
-use Rattle.dependence.proofs.kind.Reads as kind-reads
-use Rattle.dependence.proofs.search.Reads as search-reads
 
 abbrev nest : tie.Start → Flat
 nest s = flat (s .args .points .now) (s .args .depth) (s .args .count) (s .args .numbers .now) (s .args .statements .now) (s .args .writes .now) (s .args .body)
 
--- src/lib.rt:255:18
 shared-slice-read-kind : tie.Need-shared-slice-read-kind
 shared-slice-read-kind c = search needs
 
--- src/lib.rt:255:29
 shared-slice-read-kind-2 : tie.Need-shared-slice-read-kind-2
 shared-slice-read-kind-2 c = search needs
 
--- src/lib.rt:255:9
 kind-requires : tie.Need-kind-requires
 kind-requires c κs = search needs
 
--- src/lib.rt:257:17
 mul-s : tie.Need-mul-s
 mul-s c = search needs
 
--- src/lib.rt:257:17
 shared-slice-read-s : tie.Need-shared-slice-read-s
 shared-slice-read-s c = search needs
 
--- src/lib.rt:258:17
 mul-t : tie.Need-mul-t
 mul-t c = search needs
 
--- src/lib.rt:258:17
 shared-slice-read-t : tie.Need-shared-slice-read-t
 shared-slice-read-t c = search needs
 
--- src/lib.rt:259:40
 mul-search : tie.Need-mul-search
 mul-search c = search needs
 
--- src/lib.rt:259:50
 mul-search-2 : tie.Need-mul-search-2
 mul-search-2 c = search needs
 
--- src/lib.rt:259:50
 add-search : tie.Need-add-search
 add-search c = search needs
 
--- src/lib.rt:259:31
 mul-search-3 : tie.Need-mul-search-3
 mul-search-3 c = search needs
 
--- src/lib.rt:259:31
 sub-search : tie.Need-sub-search
 sub-search c = search needs
 
--- src/lib.rt:259:31
 part-search-start : tie.Need-part-search-start
 part-search-start c = search needs
 
--- src/lib.rt:259:31
 part-search-end : tie.Need-part-search-end
 part-search-end c = search needs
 
--- src/lib.rt:259:78
 mul-search-4 : tie.Need-mul-search-4
 mul-search-4 c = search needs
 
--- src/lib.rt:259:88
 mul-search-5 : tie.Need-mul-search-5
 mul-search-5 c = search needs
 
--- src/lib.rt:259:88
 add-search-2 : tie.Need-add-search-2
 add-search-2 c = search needs
 
--- src/lib.rt:259:69
 mul-search-6 : tie.Need-mul-search-6
 mul-search-6 c = search needs
 
--- src/lib.rt:259:69
 sub-search-2 : tie.Need-sub-search-2
 sub-search-2 c = search needs
 
--- src/lib.rt:259:69
 part-search-start-2 : tie.Need-part-search-start-2
 part-search-start-2 c = search needs
 
--- src/lib.rt:259:69
 part-search-end-2 : tie.Need-part-search-end-2
 part-search-end-2 c = search needs
 
--- src/lib.rt:259:114
 block-requires : tie.Need-block-requires
 block-requires c κs = let s = c .before .before .before .before .before .before .before .before .before .before .before .before in let r = s .pre .0 .room in let g = s .good .1 .1 .1 .1 .1 .1 .1 .1 .1 .0 .0 in
     (omega arith, s .pre .0 .inBody (s .args .a) (s .pre .1), s .pre .0 .inBody (s .args .b) (s .pre .2), c .before .before .before .before .if1 .taken)
 
--- src/lib.rt:259:9
 search-requires : tie.Need-search-requires
 search-requires c κs = let s = c .before .before .before .before .before .before .before .before .before .before .before .before .before .before in call-ready (nest s) (s .args .marks .now) (s .pre .0) (s .args .a) (s .args .b) (c .before .block .result) (s .pre .1) (s .pre .2) (c .before .block .ensures .1)
 
--- src/lib.rt:251:1
 same-length : tie.Need-same-length
 same-length c = search needs
 
--- src/lib.rt:251:1
 returns : tie.Need-returns
 returns c = let s = c .before .before .before .before .before .before .before .before .before .before .before .before .before .before .before .before .before in call-sets (nest s) (s .args .marks .now) (s .pre .0) (c .before .before .search .last .1 .1 .1 .1 .1 .1 .0) (s .args .a) (s .args .b) (c .before .before .before .before .before .before .before .before .before .before .kind .result) (c .before .before .before .before .block .result) (s .pre .1) (c .before .before .before .before .before .before .before .before .before .before .kind .ensures) (c .before .before .before .before .before .before .before .before .before .if1 .taken)
     (c .before .before .before .before .block .ensures .0) (c .before .before .search .ensures)
 
--- src/lib.rt:251:1
 returns-2 : tie.Need-returns-2
 returns-2 c = let s = c .before .before .before .before .before .before .before .before in no-call (nest s) (s .args .marks .now) (s .pre .0) (s .args .a) (s .args .b) (c .before .kind .result) (c .before .kind .ensures) (c .if1 .left)
 

@@ -5,33 +5,25 @@ use Rattle.dependence.specs.Numbers.{placeOf}
 use Rattle.dependence.proofs.FlatLaws.{block-fits}
 use Rattle.dependence.proofs.block.Statement.{statement}
 use Rattle.dependence.proofs.block.Tie as tie
-use Rattle.dependence.proofs.block.Reads as reads
-use Rattle.dependence.proofs.block.Lts as lts
 
 fits : (c : tie.Start) → placeOf (c .args .body) (c .args .s) (c .args .t) (c .args .k) 0 + 729 ≤ c .args .body * c .args .body * 2187
 fits c = let a = c .args in block-fits (a .body) (a .s) (a .t) (a .k) (c .pre .1) (c .pre .2) (c .pre .3)
 
--- src/lib.rt:247:7
 mul-result : tie.Need-mul-result
 mul-result c = let h = fits c in omega arith
 
--- src/lib.rt:247:7
 add-result : tie.Need-add-result
 add-result c = let h = fits c in omega arith
 
--- src/lib.rt:247:6
 mul-result-2 : tie.Need-mul-result-2
 mul-result-2 c = let h = fits c in omega arith
 
--- src/lib.rt:247:6
 add-result-2 : tie.Need-add-result-2
 add-result-2 c = let h = fits c in omega arith
 
--- src/lib.rt:247:5
 mul-result-3 : tie.Need-mul-result-3
 mul-result-3 c = let h = fits c in omega arith
 
--- src/lib.rt:243:1
 returns : tie.Need-returns
 returns c = let h = fits c in (omega arith, omega arith)
 

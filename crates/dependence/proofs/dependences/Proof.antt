@@ -11,10 +11,6 @@ use Rattle.dependence.proofs.FlatLaws.{listed, ready-still, alike-from}
 use Rattle.dependence.proofs.MarkLaws.{searched}
 use Rattle.dependence.proofs.dependences.Statement.{statement}
 use Rattle.dependence.proofs.dependences.Tie as tie
-use Rattle.dependence.proofs.dependences.Reads as reads
-use Rattle.dependence.proofs.dependences.Lts as lts
-use Rattle.dependence.proofs.first_like.Reads as first-like-reads
-use Rattle.dependence.proofs.from_access.Reads as from-access-reads
 
 abbrev Inv-loop : tie.InvT-loop
 Inv-loop points depth count numbers statements writes body marks₀ a₀ marks a = (a ≤ length statements) × (length marks ≡ length marks₀) × Gathered marks₀ marks a (setFrom (flat points depth count numbers statements writes body))
@@ -32,35 +28,27 @@ turn c = let s = c .before .before .before .before .before .before .before .befo
     (⊎-elim (λ w. inl (subst (λ m. Done (l .marks) m (setFrom (nest s) (l .a))) (sym (w .5)) (record { same-length = w .2 .kept .1 .1 .1 .1 .1 .1 .1 .1 .0; adds = w .2 .ensures })))
     (λ w. let n = w .0 .left in let h = f .ensures .earlier in let k : f .result < l .a = omega arith in inr (w .1, k, alike-from (nest s) (f .result) (l .a) (f .ensures .alike k))) (c .if1 .came))
 
--- src/lib.rt:283:5
 loop-holds : tie.Need-loop-holds Inv-loop μ-loop
 loop-holds c = let s = c .before .before .before .before in (omega arith, refl, gathered-none (s .args .marks .now) (setFrom (nest s)))
 
--- src/lib.rt:284:12
 first-like-requires : tie.Need-first-like-requires Inv-loop μ-loop
 first-like-requires c κs = let s = c .before .before .before .before .before .before in (listed (nest s) (s .args .marks .now) (s .pre), c .loop-test .taken)
 
--- src/lib.rt:285:13
 from-access-requires : tie.Need-from-access-requires Inv-loop μ-loop
 from-access-requires c κs = let s = c .before .before .before .before .before .before .before .before .before in let l = c .before .before .before .before .loop in (ready-still (nest s) (s .args .marks .now) (l .marks) (l .inv .1) (s .pre), c .before .before .before .loop-test .taken)
 
--- src/lib.rt:287:9
 add-a : tie.Need-add-a Inv-loop μ-loop
 add-a c = search needs
 
--- src/lib.rt:283:5
 loop-less : tie.Need-loop-less Inv-loop μ-loop
 loop-less c = search needs
 
--- src/lib.rt:283:5
 loop-again : tie.Need-loop-again Inv-loop μ-loop
 loop-again c = let t = c .before .before .loop-test .taken in (omega arith, turn c .0, turn c .1)
 
--- src/lib.rt:278:1
 same-length : tie.Need-same-length Inv-loop μ-loop
 same-length c = c .before .loop .inv .1
 
--- src/lib.rt:278:1
 returns : tie.Need-returns Inv-loop μ-loop
 returns c = let s = c .before .before .before .before .before .before in let l = c .before .loop in let t = c .loop-test .left in let i = l .inv .0 in let e : l .a ≡ length (s .args .statements .now) = omega arith in
     searched (nest s) (s .args .marks .now) (s .pre) (l .marks) (subst (λ n. Gathered (s .args .marks .now) (l .marks) n (setFrom (nest s))) e (l .inv .2))

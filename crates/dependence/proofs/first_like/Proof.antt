@@ -4,9 +4,6 @@ use native.Mathlib.Omega.{arith}
 use borrow.Author.Needs.{needs}
 use Rattle.dependence.proofs.first_like.Statement.{statement}
 use Rattle.dependence.proofs.first_like.Tie as tie
-use Rattle.dependence.proofs.first_like.Reads as reads
-use Rattle.dependence.proofs.first_like.Lts as lts
-use Rattle.dependence.proofs.alike.Reads as alike-reads
 
 abbrev Inv-loop : tie.InvT-loop
 Inv-loop count numbers statements writes a b₀ b = b ≤ a
@@ -14,31 +11,24 @@ Inv-loop count numbers statements writes a b₀ b = b ≤ a
 abbrev μ-loop : tie.MeasureT-loop
 μ-loop count numbers statements writes a b₀ b = a - b
 
--- src/lib.rt:215:5
 loop-holds : tie.Need-loop-holds Inv-loop μ-loop
 loop-holds c = search needs
 
--- src/lib.rt:216:12
 alike-requires : tie.Need-alike-requires Inv-loop μ-loop
 alike-requires c κs = let s = c .before .before .before .before .before in let t = c .loop-test .taken in let h = s .pre .1 in (s .pre .0, omega arith, h)
 
--- src/lib.rt:217:13
 returns : tie.Need-returns Inv-loop μ-loop
 returns c = let t = c .before .before .loop-test .taken in record { earlier = omega arith; alike = λ _. c .before .alike .ensures (c .if1 .taken) }
 
--- src/lib.rt:219:9
 add-b : tie.Need-add-b Inv-loop μ-loop
 add-b c = search needs
 
--- src/lib.rt:215:5
 loop-less : tie.Need-loop-less Inv-loop μ-loop
 loop-less c = search needs
 
--- src/lib.rt:215:5
 loop-again : tie.Need-loop-again Inv-loop μ-loop
 loop-again c = search needs
 
--- src/lib.rt:210:1
 returns-2 : tie.Need-returns-2 Inv-loop μ-loop
 returns-2 c = record { earlier = omega arith; alike = λ h. absurd (omega arith) }
 

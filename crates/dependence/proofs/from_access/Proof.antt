@@ -1,7 +1,7 @@
 -- `from_access`. The loop's invariant: the marks of a with all sinks before b are set. A sink that an earlier one is like sets no more.
-use mathlib.Core.Path.{_≡_, refl, _∙_, sym, subst}
+use mathlib.Core.Path.{_≡_, refl, sym, subst}
 use mathlib.Core.Logic.{⊎-elim, inl, inr}
-use Prim.Native.Nat.{ℕ, _+_, _-_, _≤_, _<_}
+use Prim.Native.Nat.{_+_, _-_, _≤_, _<_}
 use native.Mathlib.Omega.{arith}
 use lib.ListN.{length}
 use borrow.Author.Needs.{needs}
@@ -10,10 +10,6 @@ use Rattle.dependence.proofs.SomeLaws.{Gathered, gathered-none, Done, g
 use Rattle.dependence.proofs.FlatLaws.{listed, ready-still, alike-sink}
 use Rattle.dependence.proofs.from_access.Statement.{statement}
 use Rattle.dependence.proofs.from_access.Tie as tie
-use Rattle.dependence.proofs.from_access.Reads as reads
-use Rattle.dependence.proofs.from_access.Lts as lts
-use Rattle.dependence.proofs.between.Reads as between-reads
-use Rattle.dependence.proofs.first_like.Reads as first-like-reads
 
 abbrev Inv-loop : tie.InvT-loop
 Inv-loop points depth count numbers statements writes body a marks₀ b₀ marks b = (b ≤ length statements) × (length marks ≡ length marks₀) × Gathered marks₀ marks b (setBy (flat points depth count numbers statements writes body) a)
@@ -31,35 +27,27 @@ turn c = let s = c .before .before .before .before .before .before .before .befo
     (⊎-elim (λ w. inl (subst (λ m. Done (l .marks) m (setBy (nest s) (s .args .a) (l .b))) (sym (w .5)) (record { same-length = w .2 .kept .1 .1 .1 .1 .1 .1 .1 .1 .1 .0; adds = w .2 .ensures })))
     (λ w. let n = w .0 .left in let h = f .ensures .earlier in let k : f .result < l .b = omega arith in inr (w .1, k, alike-sink (nest s) (f .result) (l .b) (f .ensures .alike k) (s .args .a))) (c .if1 .came))
 
--- src/lib.rt:269:5
 loop-holds : tie.Need-loop-holds Inv-loop μ-loop
 loop-holds c = let s = c .before .before .before .before in (omega arith, refl, gathered-none (s .args .marks .now) (setBy (nest s) (s .args .a)))
 
--- src/lib.rt:270:12
 first-like-requires : tie.Need-first-like-requires Inv-loop μ-loop
 first-like-requires c κs = let s = c .before .before .before .before .before .before in (listed (nest s) (s .args .marks .now) (s .pre .0), c .loop-test .taken)
 
--- src/lib.rt:271:13
 between-requires : tie.Need-between-requires Inv-loop μ-loop
 between-requires c κs = let s = c .before .before .before .before .before .before .before .before .before in let l = c .before .before .before .before .loop in (ready-still (nest s) (s .args .marks .now) (l .marks) (l .inv .1) (s .pre .0), s .pre .1, c .before .before .before .loop-test .taken)
 
--- src/lib.rt:273:9
 add-b : tie.Need-add-b Inv-loop μ-loop
 add-b c = search needs
 
--- src/lib.rt:269:5
 loop-less : tie.Need-loop-less Inv-loop μ-loop
 loop-less c = search needs
 
--- src/lib.rt:269:5
 loop-again : tie.Need-loop-again Inv-loop μ-loop
 loop-again c = let t = c .before .before .loop-test .taken in (omega arith, turn c .0, turn c .1)
 
--- src/lib.rt:264:1
 same-length : tie.Need-same-length Inv-loop μ-loop
 same-length c = c .before .loop .inv .1
 
--- src/lib.rt:264:1
 returns : tie.Need-returns Inv-loop μ-loop
 unfolding setFrom
 returns c = let s = c .before .before .before .before .before .before in let l = c .before .loop in let t = c .loop-test .left in let i = l .inv .0 in let e : l .b ≡ length (s .args .statements .now) = omega arith in

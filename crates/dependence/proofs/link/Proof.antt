@@ -1,8 +1,7 @@
 -- `link` meets its contract. The loop's invariant: the heads are those of the places before y, and the links before y are there.
-use mathlib.Core.Path.{_≡_, refl, _∙_, sym, ap, subst}
-use mathlib.Core.Bool.{Bool, true, false, cond}
+use mathlib.Core.Path.{_≡_, refl}
 use mathlib.Core.Logic.{⊎-elim, inl, inr}
-use Prim.Native.Nat.{ℕ, _+_, _*_, _-_, _≤_, _<_}
+use Prim.Native.Nat.{ℕ, _+_, _-_, _≤_, _<_}
 use native.Mathlib.Omega.{arith}
 use lib.ListN.{length, getD, set, length-set, length-replicate}
 use borrow.Author.Needs.{needs}
@@ -11,10 +10,6 @@ use Rattle.dependence.specs.Search.{latest, upTo}
 use Rattle.dependence.proofs.ChainLaws.{Heads, heads-none, heads-more, links-more, link-turn}
 use Rattle.dependence.proofs.link.Statement.{statement}
 use Rattle.dependence.proofs.link.Tie as tie
-use Rattle.dependence.proofs.link.Reads as reads
-use Rattle.dependence.proofs.link.Lts as lts
-use Rattle.dependence.proofs.narrow.Reads as narrow-reads
-use Rattle.dependence.proofs.wide.Reads as wide-reads
 
 abbrev Inv-loop : tie.InvT-loop
 Inv-loop from to own out₀ head₀ y₀ out head y = (y ≤ length from) × (length head ≡ 16384) × (length out ≡ length out₀) × Heads from head y × ((k : ℕ) → k < y → getD out k 0 ≡ latest from (getD to k 0) (upTo own k))
@@ -102,10 +97,13 @@ loop-less c = search needs
 
 loop-again : tie.Need-loop-again Inv-loop μ-loop
 loop-again c = let s = c .before .before .before .before .before .before .before .before .before .before .before in let l = c .before .before .before .before .before .before .before .loop in
-    let t = c .before .before .before .before .before .before .loop-test .taken in
-    (omega arith, simp length-set (l .inv .1), simp length-set (l .inv .2),
-    heads-next (c .before),
-    links-more (s .args .from .now) (s .args .to .now) (s .args .own) (l .out) (l .y) (c .if1 .l) (omega (arith, s .pre .room, l .inv .2)) (link-is c) (l .inv .4))
+    let t = c .before .before .before .before .before .before .loop-test .taken in (
+      omega arith,
+      simp length-set (l .inv .1),
+      simp length-set (l .inv .2),
+      heads-next (c .before),
+      links-more (s .args .from .now) (s .args .to .now) (s .args .own) (l .out) (l .y) (c .if1 .l) (omega (arith, s .pre .room, l .inv .2)) (link-is c) (l .inv .4),
+    )
 
 same-length : tie.Need-same-length Inv-loop μ-loop
 same-length c = search needs

@@ -3,9 +3,6 @@ use Rattle.dependence.proofs.NumberLaws.{code-is}
 use borrow.Author.Needs.{needs}
 use Rattle.dependence.proofs.pair.Statement.{statement}
 use Rattle.dependence.proofs.pair.Tie as tie
-use Rattle.dependence.proofs.pair.Reads as reads
-use Rattle.dependence.proofs.pair.Lts as lts
-use Rattle.dependence.proofs.vector.Reads as vector-reads
 
 mul-vector : tie.Need-mul-vector
 mul-vector c = search needs

@@ -9,10 +9,6 @@ use Rattle.dependence.proofs.NumberLaws.{number-padded, stride-positive
 use borrow.Author.Needs.{needs}
 use Rattle.dependence.proofs.vector.Statement.{statement}
 use Rattle.dependence.proofs.vector.Tie as tie
-use Rattle.dependence.proofs.vector.Reads as reads
-use Rattle.dependence.proofs.vector.Lts as lts
-use Rattle.dependence.proofs.digits.Reads as digits-reads
-use Rattle.dependence.proofs.stride.Reads as stride-reads
 
 whole : (c : tie.After-digits) → (let s = c .before .before in let w = c .digits .result in let t = c .before .stride .result in
     (w * t + (t - 1) / 2 ≡ number (signs (s .args .p .now) (s .args .q .now))) × (w * t + (t - 1) / 2 < 729))
