@@ -126,7 +126,7 @@ unfolding numberAfter stride middle digit
 after-equal zero n = omega arith
 after-equal (suc k) n = let a = after-equal k (n * 3 + 1) in let b = after-equal k (0 * 3 + 1) in let c = thrice n (stride k) in let d = thrice 0 (stride k) in omega arith
 
-number-splits : (v : List Sign) (d : ℕ) → length v ≡ d → number v ≡ numberAfter 0 v * stride (6 - d) + middle (6 - d)
+pub number-splits : (v : List Sign) (d : ℕ) → length v ≡ d → number v ≡ numberAfter 0 v * stride (6 - d) + middle (6 - d)
 unfolding number
 number-splits v d e = rw e (after-append v (replicate (6 - d) equal) 0 ∙ after-equal (6 - d) (numberAfter 0 v))
 

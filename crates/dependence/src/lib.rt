@@ -41,7 +41,7 @@ fn digits(p: &[i64], q: &[i64]) -> usize
 }
 
 // How far the numbers of vectors of so many loops are from one another: 3 for each missing loop.
-fn stride(depth: usize) -> usize
+pub fn stride(depth: usize) -> usize
     requires { ⌜ depth ≤ 6 ⌝ }
     ensures { λ r. ⌜ (r ≡ «stride-of» (6 - depth)) × (r ≤ 729) ⌝ }
 {
