@@ -1,9 +1,8 @@
 // The search for dependences: from stored points and element numbers, the mark of every line that a listing has.
 ghost use mathlib.Core.Path.{_≡_};
-ghost use mathlib.Core.Bool.{Bool, true, false, _||_};
-ghost use Prim.Native.Nat.{ℕ, _+_, _*_, _-_, _^_, _≤_, _<_};
-ghost use lib.ListN.{length, getD};
-ghost use Rattle.integers.specs.Sign.{Sign};
+ghost use mathlib.Core.Bool.{true, false};
+ghost use Prim.Native.Nat.{_+_, _*_, _-_, _^_, _≤_, _<_};
+ghost use lib.ListN.{length};
 ghost use Rattle.integers.specs.Sign.{sign as «sign-of»};
 ghost use Rattle.model.specs.Directions.{signs};
 ghost use Rattle.dependence.specs.Numbers.{digit, numberAfter, number, placeOf};
