@@ -21,7 +21,8 @@ use Rattle.dependence.specs.Numbers.{number}
 use Rattle.dependence.specs.Search.{some, upTo, row, code, hit, found, Adds, stride, middle, Aligned, Full, Searchable}
 use Rattle.dependence.proofs.SomeLaws.{some-there, there-some}
 use Rattle.dependence.proofs.ChainLaws.{upTo-le}
-use Rattle.dependence.proofs.NumberLaws.{stride-half, row-length, number-aligned, signs-length, number-self, number-earlier}
+use Rattle.dependence.proofs.NumberLaws.{stride-half, number-aligned, signs-length, number-self, number-earlier}
+use Rattle.dependence.proofs.VectorLaws.{row-length}
 
 -- ---- the loop
 

@@ -1,6 +1,7 @@
 -- Laws of what `specs` defines.
 pub mod SomeLaws
 pub mod NumberLaws
+pub mod VectorLaws
 pub mod ChainLaws
 pub mod WalkLaws
 pub mod FullLaws

@@ -18,7 +18,8 @@ use Rattle.model.proofs.Listing.LineLaws.{Fitting, Shows, line-exact, clash-exa
 use Rattle.dependence.specs.Numbers.{number, kindNumber, placeOf, place}
 use Rattle.dependence.specs.Search.{some, code, Adds}
 use Rattle.dependence.specs.Flat.{Flat, numberAt, statementOf, writesAt, pointAt, pointsOf, useAt, Describes, Ready, Searched, kindOf, setFrom}
-use Rattle.dependence.proofs.NumberLaws.{number-lt, number-unique, signs-length, code-lt}
+use Rattle.dependence.proofs.NumberLaws.{number-lt, number-unique, signs-length}
+use Rattle.dependence.proofs.VectorLaws.{code-lt}
 use Rattle.dependence.proofs.ChainLaws.{upTo-le}
 use Rattle.dependence.proofs.UseLaws.{side, as-many, access-of, of-access}
 use Rattle.dependence.proofs.MeetLaws.{Meets, set-meets, meets-set}

@@ -1,16 +1,14 @@
 -- Numbers of vectors. In order: digits; numbers of one length rise; numbers below 729; a vector is given by its number; the numbers of
--- vectors of d loops; points in order have a number below 364; then the loop that reads signs as digits.
-use mathlib.Core.Path.{_≡_, refl, sym, ap, ap₂, _∙_, subst}
+-- vectors of d loops; points in order have a number below 364.
+use mathlib.Core.Path.{_≡_, refl, ap, ap₂, _∙_, subst}
 use mathlib.Core.Bool.{true, false}
 use mathlib.Core.List.{List, [], _∷_, _++_}
 use Prim.Native.Nat.{ℕ, zero, suc, _+_, _*_, _-_, _/_, _≤_, _<_}
 use native.Mathlib.Nat.{le-antisymm, mul-assoc, mul-comm, add-mul, one-mul, zero-add, suc-add}
-use native.Mathlib.Numerals.{add-one}
 use native.Mathlib.Omega.{arith}
 use lib.Dec.{T}
-use lib.IntN.{ℤ, pos}
-use lib.ListN.{length, replicate, take, drop, getD, length-take, length-drop, length-append, length-replicate}
-use lib.Seq.{drop-cons, drop-length}
+use lib.IntN.{ℤ}
+use lib.ListN.{length, replicate, length-append, length-replicate}
 use mir.Syntax.{w64}
 use mir.Val.{SFits, ofZ, toZ}
 use Rattle.integers.specs.Sign.{Sign, less, equal, greater, sign}
@@ -19,7 +17,7 @@ use Rattle.integers.proofs.SignLaws.{sign-self}
 use Rattle.model.specs.Directions.{signs, earlier, bySign}
 use Rattle.model.specs.Inside.{Earlier}
 use Rattle.dependence.specs.Numbers.{digit, numberAfter, number}
-use Rattle.dependence.specs.Search.{row, code, stride, middle, Aligned}
+use Rattle.dependence.specs.Search.{stride, middle, Aligned}
 
 -- ---- digits
 
@@ -47,7 +45,7 @@ digit-unique greater greater e = refl
 
 -- ---- numbers of one length
 
-after-ge : (n : ℕ) (v : List Sign) → n ≤ numberAfter n v
+pub after-ge : (n : ℕ) (v : List Sign) → n ≤ numberAfter n v
 unfolding numberAfter
 after-ge n [] = omega arith
 after-ge n (s ∷ v) = let h = after-ge (n * 3 + digit s) v in omega arith
@@ -86,7 +84,7 @@ after-unique (s ∷ v) (t ∷ w) m n l e =
     let q = r .0 in let a = digit-lt s in let b = digit-lt t in
     (omega arith, ap₂ _∷_ (digit-unique s t (omega arith)) (r .1))
 
-after-append : (v w : List Sign) (n : ℕ) → numberAfter n (v ++ w) ≡ numberAfter (numberAfter n v) w
+pub after-append : (v w : List Sign) (n : ℕ) → numberAfter n (v ++ w) ≡ numberAfter (numberAfter n v) w
 unfolding numberAfter
 after-append [] w n = refl
 after-append (s ∷ v) w n = after-append v w (n * 3 + digit s)
@@ -214,57 +212,3 @@ unfolding number
 number-earlier p q f l h = let a = signs-length p q l in let b = earlier-lt p q (replicate (6 - length p) equal) 0 l h in
     rw a (subst (λ k. numberAfter 0 (signs p q ++ replicate (6 - length p) equal) < k)
     (ap (numberAfter 0) (replicate-append (length p) (6 - length p)) ∙ equal-six (length p + (6 - length p)) (omega arith)) b)
-
--- ---- rows
-
-pub row-length : (d : ℕ) (s : List ℤ) (x : ℕ) → x * d + d ≤ length s → length (row d s x) ≡ d
-unfolding row
-row-length d s x h = simp (length-take, length-drop) (omega arith)
-
-pub row-short : (d : ℕ) (s : List ℤ) (x : ℕ) → length (row d s x) ≤ d
-unfolding row
-row-short d s x = let h = length-take d (drop (x * d) s) in omega arith
-
-pub code-lt : (s : List ℤ) (d x y : ℕ) → d ≤ 6 → code d s x y < 729
-unfolding code
-code-lt s d x y h = number-lt (signs (row d s x) (row d s y)) (let i = signs-short (row d s x) (row d s y) in let j = row-short d s x in omega arith)
-
--- as a call on the two parts has it
-pub code-is : (s : List ℤ) (d x y : ℕ) {n : ℕ} → d ≤ 6 → n ≡ number (signs (take (x * d + d - x * d) (drop (x * d) s)) (take (y * d + d - y * d) (drop (y * d) s))) → (n ≡ code d s x y) × (n < 729)
-unfolding code row
-code-is s d x y {n} h e = let a : x * d + d - x * d ≡ d = omega arith in let b : y * d + d - y * d ≡ d = omega arith in
-    let f : n ≡ number (signs (take d (drop (x * d) s)) (take d (drop (y * d) s))) = rw (a, b) at e in
-    let g = code-lt s d x y h in (f, omega arith)
-
--- ---- the loop that reads signs as digits: the number is what the signs that are left make of v
-
-pub Left : List ℤ → List ℤ → ℕ → ℕ → Type 0
-Left p q k v = numberAfter v (signs (drop k p) (drop k q)) ≡ numberAfter 0 (signs p q)
-
-module _ (p q : List ℤ) (few : length p ≤ 6) (e : length p ≡ length q) where
-  pub digits-small : numberAfter 0 (signs p q) < 729
-  unfolding number
-  digits-small = let a = after-ge (numberAfter 0 (signs p q)) (replicate (6 - length (signs p q)) equal) in
-      let b = after-append (signs p q) (replicate (6 - length (signs p q)) equal) 0 in
-      let c = number-lt (signs p q) (let l = signs-length p q e in omega arith) in omega arith
-
-  pub left-first : Left p q 0 0
-  unfolding Left
-  left-first = refl
-
-  pub left-next : (k v : ℕ) → k < length p → Left p q k v → Left p q (k + 1) (v * 3 + digit (sign (getD p k (pos 0)) (getD q k (pos 0))))
-  unfolding Left numberAfter signs
-  left-next k v h i = let g : k < length q = omega arith in rw (add-one k) (rw (drop-cons p k (pos 0) h, drop-cons q k (pos 0) g) at i)
-
-  pub left-small : (k v : ℕ) → Left p q k v → v < 729
-  unfolding Left
-  left-small k v i = let a = after-ge v (signs (drop k p) (drop k q)) in let b = digits-small in omega arith
-
-  pub left-done : (k v : ℕ) → length p ≤ k → k ≤ length p → Left p q k v → v ≡ numberAfter 0 (signs p q)
-  unfolding Left signs numberAfter
-  left-done k v h g i = let a : k ≡ length p = omega arith in rw (a, drop-length p) at i
-
-  -- then the missing loops
-  pub number-padded : (w s : ℕ) → w ≡ numberAfter 0 (signs p q) → s ≡ stride (6 - length p) → (w * s + (s - 1) / 2 ≡ number (signs p q)) × (w * s + (s - 1) / 2 < 729)
-  number-padded w s a b = let c = stride-half (6 - length p) s b in let f : w * s + (s - 1) / 2 ≡ number (signs p q) = rw (c, a, b) (sym (number-splits (signs p q) (length p) (signs-length p q e))) in
-      let g = number-lt (signs p q) (let l = signs-length p q e in omega arith) in (f, omega arith)

@@ -7,7 +7,8 @@ use lib.ListN.{length, getD}
 use borrow.Author.Needs.{needs}
 use Rattle.integers.specs.Sign.{sign}
 use Rattle.dependence.specs.Numbers.{digit}
-use Rattle.dependence.proofs.NumberLaws.{digit-lt, sign-back, Left, left-first, left-next, left-small, left-done}
+use Rattle.dependence.proofs.NumberLaws.{digit-lt, sign-back}
+use Rattle.dependence.proofs.VectorLaws.{Left, left-first, left-next, left-small, left-done}
 use Rattle.dependence.proofs.digits.Statement.{statement}
 use Rattle.dependence.proofs.digits.Tie as tie
 

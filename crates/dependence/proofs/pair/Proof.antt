@@ -1,5 +1,5 @@
 -- `pair` meets its contract.
-use Rattle.dependence.proofs.NumberLaws.{code-is}
+use Rattle.dependence.proofs.VectorLaws.{code-is}
 use borrow.Author.Needs.{needs}
 use Rattle.dependence.proofs.pair.Statement.{statement}
 use Rattle.dependence.proofs.pair.Tie as tie

@@ -5,7 +5,8 @@ use native.Mathlib.Omega.{arith}
 use lib.ListN.{length}
 use Rattle.model.specs.Directions.{signs}
 use Rattle.dependence.specs.Numbers.{number}
-use Rattle.dependence.proofs.NumberLaws.{number-padded, stride-positive}
+use Rattle.dependence.proofs.NumberLaws.{stride-positive}
+use Rattle.dependence.proofs.VectorLaws.{number-padded}
 use borrow.Author.Needs.{needs}
 use Rattle.dependence.proofs.vector.Statement.{statement}
 use Rattle.dependence.proofs.vector.Tie as tie
