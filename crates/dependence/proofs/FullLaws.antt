@@ -1,0 +1,120 @@
+-- All that two accesses can set: the loop that looks for it, and the search that is left because it is there.
+use mathlib.Core.Path.{_≡_, refl, sym, ap, _∙_, subst}
+use mathlib.Core.Bool.{Bool, true, false, _||_}
+use mathlib.Core.Logic.{_⊎_, inl, inr, ⊎-elim}
+use mathlib.Core.List.{List, [], _∷_}
+use Prim.Native.Nat.{ℕ, zero, suc, _+_, _*_, _-_, _/_, _≤_, _<_}
+use native.Mathlib.Nat.{eq-or-lt-of-le, suc-mul, zero-mul, lt-of-mul-lt-mul-right}
+use native.Mathlib.Omega.{arith}
+use lib.Dec.{T, ltb, eqb, eqb→eq}
+use lib.IntN.{ℤ}
+use lib.ListN.{length, getD, take, drop}
+use borrow.Author.Tests.{ltb-true, ltb-false}
+use Rattle.lists.specs.Order.{Ordered}
+use Rattle.lists.specs.Parts.{rows}
+use Rattle.lists.proofs.MembershipLaws.{getD-mem}
+use Rattle.lists.proofs.PartLaws.{row-fits, length-rows, rows-getD}
+use Rattle.lists.proofs.TestLaws.{T-same, true-T, and-both, or-cases, or-left, or-right}
+use Rattle.model.specs.Directions.{signs}
+use Rattle.model.specs.Inside.{Earlier}
+use Rattle.dependence.specs.Numbers.{number}
+use Rattle.dependence.specs.Search.{some, upTo, row, code, hit, found, Adds, stride, middle, Aligned, Full, Searchable}
+use Rattle.dependence.proofs.SomeLaws.{some-there, there-some}
+use Rattle.dependence.proofs.ChainLaws.{upTo-le}
+use Rattle.dependence.proofs.NumberLaws.{stride-half, number-aligned, signs-length, number-self, number-earlier}
+use Rattle.dependence.proofs.VectorLaws.{row-length}
+
+-- ---- the loop
+
+-- all below v that can be
+abbrev pub FullBelow : ℕ → ℕ → List Bool → ℕ → Type 0
+FullBelow k base m v = Aligned k v × ((u : ℕ) → Aligned k u → u < v → getD m (base + u) false ≡ true)
+
+aligned-next : (k s v : ℕ) → s ≡ stride k → Aligned k v → Aligned k (v + s)
+aligned-next k s v e (w, h) = (suc w, let a = suc-mul w (stride k) in omega arith)
+
+-- between one and the next there is none
+aligned-gap : (k s u v : ℕ) → s ≡ stride k → Aligned k u → Aligned k v → u < v + s → v < u → ⊥
+aligned-gap k s u v e (w, h) (x, g) l m = let a : x < w = lt-of-mul-lt-mul-right (stride k) (omega arith) in let b = row-fits (stride k) x w a in omega arith
+
+pub full-first : (k s base : ℕ) (m : List Bool) → s ≡ stride k → FullBelow k base m ((s - 1) / 2)
+full-first k s base m e = let a = stride-half k s e in ((0, let b = zero-mul (stride k) in omega arith), λ u f l. absurd (none u (f .0) (f .1) (omega arith)))
+  where
+    none : (u w : ℕ) → u ≡ w * stride k + middle k → u < middle k → ⊥
+    none u w f l = omega arith
+
+pub le-cases : (u v : ℕ) → (u ≤ v) ⊎ (v < u)
+le-cases u v = go (ltb v u) refl
+  where
+    go : (b : Bool) → ltb v u ≡ b → (u ≤ v) ⊎ (v < u)
+    go true e = inr (ltb-true v u e)
+    go false e = inl (ltb-false v u e)
+
+pub full-next : (k s base : ℕ) (m : List Bool) (v : ℕ) → s ≡ stride k → getD m (base + v) false ≡ true → FullBelow k base m v → FullBelow k base m (v + s)
+full-next k s base m v e h (a, f) = (
+  aligned-next k s v e a,
+  λ u b l. ⊎-elim
+      (λ c. ⊎-elim (λ i. subst (λ z. getD m (base + z) false ≡ true) (sym i) h) (λ i. f u b i) (eq-or-lt-of-le c))
+      (λ c. absurd (aligned-gap k s u v e b a l c)) (le-cases u v),
+)
+
+pub full-done : (d base : ℕ) (own : Bool) (m : List Bool) (v : ℕ) → upTo own 364 ≤ v → FullBelow (6 - d) base m v → Full d own base m
+full-done d base own m v h (a, f) u b l = f u b (omega arith)
+
+-- ---- points in order
+
+-- a list in order, by numbers
+pub ordered-getD : {A : Type 0} (R : A → A → Type 0) (l : List A) (i j : ℕ) (d : A) → Ordered R l → i < j → j < length l → R (getD l i d) (getD l j d)
+ordered-getD R [] i j d o h g = absurd (omega arith)
+ordered-getD R (x ∷ l) i zero d o h g = absurd (omega arith)
+ordered-getD R (x ∷ l) zero (suc j) d o h g = o .0 (getD l j d) (getD-mem l j d (omega arith))
+ordered-getD R (x ∷ l) (suc i) (suc j) d o h g = ordered-getD R l i j d (o .1) (omega arith) (omega arith)
+
+module _ (d n : ℕ) (s : List ℤ) (shallow : d ≤ 6) (stored : n * d ≤ length s) (rising : Ordered Earlier (rows d n s)) where
+  pub row-is : (x : ℕ) → x < n → length (row d s x) ≡ d
+  row-is x h = row-length d s x (let a = row-fits d x n h in omega arith)
+
+  pub rows-rise : (x y : ℕ) → x < y → y < n → Earlier (row d s x) (row d s y)
+  unfolding row
+  rows-rise x y h g = let l = length-rows d n s in
+      subst (λ p. Earlier p (take d (drop (y * d) s))) (rows-getD d n s x [] (omega arith)) (subst (λ q. Earlier (getD (rows d n s) x []) q) (rows-getD d n s y [] g) (ordered-getD Earlier (rows d n s) x y [] rising h (omega arith)))
+
+  -- the numbers that can be found
+  pub code-aligned : (x y : ℕ) → x < n → y < n → Aligned (6 - d) (code d s x y)
+  unfolding code
+  code-aligned x y h g = let a = row-is x h in let b = row-is y g in number-aligned (signs (row d s x) (row d s y)) d (signs-length (row d s x) (row d s y) (omega arith) ∙ a)
+
+  pub code-forward : (own : Bool) (x y : ℕ) → x < upTo own y → y < n → code d s x y < upTo own 364
+  unfolding code upTo
+  code-forward true x y h g = let a = row-is y g in ⊎-elim
+      (λ e. let b = number-self (row d s y) (omega arith) in let c : number (signs (row d s x) (row d s y)) ≡ number (signs (row d s y) (row d s y)) = ap (λ z. number (signs (row d s z) (row d s y))) e in omega arith)
+      (λ l. let b = row-is x (omega arith) in let c = number-earlier (row d s x) (row d s y) (omega arith) (omega arith) (rows-rise x y l g) in omega arith)
+      (eq-or-lt-of-le (let z : x ≤ y = omega arith in z))
+  code-forward false x y h g = let a = row-is y g in let b = row-is x (omega arith) in number-earlier (row d s x) (row d s y) (omega arith) (omega arith) (rows-rise x y h g)
+
+-- ---- the search that is left
+
+pub left-early : (s : List ℤ) (d : ℕ) (from to : List ℕ) (own : Bool) (base : ℕ) (m₀ m : List Bool) (y : ℕ) → Searchable s d from to base m₀ → y ≤ length from
+    → Full d own base m → Adds m₀ m (found d s y from to own base) → Adds m₀ m (found d s (length from) from to own base)
+unfolding found hit
+left-early s d from to own base m₀ m y ok h full a j = T-same (getD m j false) (getD m₀ j false || found d s n from to own base j)
+    (λ g. ⊎-elim (λ k. or-left (getD m₀ j false) (found d s n from to own base j) k)
+    (λ k. or-right (getD m₀ j false) (found d s n from to own base j) (let r = some-there y (sink j) k in there-some n (r .0) (sink j) (let l = r .1 in omega arith) (r .2)))
+    (or-cases (getD m₀ j false) (found d s y from to own base j) (subst T (a j) g)))
+    (λ g. ⊎-elim (λ k. subst T (sym (a j)) (or-left (getD m₀ j false) (found d s y from to own base j) k)) marked (or-cases (getD m₀ j false) (found d s n from to own base j) g))
+  where
+    n : ℕ
+    n = length from
+
+    sink : ℕ → ℕ → Bool
+    sink j y = some (upTo own y) (hit d s from to base j y)
+
+    marked : T (found d s n from to own base j) → T (getD m j false)
+    marked g =
+        let p = some-there n (sink j) g in
+        let q = some-there (upTo own (p .0)) (hit d s from to base j (p .0)) (p .2) in
+        let y = p .0 in let x = q .0 in
+        let k = upTo-le own y n (p .1) in let l = q .1 in
+        let e : base + code d s x y ≡ j = eqb→eq (base + code d s x y) j (and-both (eqb (getD from x 0) (getD to y 0)) (eqb (base + code d s x y) j) (q .2) .1) in
+        true-T (getD m j false) (subst (λ z. getD m z false ≡ true) e
+        (full (code d s x y) (code-aligned d n s (ok .shallow) (ok .stored) (ok .rising) x y (omega arith) (p .1)) (code-forward d n s (ok .shallow) (ok .stored) (ok .rising) own x y (q .1) (p .1))))

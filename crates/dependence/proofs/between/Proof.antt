@@ -1,0 +1,121 @@
+-- `between`: one search, or none for two reads.
+use native.Mathlib.Omega.{arith}
+use Rattle.dependence.specs.Flat.{Flat, flat}
+use Rattle.dependence.proofs.FlatLaws.{call-ready, call-sets, no-call}
+use borrow.Author.Needs.{needs}
+use Rattle.dependence.proofs.between.Statement.{statement}
+use Rattle.dependence.proofs.between.Tie as tie
+
+abbrev nest : tie.Start → Flat
+nest s = flat (s .args .points .now) (s .args .depth) (s .args .count) (s .args .numbers .now) (s .args .statements .now) (s .args .writes .now) (s .args .body)
+
+shared-slice-read-kind : tie.Need-shared-slice-read-kind
+shared-slice-read-kind c = search needs
+
+shared-slice-read-kind-2 : tie.Need-shared-slice-read-kind-2
+shared-slice-read-kind-2 c = search needs
+
+kind-requires : tie.Need-kind-requires
+kind-requires c κs = search needs
+
+mul-s : tie.Need-mul-s
+mul-s c = search needs
+
+shared-slice-read-s : tie.Need-shared-slice-read-s
+shared-slice-read-s c = search needs
+
+mul-t : tie.Need-mul-t
+mul-t c = search needs
+
+shared-slice-read-t : tie.Need-shared-slice-read-t
+shared-slice-read-t c = search needs
+
+mul-search : tie.Need-mul-search
+mul-search c = search needs
+
+mul-search-2 : tie.Need-mul-search-2
+mul-search-2 c = search needs
+
+add-search : tie.Need-add-search
+add-search c = search needs
+
+mul-search-3 : tie.Need-mul-search-3
+mul-search-3 c = search needs
+
+sub-search : tie.Need-sub-search
+sub-search c = search needs
+
+part-search-start : tie.Need-part-search-start
+part-search-start c = search needs
+
+part-search-end : tie.Need-part-search-end
+part-search-end c = search needs
+
+mul-search-4 : tie.Need-mul-search-4
+mul-search-4 c = search needs
+
+mul-search-5 : tie.Need-mul-search-5
+mul-search-5 c = search needs
+
+add-search-2 : tie.Need-add-search-2
+add-search-2 c = search needs
+
+mul-search-6 : tie.Need-mul-search-6
+mul-search-6 c = search needs
+
+sub-search-2 : tie.Need-sub-search-2
+sub-search-2 c = search needs
+
+part-search-start-2 : tie.Need-part-search-start-2
+part-search-start-2 c = search needs
+
+part-search-end-2 : tie.Need-part-search-end-2
+part-search-end-2 c = search needs
+
+block-requires : tie.Need-block-requires
+block-requires c κs = let s = c .before .before .before .before .before .before .before .before .before .before .before .before in let r = s .pre .0 .room in let g = s .good .1 .1 .1 .1 .1 .1 .1 .1 .1 .0 .0 in
+    (omega arith, s .pre .0 .inBody (s .args .a) (s .pre .1), s .pre .0 .inBody (s .args .b) (s .pre .2), c .before .before .before .before .if1 .taken)
+
+search-requires : tie.Need-search-requires
+search-requires c κs = let s = c .before .before .before .before .before .before .before .before .before .before .before .before .before .before in call-ready (nest s) (s .args .marks .now) (s .pre .0) (s .args .a) (s .args .b) (c .before .block .result) (s .pre .1) (s .pre .2) (c .before .block .ensures .1)
+
+same-length : tie.Need-same-length
+same-length c = search needs
+
+returns : tie.Need-returns
+returns c = let s = c .before .before .before .before .before .before .before .before .before .before .before .before .before .before .before .before .before in call-sets (nest s) (s .args .marks .now) (s .pre .0) (c .before .before .search .last .1 .1 .1 .1 .1 .1 .0) (s .args .a) (s .args .b) (c .before .before .before .before .before .before .before .before .before .before .kind .result) (c .before .before .before .before .block .result) (s .pre .1) (c .before .before .before .before .before .before .before .before .before .before .kind .ensures) (c .before .before .before .before .before .before .before .before .before .if1 .taken)
+    (c .before .before .before .before .block .ensures .0) (c .before .before .search .ensures)
+
+returns-2 : tie.Need-returns-2
+returns-2 c = let s = c .before .before .before .before .before .before .before .before in no-call (nest s) (s .args .marks .now) (s .pre .0) (s .args .a) (s .args .b) (c .before .kind .result) (c .before .kind .ensures) (c .if1 .left)
+
+pub between-spec : {M : Type 1} → statement M
+between-spec =
+    tie.close
+    (tie.spec
+    shared-slice-read-kind
+    shared-slice-read-kind-2
+    kind-requires
+    mul-s
+    shared-slice-read-s
+    mul-t
+    shared-slice-read-t
+    mul-search
+    mul-search-2
+    add-search
+    mul-search-3
+    sub-search
+    part-search-start
+    part-search-end
+    mul-search-4
+    mul-search-5
+    add-search-2
+    mul-search-6
+    sub-search-2
+    part-search-start-2
+    part-search-end-2
+    block-requires
+    search-requires
+    same-length
+    returns
+    returns-2)

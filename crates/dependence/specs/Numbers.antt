@@ -1,0 +1,32 @@
+-- The number of a vector of at most six signs, and the place of a line's mark.
+use mathlib.Core.List.{List, [], _∷_, _++_}
+use Prim.Native.Nat.{ℕ, _+_, _*_, _-_}
+use lib.ListN.{length, replicate}
+use Rattle.integers.specs.Sign.{Sign, less, equal, greater}
+use Rattle.model.specs.Directions.{Kind, flow, anti, output, Line}
+
+unfoldable pub digit : Sign → ℕ
+digit less = 0
+digit equal = 1
+digit greater = 2
+
+-- the signs as base-three digits after n, the outermost most significant
+unfoldable pub numberAfter : ℕ → List Sign → ℕ
+numberAfter n [] = n
+numberAfter n (s ∷ v) = numberAfter (n * 3 + digit s) v
+
+-- missing inner loops as =
+unfoldable pub number : List Sign → ℕ
+number v = numberAfter 0 (v ++ replicate (6 - length v) equal)
+
+abbrev pub kindNumber : Kind → ℕ
+kindNumber flow = 0
+kindNumber anti = 1
+kindNumber output = 2
+
+-- by source, sink, kind and vector: n statements
+abbrev pub placeOf : ℕ → ℕ → ℕ → ℕ → ℕ → ℕ
+placeOf n s t k v = ((s * n + t) * 3 + k) * 729 + v
+
+unfoldable pub place : ℕ → Line → ℕ
+place n l = placeOf n (l .source) (l .sink) (kindNumber (l .kind)) (number (l .vector))
