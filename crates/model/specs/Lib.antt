@@ -20,3 +20,4 @@ pub mod Readings
 -- propositions that the theorems speak of
 pub mod Inside
 pub mod Shape
+pub mod Ranges
