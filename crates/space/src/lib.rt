@@ -38,11 +38,12 @@ fn high_at(nest: &[i64], j: usize, outer: &[i64]) -> i64
 }
 
 // A number under way: in a struct, so that a loop's invariant sees the integer and not its bits.
-struct Whole {
-    value: i64,
+pub struct Whole {
+    pub value: i64,
 }
 
-fn larger(x: i64, rest: Whole) -> Whole
+// The larger of a number and what is under way, then the smaller.
+pub fn larger(x: i64, rest: Whole) -> Whole
     requires { ⌜ Narrow x × Narrow (rest .value) ⌝ }
     ensures { λ r. ⌜ (r .value ≡ maxZ x (rest .value)) × Narrow (r .value) ⌝ }
 {
@@ -53,7 +54,7 @@ fn larger(x: i64, rest: Whole) -> Whole
     }
 }
 
-fn smaller(x: i64, rest: Whole) -> Whole
+pub fn smaller(x: i64, rest: Whole) -> Whole
     requires { ⌜ Narrow x × Narrow (rest .value) ⌝ }
     ensures { λ r. ⌜ (r .value ≡ minZ x (rest .value)) × Narrow (r .value) ⌝ }
 {

@@ -1,0 +1,17 @@
+-- `excludes_zero`: below the one, or above the other.
+use Rattle.quick.proofs.DifferenceLaws.{zero-below, zero-above}
+use Rattle.quick.proofs.excludes_zero.Statement.{statement}
+use Rattle.quick.proofs.excludes_zero.Tie as tie
+use Rattle.quick.proofs.excludes_zero.Reads as reads
+use Rattle.quick.proofs.excludes_zero.Lts as lts
+
+-- src/lib.rt:321:9
+returns : tie.Need-returns
+returns c = let s = c .before .before .before in zero-below (s .args .least .value) (s .args .greatest .value) (s .pre) (c .if1 .taken)
+
+-- src/lib.rt:316:1
+returns-2 : tie.Need-returns-2
+returns-2 c = let s = c .before .before .before .before .before in zero-above (s .args .least .value) (s .args .greatest .value) (s .pre) (c .before .before .if1 .left)
+
+pub excludes-zero-spec : {M : Type 1} → statement M
+excludes-zero-spec = tie.close (tie.spec returns returns-2)
