@@ -53,8 +53,8 @@ pub record CombineIn (a : ℕ) (f : Filling) (l : Limit) (s : Side) : Type 0 whe
   pub small : All SmallLimit (sideOf a s)
 
 pub record PartIn (a : ℕ) (f : Filling) (l : Limit) (same other : Side) : Type 0 where
-  pub same : CombineIn a f l same
-  pub other : CombineIn a f l other
+  pub with-same : CombineIn a f l same
+  pub with-other : CombineIn a f l other
 
 -- a side of J, and what is under way
 pub record SolveIn (a : ℕ) (f : Filling) (js : Side) : Type 0 where

@@ -1,10 +1,10 @@
 // The limits of the two loops that an exchange makes of loop I at place a and loop J inside it. Repeats are dropped as limits are added to a side.
 ghost use mathlib.Core.Path.{_≡_};
 ghost use mathlib.Core.Bool.{_||_};
-ghost use mathlib.Core.List.{List, [], _∷_, map, flatMap};
+ghost use mathlib.Core.List.{[], _∷_, map, flatMap};
 ghost use Prim.Native.Nat.{ℕ, _+_, _<_, _≤_};
 ghost use lib.IntN.{pos};
-ghost use lib.ListN.{take, getD};
+ghost use lib.ListN.{take};
 ghost use Rattle.integers.specs.Difference.{size};
 ghost use Rattle.integers.specs.Sign.{eqZ};
 ghost use Rattle.lists.specs.Tests.{any, sameBy};
@@ -13,8 +13,9 @@ ghost use Rattle.nest.specs.Nested.{limitOf, sideOf, loopOf, SideIn};
 ghost use Rattle.limits.specs.Small.{SmallLimit};
 ghost use Rattle.limits.specs.Makes.{LimitIs};
 ghost use Rattle.exchange.specs.Filling.{Holds, Adds, solved, takenOf, PushIn, CombineIn, PartIn, SolveIn, OuterIn, PairIn, Tidied};
-
-use nest::{Limit, Loop, Side};
+use nest::Limit;
+use nest::Loop;
+use nest::Side;
 
 // ---- limits
 

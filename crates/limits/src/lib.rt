@@ -13,8 +13,9 @@ ghost use Rattle.nest.specs.Nested.{limitOf, sideOf, loopOf};
 ghost use Rattle.limits.specs.Small.{SmallLimit};
 ghost use Rattle.limits.specs.Makes.{mixed, RowIs, LimitIs, SideIs, LoopIs};
 ghost use Rattle.limits.specs.Change.{changeOf, outerAfter, Allowed, SideChange, LoopChange, LoopsChange, LoopsAre};
-
-use nest::{Limit, Loop, Side};
+use nest::Limit;
+use nest::Loop;
+use nest::Side;
 
 // ---- numbers
 
@@ -305,7 +306,14 @@ pub fn changed_loop(body: Loop, n: usize, change: Change) -> Loop
 }
 
 // The loops from place `start` on, changed, `by` places further in.
-pub fn changed_from(from: [Loop; 6], into: [Loop; 6], start: usize, many: usize, by: usize, change: Change) -> [Loop; 6]
+pub fn changed_from(
+    from: [Loop; 6],
+    into: [Loop; 6],
+    start: usize,
+    many: usize,
+    by: usize,
+    change: Change,
+) -> [Loop; 6]
     requires { ⌜ LoopsChange change from start many by ⌝ }
     ensures { λ r. ⌜ LoopsAre change from into start many by r ⌝ }
 {

@@ -81,31 +81,31 @@ returns : tie.Need-returns
 returns c = let s = c .before .before .before .before in unfold changeOf outerAfter in done (s .args .change) Negate (s .args .n) (s .args .l) (c .negated .result) (c .before .enum-told .given .1) (c .negated .ensures)
 
 returns-2 : tie.Need-returns-2
-returns-2 c = 
+returns-2 c =
     let s = c .before .before .before .before .before .before in
     let v = c .before .before .before .change .given .0 .0 in
     unfold changeOf outerAfter in
     done (s .args .change) (Turn v) (s .args .n) (s .args .l) (c .with-row .result) (c .before .before .before .change .given .1)
-      (row-is (s .args .n) (s .args .l) (s .args .n) (under v (onHead negℤ)) (c .with-row .result) (c .before .turned .result) (c .with-row .ensures) (c .before .turned .ensures))
+    (row-is (s .args .n) (s .args .l) (s .args .n) (under v (onHead negℤ)) (c .with-row .result) (c .before .turned .result) (c .with-row .ensures) (c .before .turned .ensures))
 
 returns-3 : tie.Need-returns-3
-returns-3 c = 
+returns-3 c =
     let s = c .before .before .before .before .before .before in
     let v = c .before .before .before .change2 .given .0 .0 in
     unfold changeOf outerAfter in
     done (s .args .change) (Swap v) (s .args .n) (s .args .l) (c .with-row2 .result) (c .before .before .before .change2 .given .1)
-      (row-is (s .args .n) (s .args .l) (s .args .n) (under v swapped) (c .with-row2 .result) (c .before .swapped .result) (c .with-row2 .ensures) (c .before .swapped .ensures))
+    (row-is (s .args .n) (s .args .l) (s .args .n) (under v swapped) (c .with-row2 .result) (c .before .swapped .result) (c .with-row2 .ensures) (c .before .swapped .ensures))
 
 returns-4 : tie.Need-returns-4
 returns-4 c = let s = c .before .before .before .before .before in unfold changeOf outerAfter in done (s .args .change) (Lean (c .before .before .change3 .given .0 .0)) (s .args .n) (s .args .l) (c .leaning .result) (c .before .before .change3 .given .1) (c .leaning .ensures)
 
 returns-5 : tie.Need-returns-5
-returns-5 c = 
+returns-5 c =
     let s = c .before .before .before .before .before .before in
     let v = c .before .before .before .change4 .given .0 .0 in
     unfold changeOf outerAfter in
     done (s .args .change) (Skew v) (s .args .n) (s .args .l) (c .with-row3 .result) (c .before .before .before .change4 .given .1)
-      (row-is (s .args .n) (s .args .l) (s .args .n) (under (v .outer) (skewCoefficients (v .between) (v .positive))) (c .with-row3 .result) (c .before .skewed .result) (c .with-row3 .ensures) (c .before .skewed .ensures))
+    (row-is (s .args .n) (s .args .l) (s .args .n) (under (v .outer) (skewCoefficients (v .between) (v .positive))) (c .with-row3 .result) (c .before .skewed .result) (c .with-row3 .ensures) (c .before .skewed .ensures))
 
 returns-6 : tie.Need-returns-6
 returns-6 c = let s = c .before .before .before .before .before in unfold changeOf outerAfter in done (s .args .change) (Low (c .before .before .change5 .given .0 .0)) (s .args .n) (s .args .l) (c .section-lower .result) (c .before .before .change5 .given .1) (c .section-lower .ensures)
@@ -117,12 +117,12 @@ returns-8 : tie.Need-returns-8
 returns-8 c = let s = c .before .before .before .before .before in unfold changeOf outerAfter in done (s .args .change) (Element (c .before .before .change7 .given .0 .0)) (s .args .n) (s .args .l) (c .element .result) (c .before .before .change7 .given .1) (c .element .ensures)
 
 returns-9 : tie.Need-returns-9
-returns-9 c = 
+returns-9 c =
     let s = c .before .before .before .before .before .before in
     let v = c .before .before .before .change8 .given .0 .0 in
     unfold changeOf outerAfter in
     done (s .args .change) (Split v) (s .args .n) (s .args .l) (c .with-row4 .result) (c .before .before .before .change8 .given .1)
-      (row-is (s .args .n) (s .args .l) (s .args .n + 1) (under (v .place) (splitCoefficients (v .width))) (c .with-row4 .result) (c .before .split .result) (c .with-row4 .ensures) (c .before .split .ensures))
+    (row-is (s .args .n) (s .args .l) (s .args .n + 1) (under (v .place) (splitCoefficients (v .width))) (c .with-row4 .result) (c .before .split .result) (c .with-row4 .ensures) (c .before .split .ensures))
 
 pub changed-spec : {M : Type 1} → statement M
 changed-spec =

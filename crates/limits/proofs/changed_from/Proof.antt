@@ -56,7 +56,8 @@ changed-loop-requires c κs =
     record {
       allowed = s .pre .allowed j (omega arith);
       small = loop-small _ (s .args .start) (s .args .many) j (s .args .t1) (omega arith) (omega arith) (s .pre .small);
-      within = loop-within _ (s .args .start) (s .args .many) j (s .args .t1) (omega arith) (omega arith) (s .pre .within) }
+      within = loop-within _ (s .args .start) (s .args .many) j (s .args .t1) (omega arith) (omega arith) (s .pre .within);
+    }
 
 add-out : tie.Need-add-out Inv-loop μ-loop
 add-out c = search needs
@@ -88,7 +89,8 @@ loop-again c =
       len = simp length-set l;
       kept = take-set-le at (b .loop .out) (at + j) (c .changed-loop .result) (omega arith) ∙ i .kept;
       made = made-more (s .args .change) _ (s .args .start) at j (b .loop .out) (s .args .t1) (c .changed-loop .result) (omega arith) (omega arith) (s .pre .outer j (omega arith)) (i .made) (c .changed-loop .ensures .is);
-      within = within-more at j (b .loop .out) (c .changed-loop .result) (omega arith) (i .within) (c .changed-loop .ensures .within) }
+      within = within-more at j (b .loop .out) (c .changed-loop .result) (omega arith) (i .within) (c .changed-loop .ensures .within);
+    }
 
 returns : tie.Need-returns Inv-loop μ-loop
 returns c =

@@ -56,10 +56,12 @@ loop-again c =
     let b = c .before .before .before in
     let s = b .before .before in
     let n : length (s .args .side .limits) ≡ 16 = search (needs, length-mapped) in
-    let w = s .pre .within .few in
-    (omega arith, simp length-set (b .loop .inv .1),
-     all-more LimitIn (b .loop .limits) (b .loop .k) (c .changed .result) (omega arith) (c .changed .ensures .within) (b .loop .inv .2),
-     map-more (limitOf (outerAfter (s .args .change) (s .args .n))) (changeOf (s .args .change)) (limitOf (s .args .n)) _ (b .loop .k) (b .loop .limits) (s .args .side .limits) (c .changed .result) (omega arith) (omega arith) (b .loop .inv .3) (c .changed .ensures .is))
+    let w = s .pre .within .few in (
+      omega arith,
+      simp length-set (b .loop .inv .1),
+      all-more LimitIn (b .loop .limits) (b .loop .k) (c .changed .result) (omega arith) (c .changed .ensures .within) (b .loop .inv .2),
+      map-more (limitOf (outerAfter (s .args .change) (s .args .n))) (changeOf (s .args .change)) (limitOf (s .args .n)) _ (b .loop .k) (b .loop .limits) (s .args .side .limits) (c .changed .result) (omega arith) (omega arith) (b .loop .inv .3) (c .changed .ensures .is),
+    )
 
 returns : tie.Need-returns Inv-loop μ-loop
 unfolding sideOf
@@ -67,11 +69,13 @@ returns c =
     let b = c .before in
     let s = b .before .before in
     let e : b .loop .k ≡ s .args .side .count = omega arith in
-    let w = s .pre .within .few in
-    (record {
-       is = subst (λ (i : ℕ). map (limitOf (outerAfter (s .args .change) (s .args .n))) (take i (b .loop .limits)) ≡ map (changeOf (s .args .change)) (map (limitOf (s .args .n)) (take i (s .args .side .limits)))) e (b .loop .inv .3);
-       within = record { few = w; room = b .loop .inv .1; each = subst (λ (i : ℕ). All LimitIn (take i (b .loop .limits))) e (b .loop .inv .2) } },
-     refl)
+    let w = s .pre .within .few in (
+      record {
+        is = subst (λ (i : ℕ). map (limitOf (outerAfter (s .args .change) (s .args .n))) (take i (b .loop .limits)) ≡ map (changeOf (s .args .change)) (map (limitOf (s .args .n)) (take i (s .args .side .limits)))) e (b .loop .inv .3);
+        within = record { few = w; room = b .loop .inv .1; each = subst (λ (i : ℕ). All LimitIn (take i (b .loop .limits))) e (b .loop .inv .2) };
+      },
+      refl,
+    )
 
 pub changed-side-spec : {M : Type 1} → statement M
 changed-side-spec =

@@ -29,12 +29,12 @@ array-set-from-cs c = search needs
 returns : tie.Need-returns
 returns c =
     let s = c .before .before .before in
-    let m = numbers (s .args .n) (s .args .l) (s .pre .2) in 
+    let m = numbers (s .args .n) (s .args .l) (s .pre .2) in
     let u = widened (s .args .l .multiplier) (s .args .w) (m .multiplier) (s .pre .1) in
     let q : length (s .args .l .coefficients) ≡ 6 = search needs in
     let e = read-widened (s .args .l .multiplier * s .args .w) u in
     element-is (s .args .n) (s .args .l) (s .args .w) _ _ q (omega arith) (small-back (s .args .l .constant) (m .constant))
-      (rw e (back (less-fits (pos 0) (s .args .l .multiplier * s .args .w) (omega arith) u) ∙ zero-less (pos (s .args .l .multiplier * s .args .w))))
+    (rw e (back (less-fits (pos 0) (s .args .l .multiplier * s .args .w) (omega arith) u) ∙ zero-less (pos (s .args .l .multiplier * s .args .w))))
 
 pub element-spec : {M : Type 1} → statement M
 element-spec = tie.close (tie.spec mul-cs cast-cs sub-cs mul-cs-2 array-set-from-cs returns)

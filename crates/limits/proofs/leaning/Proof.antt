@@ -35,7 +35,7 @@ array-copy-out-x c = search needs
 plus-requires : tie.Need-plus-requires
 plus-requires c κs =
     let s = c .before .before .before in
-    let m = numbers (s .args .n) (s .args .l) (s .pre .2) in 
+    let m = numbers (s .args .n) (s .args .l) (s .pre .2) in
     (rw (reads-x c) (at c), small-multiplier (s .args .l .multiplier) (m .multiplier))
 
 mul-cs : tie.Need-mul-cs
@@ -47,11 +47,11 @@ array-set-from-cs c = search needs
 returns : tie.Need-returns
 returns c =
     let s = c .before .before .before .before .before in
-    let m = numbers (s .args .n) (s .args .l) (s .pre .2) in 
+    let m = numbers (s .args .n) (s .args .l) (s .pre .2) in
     let q : length (s .args .l .coefficients) ≡ 6 = search needs in
     let e : toZ w64 (ofZ w64 (c .before .plus .result)) ≡ c .before .plus .result = search needs in
     leaning-is (s .args .n) (s .args .l) (s .args .a) (s .args .positive) _ _ q (omega arith) (small-back (s .args .l .constant) (m .constant))
-      (e ∙ c .before .plus .ensures ∙ simp (reads-x (c .before .before), read-multiplier (s .args .l .multiplier) (m .multiplier)))
+    (e ∙ c .before .plus .ensures ∙ simp (reads-x (c .before .before), read-multiplier (s .args .l .multiplier) (m .multiplier)))
 
 pub leaning-spec : {M : Type 1} → statement M
 leaning-spec =

@@ -85,10 +85,12 @@ loop-again : tie.Need-loop-again Inv-loop μ-loop
 loop-again c =
     let d = c .before .before .before in
     let s = d .before .before in
-    let e : toZ w64 (ofZ w64 (c .blend .result)) ≡ c .blend .result = search needs in
-    (omega arith, simp length-set (d .before .loop .inv .1),
-     mix-more (toZ w64 (ofZ w64 (s .args .u))) (toZ w64 (ofZ w64 (s .args .v))) (k d) (d .before .loop .r) (s .args .t3) (s .args .t5) _
-       (omega arith) (omega (arith, len-x s)) (omega (arith, len-y s)) (d .before .loop .inv .2) (e ∙ c .blend .ensures ∙ simp (read-x d, read-y d)))
+    let e : toZ w64 (ofZ w64 (c .blend .result)) ≡ c .blend .result = search needs in (
+      omega arith,
+      simp length-set (d .before .loop .inv .1),
+      mix-more (toZ w64 (ofZ w64 (s .args .u))) (toZ w64 (ofZ w64 (s .args .v))) (k d) (d .before .loop .r) (s .args .t3) (s .args .t5) _
+          (omega arith) (omega (arith, len-x s)) (omega (arith, len-y s)) (d .before .loop .inv .2) (e ∙ c .blend .ensures ∙ simp (read-x d, read-y d)),
+    )
 
 returns : tie.Need-returns Inv-loop μ-loop
 returns c =

@@ -25,18 +25,18 @@ cast-t8 c = let s = c .before .before .before in let m = numbers (s .args .n) (s
 sub-t9 : tie.Need-sub-t9
 sub-t9 c =
     let s = c .before .before .before .before .before in
-    let m = numbers (s .args .n) (s .args .l) (s .pre .2) in 
+    let m = numbers (s .args .n) (s .args .l) (s .pre .2) in
     let u = widened (s .args .l .multiplier) (s .args .w - 1) (m .multiplier) (omega arith) in
     rw (read-widened (s .args .l .multiplier * (s .args .w - 1)) u, small-back (s .args .l .constant) (m .constant)) (less-fits (s .args .l .constant) (s .args .l .multiplier * (s .args .w - 1)) (m .constant) u)
 
 returns : tie.Need-returns
 returns c =
     let s = c .before .before .before .before .before in
-    let m = numbers (s .args .n) (s .args .l) (s .pre .2) in 
+    let m = numbers (s .args .n) (s .args .l) (s .pre .2) in
     let u = widened (s .args .l .multiplier) (s .args .w - 1) (m .multiplier) (omega arith) in
     let q : length (s .args .l .coefficients) ≡ 6 = search needs in
     lower-is (s .args .n) (s .args .l) (s .args .w) _ q
-      (rw (read-widened (s .args .l .multiplier * (s .args .w - 1)) u, small-back (s .args .l .constant) (m .constant)) (back (less-fits (s .args .l .constant) (s .args .l .multiplier * (s .args .w - 1)) (m .constant) u)))
+    (rw (read-widened (s .args .l .multiplier * (s .args .w - 1)) u, small-back (s .args .l .constant) (m .constant)) (back (less-fits (s .args .l .constant) (s .args .l .multiplier * (s .args .w - 1)) (m .constant) u)))
 
 pub section-lower-spec : {M : Type 1} → statement M
 section-lower-spec = tie.close (tie.spec mul-t5 sub-t6 mul-t7 cast-t8 sub-t9 returns)

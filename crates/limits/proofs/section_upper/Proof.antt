@@ -14,7 +14,7 @@ mul-t5 c = let s = c .before .before in let m = numbers (s .args .n) (s .args .l
 returns : tie.Need-returns
 returns c =
     let s = c .before .before .before in
-    let m = numbers (s .args .n) (s .args .l) (s .pre .1) in 
+    let m = numbers (s .args .n) (s .args .l) (s .pre .1) in
     let q : length (s .args .l .coefficients) ≡ 6 = search needs in
     upper-is (s .args .n) (s .args .l) (s .args .w) _ q (small-back (s .args .l .constant) (m .constant))
 

@@ -66,7 +66,8 @@ returns c =
     let e : toZ w64 (ofZ w64 (c .plus .result)) ≡ c .plus .result = search needs in
     record {
       is = front-skewed (s .args .n) (s .args .a) (s .args .d) (s .args .positive) (s .args .t1) _ (omega arith) (omega arith) (e ∙ c .plus .ensures ∙ simp (reads-x (c .before), reads-y (c .before)));
-      room = simp length-set n }
+      room = simp length-set n;
+    }
 
 pub skewed-spec : {M : Type 1} → statement M
 skewed-spec =

@@ -60,7 +60,7 @@ loop-less : tie.Need-loop-less Inv-loop μ-loop
 loop-less c = search needs
 
 loop-again : tie.Need-loop-again Inv-loop μ-loop
-loop-again c = 
+loop-again c =
     let b = c .before .before in
     let s = b .before in
     let n : length (s .args .t1) ≡ 6 = search needs in
@@ -89,7 +89,8 @@ returns c =
     let e : toZ w64 (ofZ w64 (c .times .result)) ≡ c .times .result = search needs in
     record {
       is = shift-all (s .args .w) (s .args .a) (b .loop .j) (s .args .n) (b .loop .r) (s .args .t1) _ (omega arith) (omega arith) (omega arith) (omega arith) (b .loop .inv .2) (e ∙ c .times .ensures ∙ rw (reads-y (c .before)));
-      room = simp length-set (b .loop .inv .1) }
+      room = simp length-set (b .loop .inv .1);
+    }
 
 pub split-spec : {M : Type 1} → statement M
 split-spec =
