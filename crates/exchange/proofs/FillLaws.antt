@@ -106,7 +106,7 @@ module _ (x : Model.Limit) (old : List Model.Limit) where
               let n = length-append u (x ∷ []) in
               (sym (ap not (ap (λ w. leb (length w) 16) (grows q) ∙ many (length (u ++ (x ∷ []))) (omega arith))), sym (ap (take 16) (grows q) ∙ take-append-le 16 u (x ∷ []) k))
 
-side-length : (n : ℕ) (s : Side) → SideIn s → length (sideOf n s) ≡ s .count
+pub side-length : (n : ℕ) (s : Side) → SideIn s → length (sideOf n s) ≡ s .count
 unfolding sideOf
 side-length n s i = let f = i .few in let r = i .room in length-map (take (s .count) (s .limits)) (limitOf n) ∙ length-take-le (s .count) (s .limits) (omega arith)
 
@@ -179,11 +179,11 @@ adds-more g n m k l d {f} {h} {r} p a b =
 
 -- ---- the two sides of a loop
 
-both-few : (a b : Bool) → not a || not b ≡ not (a && b)
+pub both-few : (a b : Bool) → not a || not b ≡ not (a && b)
 both-few true b = refl
 both-few false b = refl
 
-neither : (a b : Bool) → a || b ≡ false → (a ≡ false) × (b ≡ false)
+pub neither : (a b : Bool) → a || b ≡ false → (a ≡ false) × (b ≡ false)
 neither true b e = let z : _≡_ {A = Bool} true false = e in (cc, cc)
 neither false b e = (refl, e)
 

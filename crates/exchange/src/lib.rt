@@ -123,7 +123,7 @@ fn same_limit(l: Limit, m: Limit, n: usize) -> bool
 }
 
 fn has(side: Side, x: Limit, n: usize) -> bool
-    requires { ⌜ (n ≤ 6) × (side .count ≤ 16) ⌝ }
+    requires { ⌜ (n ≤ 6) × SideIn side ⌝ }
     ensures { λ r. ⌜ r ≡ any (sameLimit (limitOf n x)) (sideOf n side) ⌝ }
 {
     let count = side.count;

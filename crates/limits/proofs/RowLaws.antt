@@ -5,7 +5,7 @@ use mathlib.Core.List.{List, [], _∷_, _++_, map, zipWith, append-assoc, append
 use Prim.Native.Nat.{ℕ, zero, suc, _<_, _≤_, _+_}
 use native.Mathlib.Omega.{arith}
 use native.Mathlib.Numerals.{add-one}
-use lib.ListN.{length, getD, take, drop, set, length-map, length-drop}
+use lib.ListN.{length, getD, take, drop, set, length-drop}
 use lib.Seq.{getD-take, length-take-le, take-set-lt, take-suc-set, take-take, take-suc, take-add, drop-at, set-at, getD-drop}
 use lib.IntN.{ℤ, pos, negsuc, negℤ, _+ℤ_, _-ℤ_, _*ℤ_}
 use Rattle.integers.specs.Affine.{Within}
@@ -35,10 +35,6 @@ within-shorter m n l f = subst (Within m) (front-shorter n l) (within-take m (ta
 
 pub front-longer : {A : Type 0} (n : ℕ) (l : List A) (z : A) → n < length l → take (n + 1) (set l n z) ≡ take n l ++ (z ∷ [])
 front-longer n l z h = rw add-one (take-suc-set l n z h)
-
--- the length of a field that is an array of structs
-pub length-mapped : (A B : Type 0) (f : A → B) (l : List A) (n : ℕ) → length (map f l) ≡ n → length l ≡ n
-length-mapped A B f l n e = sym (length-map l f) ∙ e
 
 -- ---- u xs + v ys
 

@@ -3,7 +3,7 @@ use mathlib.Core.Path.{_≡_}
 use mathlib.Core.List.{List, map}
 use Prim.Native.Nat.{ℕ, _+_, _<_, _≤_}
 use lib.IntN.{negℤ}
-use lib.ListN.{take, drop}
+use lib.ListN.{length, take, drop}
 use Rattle.lists.specs.Membership.{All}
 use Rattle.lists.specs.Place.{under, onHead, swapped}
 use Rattle.model.specs.Ticket as Model
@@ -71,6 +71,7 @@ pub record LoopsChange (change : Change) (from : List Loop) (start many by : ℕ
 
 -- what stood in front of them in `into` stays
 pub record LoopsAre (change : Change) (from into : List Loop) (start many by : ℕ) (r : List Loop) : Type 0 where
+  pub room : length r ≡ 6
   pub kept : take (start + by) r ≡ take (start + by) into
   pub made : loopsFrom (start + by) (take many (drop (start + by) r)) ≡ map (onLimits (changeOf change)) (loopsFrom start (take many (drop start from)))
   pub within : All LoopIn (take many (drop (start + by) r))

@@ -8,7 +8,6 @@ use borrow.Author.Needs.{needs}
 use Rattle.lists.specs.Tests.{any}
 use Rattle.model.specs.Limits.{sameLimit}
 use Rattle.nest.specs.Nested.{limitOf, sideOf}
-use Rattle.limits.proofs.RowLaws.{length-mapped}
 use Rattle.exchange.proofs.SameLaws.{none-more, found-at}
 use Rattle.exchange.proofs.has.Statement.{statement}
 use Rattle.exchange.proofs.has.Tie as tie
@@ -36,7 +35,7 @@ unfolding sideOf
 returns c =
     let d = c .before .before .before .before in
     let s = d .before .before in
-    let n : length (s .args .side .limits) ≡ 16 = search (needs, length-mapped) in
+    let n = s .pre .1 .room in let w = s .pre .1 .few in
     sym (found-at (sameLimit (limitOf (s .args .n) (s .args .x))) (limitOf (s .args .n)) (s .args .side .limits) (d .loop .k) _ (s .args .side .count) (omega arith) (omega arith) (sym (c .before .same-limit .ensures) ∙ c .if1 .taken))
 
 add-k : tie.Need-add-k Inv-loop μ-loop
@@ -49,7 +48,7 @@ loop-again : tie.Need-loop-again Inv-loop μ-loop
 loop-again c =
     let d = c .before .before .before .before in
     let s = d .before .before in
-    let n : length (s .args .side .limits) ≡ 16 = search (needs, length-mapped) in
+    let n = s .pre .1 .room in let w = s .pre .1 .few in
     (omega arith, none-more (sameLimit (limitOf (s .args .n) (s .args .x))) (limitOf (s .args .n)) (s .args .side .limits) (d .loop .k) _ (omega arith) (d .loop .inv .1) (sym (c .before .same-limit .ensures) ∙ c .if1 .left))
 
 returns-2 : tie.Need-returns-2 Inv-loop μ-loop

@@ -7,7 +7,7 @@ use Rattle.exchange.proofs.push.Statement.{statement}
 use Rattle.exchange.proofs.push.Tie as tie
 
 has-requires : tie.Need-has-requires
-has-requires c κs = let s = c .before in (s .pre .place, s .pre .within .few)
+has-requires c κs = let s = c .before in (s .pre .place, s .pre .within)
 
 returns : tie.Need-returns
 returns c = let s = c .before .before .before in push-there (s .args .n) (s .args .f) (s .args .x) (s .pre .within) (sym (c .before .has .ensures) ∙ c .if1 .taken)

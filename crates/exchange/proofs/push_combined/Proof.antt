@@ -11,7 +11,6 @@ use Rattle.model.specs.Limits.{combined}
 use Rattle.nest.specs.Nested.{limitOf, sideOf}
 use Rattle.limits.specs.Small.{SmallLimit}
 use Rattle.limits.proofs.NumberLaws.{small-back}
-use Rattle.limits.proofs.RowLaws.{length-mapped}
 use Rattle.limits.proofs.SideLaws.{all-front-map}
 use Rattle.exchange.specs.Filling.{Adds}
 use Rattle.exchange.proofs.FillLaws.{adds-same, adds-start, adds-more}
@@ -25,7 +24,7 @@ abbrev μ-loop : tie.MeasureT-loop
 μ-loop a c l count limits g₀ k₀ g k = count - k
 
 len : (c : tie.Start Inv-loop μ-loop) → length (c .args .side .limits) ≡ 16
-len c = search (needs, length-mapped)
+len c = search needs
 
 loop-holds : tie.Need-loop-holds Inv-loop μ-loop
 loop-holds c = let s = c .before in (omega arith, adds-start (λ m. combined (s .args .a) (toZ w64 (ofZ w64 (s .args .c))) (limitOf (s .args .a + 1) (s .args .l)) m ∷ []) (s .args .a) (s .args .a) (s .args .side .limits) (s .args .f) (s .pre .1 .filling))

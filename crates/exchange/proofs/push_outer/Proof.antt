@@ -7,7 +7,6 @@ use borrow.Author.Needs.{needs}
 use Rattle.model.specs.Limits.{outerCoefficient, outerPart}
 use Rattle.nest.specs.Nested.{limitOf, sideOf}
 use Rattle.limits.specs.Small.{SmallLimit}
-use Rattle.limits.proofs.RowLaws.{length-mapped}
 use Rattle.limits.proofs.SideLaws.{all-front-map}
 use Rattle.exchange.specs.Filling.{Adds}
 use Rattle.exchange.proofs.FillLaws.{adds-start, adds-more}
@@ -21,7 +20,7 @@ abbrev μ-loop : tie.MeasureT-loop
 μ-loop a same other count limits g₀ k₀ g k = count - k
 
 len : (c : tie.Start Inv-loop μ-loop) → length (c .args .js .limits) ≡ 16
-len c = search (needs, length-mapped)
+len c = search needs
 
 empty-requires : tie.Need-empty-requires Inv-loop μ-loop
 empty-requires c κs = search needs

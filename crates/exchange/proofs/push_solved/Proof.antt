@@ -6,7 +6,6 @@ use lib.ListN.{length, take}
 use borrow.Author.Needs.{needs}
 use Rattle.nest.specs.Nested.{limitOf, sideOf}
 use Rattle.limits.specs.Small.{SmallLimit}
-use Rattle.limits.proofs.RowLaws.{length-mapped}
 use Rattle.limits.proofs.SideLaws.{all-front-map}
 use Rattle.exchange.specs.Filling.{Adds, takenOf}
 use Rattle.exchange.proofs.FillLaws.{adds-start, adds-more}
@@ -20,7 +19,7 @@ abbrev μ-loop : tie.MeasureT-loop
 μ-loop a positive count limits g₀ k₀ g k = count - k
 
 len : (c : tie.Start Inv-loop μ-loop) → length (c .args .js .limits) ≡ 16
-len c = search (needs, length-mapped)
+len c = search needs
 
 loop-holds : tie.Need-loop-holds Inv-loop μ-loop
 loop-holds c = let s = c .before in (omega arith, adds-start (takenOf (s .args .positive) (s .args .a)) (s .args .a + 1) (s .args .a + 1) (s .args .js .limits) (s .args .f) (s .pre .filling))

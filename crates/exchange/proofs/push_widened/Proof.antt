@@ -7,7 +7,6 @@ use borrow.Author.Needs.{needs}
 use Rattle.lists.proofs.FlatMapLaws.{flatMap-single}
 use Rattle.model.specs.Limits.{widened}
 use Rattle.nest.specs.Nested.{limitOf, sideOf}
-use Rattle.limits.proofs.RowLaws.{length-mapped}
 use Rattle.exchange.specs.Filling.{Adds}
 use Rattle.exchange.proofs.FillLaws.{adds-same, adds-start, adds-more}
 use Rattle.exchange.proofs.push_widened.Statement.{statement}
@@ -20,7 +19,7 @@ abbrev μ-loop : tie.MeasureT-loop
 μ-loop n count limits g₀ k₀ g k = count - k
 
 len : (c : tie.Start Inv-loop μ-loop) → length (c .args .side .limits) ≡ 16
-len c = search (needs, length-mapped)
+len c = search needs
 
 empty-requires : tie.Need-empty-requires Inv-loop μ-loop
 empty-requires c κs = search needs

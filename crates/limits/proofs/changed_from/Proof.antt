@@ -12,7 +12,6 @@ use Rattle.nest.specs.Nested.{loopsFrom, LoopIn}
 use Rattle.nest.specs.declared.Loop.{Loop}
 use Rattle.limits.specs.Change.{changeOf}
 use Rattle.limits.specs.declared.Change.{Change}
-use Rattle.limits.proofs.RowLaws.{length-mapped}
 use Rattle.limits.proofs.LimitLaws.{allowed}
 use Rattle.limits.proofs.SideLaws.{loop-small, loop-within, within-more, made-more}
 use Rattle.limits.proofs.changed_from.Statement.{statement}
@@ -36,7 +35,7 @@ add-at c = let w = c .pre .room in omega arith
 
 loop-holds : tie.Need-loop-holds Inv-loop μ-loop
 unfolding loopsFrom
-loop-holds c = let n : length (c .args .into) ≡ 6 = search (needs, length-mapped) in record { low = omega arith; len = n; kept = refl; made = refl; within = all-nil LoopIn }
+loop-holds c = let n : length (c .args .into) ≡ 6 = search needs in record { low = omega arith; len = n; kept = refl; made = refl; within = all-nil LoopIn }
 
 add-k : tie.Need-add-k Inv-loop μ-loop
 add-k c = search needs
@@ -51,7 +50,7 @@ changed-loop-requires : tie.Need-changed-loop-requires Inv-loop μ-loop
 changed-loop-requires c κs =
     let s = c .before .before .before in
     let j = c .before .before .loop .j in
-    let n : length (s .args .t1) ≡ 6 = search (needs, length-mapped) in
+    let n : length (s .args .t1) ≡ 6 = search needs in
     let w = s .pre .room in
     record {
       allowed = s .pre .allowed j (omega arith);
@@ -81,7 +80,7 @@ loop-again c =
     let j = b .loop .j in
     let at = s .args .start + s .args .by in
     let i = b .loop .inv in
-    let n : length (s .args .t1) ≡ 6 = search (needs, length-mapped) in
+    let n : length (s .args .t1) ≡ 6 = search needs in
     let w = s .pre .room in
     let l = i .len in
     record {
@@ -97,7 +96,7 @@ returns c =
     let s = c .before .before in
     let i = c .before .loop .inv in
     let e : c .before .loop .j ≡ s .args .many = (let l = i .low in omega arith) in
-    record { kept = i .kept; made = rw e at (i .made); within = rw e at (i .within) }
+    record { room = i .len; kept = i .kept; made = rw e at (i .made); within = rw e at (i .within) }
 
 pub changed-from-spec : {M : Type 1} → statement M
 changed-from-spec =

@@ -10,7 +10,6 @@ use Rattle.reading.proofs.ReaderLaws.{all-more}
 use Rattle.nest.specs.Nested.{limitOf, sideOf, LimitIn}
 use Rattle.limits.specs.Small.{SmallLimit}
 use Rattle.limits.specs.Change.{changeOf, outerAfter}
-use Rattle.limits.proofs.RowLaws.{length-mapped}
 use Rattle.limits.proofs.LimitLaws.{allowed}
 use Rattle.limits.proofs.SideLaws.{map-more, all-front-map}
 use Rattle.limits.proofs.changed_side.Statement.{statement}
@@ -23,7 +22,7 @@ abbrev μ-loop : tie.MeasureT-loop
 μ-loop n change count from limits₀ k₀ limits k = count - k
 
 loop-holds : tie.Need-loop-holds Inv-loop μ-loop
-loop-holds c = let n : length (c .before .args .side .limits) ≡ 16 = search (needs, length-mapped) in (omega arith, n, all-nil LimitIn, refl)
+loop-holds c = let n : length (c .before .args .side .limits) ≡ 16 = search needs in (omega arith, n, all-nil LimitIn, refl)
 
 mul-l : tie.Need-mul-l Inv-loop μ-loop
 mul-l c = search needs
@@ -35,7 +34,7 @@ changed-requires : tie.Need-changed-requires Inv-loop μ-loop
 unfolding sideOf
 changed-requires c κs =
     let s = c .before .before .before .before in
-    let n : length (s .args .side .limits) ≡ 16 = search (needs, length-mapped) in
+    let n : length (s .args .side .limits) ≡ 16 = search needs in
     let w = s .pre .within .few in
     (s .pre .allowed, all-front-map SmallLimit (limitOf (s .args .n)) _ (c .before .before .loop .k) (s .args .side .count) (s .args .side .limits) (omega arith) (omega arith) (s .pre .small))
 
@@ -55,7 +54,7 @@ loop-again : tie.Need-loop-again Inv-loop μ-loop
 loop-again c =
     let b = c .before .before .before in
     let s = b .before .before in
-    let n : length (s .args .side .limits) ≡ 16 = search (needs, length-mapped) in
+    let n : length (s .args .side .limits) ≡ 16 = search needs in
     let w = s .pre .within .few in (
       omega arith,
       simp length-set (b .loop .inv .1),
