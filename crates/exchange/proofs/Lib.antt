@@ -1,0 +1,4 @@
+-- Laws over plain lists that the proofs of the crate's functions cite.
+pub mod SolveLaws
+pub mod SameLaws
+pub mod FillLaws

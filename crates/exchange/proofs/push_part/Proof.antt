@@ -1,0 +1,91 @@
+use mathlib.Core.Path.{_≡_, sym, _∙_, ap}
+use mathlib.Core.List.{[], map}
+use Prim.Native.Nat.{_+_, _≤_}
+use native.Mathlib.Omega.{arith}
+use lib.IntN.{ℤ, pos}
+use lib.ListN.{length, getD}
+use mir.Syntax.{w64}
+use mir.Val.{toZ, ofZ}
+use borrow.Author.Needs.{needs}
+use Rattle.integers.specs.Difference.{size}
+use Rattle.integers.proofs.RangeLaws.{test-lt, test-lt-no}
+use Rattle.model.specs.Limits.{combined}
+use Rattle.nest.specs.Nested.{limitOf, sideOf}
+use Rattle.limits.proofs.NumberLaws.{small-back}
+use Rattle.limits.proofs.RowLaws.{front-at}
+use Rattle.limits.proofs.LimitLaws.{numbers}
+use Rattle.exchange.proofs.SolveLaws.{zero-bits, zero-test, part-zero, part-positive, part-negative}
+use Rattle.exchange.proofs.FillLaws.{adds-same}
+use Rattle.exchange.proofs.push_part.Statement.{statement}
+use Rattle.exchange.proofs.push_part.Tie as tie
+
+module _ (c : tie.After-c) where
+  abbrev s : tie.Start
+  s = c .before .before
+
+  abbrev z : ℤ
+  z = getD (c .before .before .args .l .coefficients) (c .before .before .args .a) (pos 0)
+
+  len : length (s .args .l .coefficients) ≡ 6
+  len = search needs
+
+  at-c : size z ≤ 32767
+  at-c = front-at (s .args .a + 1) (s .args .l .coefficients) (s .args .a) (omega arith) (numbers (s .args .a + 1) (s .args .l) (s .pre .with-same .limit) .coefficients)
+
+  reads-c : toZ w64 (ofZ w64 z) ≡ z
+  reads-c = small-back _ at-c
+
+not-zero : (c : tie.Else1) → z (c .before) ≡ pos 0 → ⊥
+not-zero c e = zero-test (z (c .before)) (c .if1 .left) e
+
+mul-c : tie.Need-mul-c
+mul-c c = let p = c .before .pre .with-same .place in omega arith
+
+array-copy-out-c : tie.Need-array-copy-out-c
+array-copy-out-c c = let p = c .before .pre .with-same .place in omega arith
+
+push-requires : tie.Need-push-requires
+push-requires c κs = let s = c .before .before .before in let p = s .pre .with-same .place in let n : length (s .args .l .coefficients) ≡ 6 = search needs in record { place = omega arith; within = s .pre .with-same .filling; limit = record { room = n } }
+
+returns : tie.Need-returns
+returns c =
+    let d = c .before .before in
+    let s = d .before .before in
+    adds-same (s .args .a) (sym (part-zero (s .args .a) (sideOf (s .args .a) (s .args .same)) (sideOf (s .args .a) (s .args .other)) (s .args .l) (zero-bits (z d) (at-c d) (c .before .if1 .taken)))) (c .push .ensures)
+
+push-combined-requires : tie.Need-push-combined-requires
+push-combined-requires c κs = let d = c .before .before in let p = d .before .before .pre in (rw (reads-c d) (at-c d), p .with-same)
+
+returns-2 : tie.Need-returns-2
+returns-2 c =
+    let d = c .before .before .before in
+    let s = d .before .before in
+    adds-same (s .args .a)
+    (ap (λ (y : ℤ). map (combined (s .args .a) y (limitOf (s .args .a + 1) (s .args .l))) (sideOf (s .args .a) (s .args .same))) (reads-c d)
+    ∙ sym (part-positive (s .args .a) (sideOf (s .args .a) (s .args .same)) (sideOf (s .args .a) (s .args .other)) (s .args .l) (test-lt (rw (reads-c d) at (c .before .if2 .taken)))))
+    (c .push-combined .ensures)
+
+push-combined-requires-2 : tie.Need-push-combined-requires-2
+push-combined-requires-2 c κs = let d = c .before .before in let p = d .before .before .pre in (rw (reads-c d) (at-c d), p .with-other)
+
+returns-3 : tie.Need-returns-3
+returns-3 c =
+    let d = c .before .before .before in
+    let s = d .before .before in
+    adds-same (s .args .a)
+    (ap (λ (y : ℤ). map (combined (s .args .a) y (limitOf (s .args .a + 1) (s .args .l))) (sideOf (s .args .a) (s .args .other))) (reads-c d)
+    ∙ sym (part-negative (s .args .a) (sideOf (s .args .a) (s .args .same)) (sideOf (s .args .a) (s .args .other)) (s .args .l) (not-zero (c .before .before)) (test-lt-no (rw (reads-c d) at (c .before .if2 .left)))))
+    (c .push-combined2 .ensures)
+
+pub push-part-spec : {M : Type 1} → statement M
+push-part-spec =
+    tie.close
+    (tie.spec
+    mul-c
+    array-copy-out-c
+    push-requires
+    returns
+    push-combined-requires
+    returns-2
+    push-combined-requires-2
+    returns-3)

@@ -1,0 +1,81 @@
+use mathlib.Core.Path.{_≡_, sym, _∙_, ap}
+use mathlib.Core.List.{[], _∷_}
+use Prim.Native.Nat.{_+_, _≤_}
+use native.Mathlib.Omega.{arith}
+use lib.IntN.{ℤ, pos}
+use lib.ListN.{length, getD}
+use mir.Syntax.{w64}
+use mir.Val.{toZ, ofZ}
+use borrow.Author.Needs.{needs}
+use Rattle.integers.specs.Difference.{size}
+use Rattle.limits.proofs.NumberLaws.{small-back}
+use Rattle.limits.proofs.RowLaws.{front-at}
+use Rattle.limits.proofs.LimitLaws.{numbers}
+use Rattle.exchange.proofs.SolveLaws.{coefficient-at, zero-bits, zero-test, flags-same, flags-differ, taken-zero, taken-same, taken-other}
+use Rattle.exchange.proofs.FillLaws.{adds-none, adds-same}
+use Rattle.exchange.proofs.push_taken.Statement.{statement}
+use Rattle.exchange.proofs.push_taken.Tie as tie
+
+module _ (c : tie.After-c) where
+  abbrev s : tie.Start
+  s = c .before .before
+
+  abbrev z : ℤ
+  z = getD (c .before .before .args .l .coefficients) (c .before .before .args .a) (pos 0)
+
+  len : length (s .args .l .coefficients) ≡ 6
+  len = search needs
+
+  at-c : size z ≤ 32767
+  at-c = front-at (s .args .a + 1) (s .args .l .coefficients) (s .args .a) (omega arith) (numbers (s .args .a + 1) (s .args .l) (s .pre .1) .coefficients)
+
+  reads-c : toZ w64 (ofZ w64 z) ≡ z
+  reads-c = small-back _ at-c
+
+not-zero : (c : tie.Else1) → z (c .before) ≡ pos 0 → ⊥
+not-zero c e = zero-test (z (c .before)) (c .if1 .left) e
+
+mul-c : tie.Need-mul-c
+mul-c c = search needs
+
+array-copy-out-c : tie.Need-array-copy-out-c
+array-copy-out-c c = search needs
+
+returns : tie.Need-returns
+returns c = let s = c .before .before .before in adds-same (s .args .a + 1) (sym (taken-zero (s .args .positive) (s .args .a) (s .args .l) (zero-bits (z (c .before)) (at-c (c .before)) (c .if1 .taken)))) (adds-none (s .args .a + 1) (s .args .f) (s .pre .2))
+
+solved-requires : tie.Need-solved-requires
+solved-requires c κs = let s = c .before .before .before .before in (s .pre .0, s .pre .1, λ e. not-zero (c .before) (sym (coefficient-at (s .args .a) (s .args .l)) ∙ e))
+
+add-push : tie.Need-add-push
+add-push c = search needs
+
+push-requires : tie.Need-push-requires
+push-requires c κs = let s = c .before .before .before .before .before in record { place = omega arith; within = s .pre .2; limit = c .solved .ensures .within }
+
+returns-2 : tie.Need-returns-2
+returns-2 c =
+    let b = c .before .before .before in
+    let s = b .before .before .before in
+    adds-same (s .args .a + 1)
+    (ap (_∷ []) (c .before .solved .ensures .is) ∙ sym (taken-same (s .args .positive) (s .args .a) (s .args .l) (not-zero b) (flags-same _ _ (rw (reads-c (b .before)) at (c .before .before .if2 .taken)))))
+    (c .push .ensures)
+
+returns-3 : tie.Need-returns-3
+returns-3 c =
+    let b = c .before in
+    let s = b .before .before .before in
+    adds-same (s .args .a + 1) (sym (taken-other (s .args .positive) (s .args .a) (s .args .l) (not-zero b) (flags-differ _ _ (rw (reads-c (b .before)) at (c .if2 .left))))) (adds-none (s .args .a + 1) (s .args .f) (s .pre .2))
+
+pub push-taken-spec : {M : Type 1} → statement M
+push-taken-spec =
+    tie.close
+    (tie.spec
+    mul-c
+    array-copy-out-c
+    returns
+    solved-requires
+    add-push
+    push-requires
+    returns-2
+    returns-3)

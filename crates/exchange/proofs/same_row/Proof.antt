@@ -1,0 +1,93 @@
+use mathlib.Core.Path.{_≡_, refl, sym, _∙_, subst}
+use mathlib.Core.List.{[]}
+use Prim.Native.Nat.{ℕ, _-_, _≤_}
+use native.Mathlib.Omega.{arith}
+use lib.IntN.{pos}
+use lib.ListN.{length, getD, take}
+use mir.Syntax.{w64}
+use mir.Val.{toZ, ofZ}
+use borrow.Author.Needs.{needs}
+use borrow.Author.Tests.{not-true, not-false}
+use Rattle.integers.specs.Sign.{eqZ}
+use Rattle.exchange.proofs.SameLaws.{row-differs, row-more, row-same}
+use Rattle.exchange.proofs.same_row.Statement.{statement}
+use Rattle.exchange.proofs.same_row.Tie as tie
+
+abbrev Inv-loop : tie.InvT-loop
+Inv-loop n xs ys k₀ k = (k ≤ n) × (take k xs ≡ take k ys)
+
+abbrev μ-loop : tie.MeasureT-loop
+μ-loop n xs ys k₀ k = n - k
+
+test : (c : tie.After-equal Inv-loop μ-loop) → eqZ (getD (c .before .before .before .before .before .args .t1) (c .before .before .before .before .loop .k) (pos 0)) (getD (c .before .before .before .before .before .args .t2) (c .before .before .before .before .loop .k) (pos 0)) ≡ c .equal .result
+test c =
+    let d = c .before .before .before .before in
+    let s = d .before in
+    let x : toZ w64 (ofZ w64 (getD (s .args .t1) (d .loop .k) (pos 0))) ≡ getD (s .args .t1) (d .loop .k) (pos 0) = search needs in
+    let y : toZ w64 (ofZ w64 (getD (s .args .t2) (d .loop .k) (pos 0))) ≡ getD (s .args .t2) (d .loop .k) (pos 0) = search needs in
+    sym (c .equal .ensures ∙ simp (x, y))
+
+loop-holds : tie.Need-loop-holds Inv-loop μ-loop
+loop-holds c = (omega arith, refl)
+
+mul-x : tie.Need-mul-x Inv-loop μ-loop
+mul-x c = search needs
+
+array-copy-out-x : tie.Need-array-copy-out-x Inv-loop μ-loop
+array-copy-out-x c = search needs
+
+mul-y : tie.Need-mul-y Inv-loop μ-loop
+mul-y c = search needs
+
+array-copy-out-y : tie.Need-array-copy-out-y Inv-loop μ-loop
+array-copy-out-y c = search needs
+
+equal-requires : tie.Need-equal-requires Inv-loop μ-loop
+equal-requires c κs = search needs
+
+returns : tie.Need-returns Inv-loop μ-loop
+returns c =
+    let d = c .before .before .before .before .before in
+    let s = d .before in
+    let n : length (s .args .t1) ≡ 6 = search needs in
+    let m : length (s .args .t2) ≡ 6 = search needs in
+    sym (row-differs (d .loop .k) (s .args .n) (s .args .t1) (s .args .t2) (omega arith) (test (c .before) ∙ not-true (c .before .equal .result) (c .if1 .taken)))
+
+add-k : tie.Need-add-k Inv-loop μ-loop
+add-k c = search needs
+
+loop-less : tie.Need-loop-less Inv-loop μ-loop
+loop-less c = search needs
+
+loop-again : tie.Need-loop-again Inv-loop μ-loop
+loop-again c =
+    let d = c .before .before .before .before .before in
+    let s = d .before in
+    let n : length (s .args .t1) ≡ 6 = search needs in
+    let m : length (s .args .t2) ≡ 6 = search needs in
+    (omega arith, row-more (d .loop .k) (s .args .t1) (s .args .t2) (omega arith) (omega arith) (d .loop .inv .1) (test (c .before) ∙ not-false (c .before .equal .result) (c .if1 .left)))
+
+returns-2 : tie.Need-returns-2 Inv-loop μ-loop
+returns-2 c =
+    let s = c .before .before in
+    let e : c .before .loop .k ≡ s .args .n = omega arith in
+    let q : take (s .args .n) (s .args .t1) ≡ take (s .args .n) (s .args .t2) = subst (λ (i : ℕ). take i (s .args .t1) ≡ take i (s .args .t2)) e (c .before .loop .inv .1) in
+    sym (rw q (row-same (take (s .args .n) (s .args .t2))))
+
+pub same-row-spec : {M : Type 1} → statement M
+same-row-spec =
+    tie.close
+    (tie.spec
+    Inv-loop
+    μ-loop
+    loop-holds
+    mul-x
+    array-copy-out-x
+    mul-y
+    array-copy-out-y
+    equal-requires
+    returns
+    add-k
+    loop-less
+    loop-again
+    returns-2)

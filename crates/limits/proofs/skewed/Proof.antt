@@ -1,0 +1,85 @@
+use mathlib.Core.Path.{_≡_, _∙_}
+use mathlib.Core.List.{[]}
+use Prim.Native.Nat.{_+_, _≤_}
+use native.Mathlib.Omega.{arith}
+use lib.IntN.{pos}
+use lib.ListN.{length, getD, length-set}
+use mir.Syntax.{w64}
+use mir.Val.{toZ, ofZ}
+use borrow.Author.Needs.{needs}
+use Rattle.integers.specs.Difference.{size}
+use Rattle.limits.proofs.NumberLaws.{small-back}
+use Rattle.limits.proofs.RowLaws.{front-at, front-skewed}
+use Rattle.limits.proofs.skewed.Statement.{statement}
+use Rattle.limits.proofs.skewed.Tie as tie
+
+module _ (c : tie.After-y) where
+  abbrev s : tie.Start
+  s = c .before .before
+
+  n : length (s .args .t1) ≡ 6
+  n = search needs
+
+  at-x : size (getD (s .args .t1) (s .args .a) (pos 0)) ≤ 32767
+  at-x = front-at (s .args .n) (s .args .t1) (s .args .a) (omega arith) (s .pre .2)
+
+  at-y : size (getD (s .args .t1) (s .args .a + 1 + s .args .d) (pos 0)) ≤ 32767
+  at-y = front-at (s .args .n) (s .args .t1) (s .args .a + 1 + s .args .d) (omega arith) (s .pre .2)
+
+  reads-x : toZ w64 (ofZ w64 (getD (s .args .t1) (s .args .a) (pos 0))) ≡ getD (s .args .t1) (s .args .a) (pos 0)
+  reads-x = small-back _ at-x
+
+  reads-y : toZ w64 (ofZ w64 (getD (s .args .t1) (s .args .a + 1 + s .args .d) (pos 0))) ≡ getD (s .args .t1) (s .args .a + 1 + s .args .d) (pos 0)
+  reads-y = small-back _ at-y
+
+add-b : tie.Need-add-b
+add-b c = search needs
+
+add-b-2 : tie.Need-add-b-2
+add-b-2 c = search needs
+
+mul-x : tie.Need-mul-x
+mul-x c = search needs
+
+array-copy-out-x : tie.Need-array-copy-out-x
+array-copy-out-x c = search needs
+
+mul-y : tie.Need-mul-y
+mul-y c = search needs
+
+array-copy-out-y : tie.Need-array-copy-out-y
+array-copy-out-y c = search needs
+
+plus-requires : tie.Need-plus-requires
+plus-requires c κs = (rw (reads-x c) (at-x c), rw (reads-y c) (at-y c))
+
+mul-r : tie.Need-mul-r
+mul-r c = search needs
+
+array-set-from-r : tie.Need-array-set-from-r
+array-set-from-r c = search needs
+
+returns : tie.Need-returns
+returns c =
+    let s = c .before .before .before in
+    let n : length (s .args .t1) ≡ 6 = search needs in
+    let e : toZ w64 (ofZ w64 (c .plus .result)) ≡ c .plus .result = search needs in
+    record {
+      is = front-skewed (s .args .n) (s .args .a) (s .args .d) (s .args .positive) (s .args .t1) _ (omega arith) (omega arith) (e ∙ c .plus .ensures ∙ simp (reads-x (c .before), reads-y (c .before)));
+      room = simp length-set n;
+    }
+
+pub skewed-spec : {M : Type 1} → statement M
+skewed-spec =
+    tie.close
+    (tie.spec
+    add-b
+    add-b-2
+    mul-x
+    array-copy-out-x
+    mul-y
+    array-copy-out-y
+    plus-requires
+    mul-r
+    array-set-from-r
+    returns)

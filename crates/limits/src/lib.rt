@@ -1,0 +1,331 @@
+// What a step makes of rows of coefficients, of limits, and of every limit of a side, a loop and the loops inside. n is the number of loops outside.
+ghost use mathlib.Core.Path.{_≡_};
+ghost use mathlib.Core.List.{map};
+ghost use Prim.Native.Nat.{_+_, _<_, _≤_};
+ghost use lib.IntN.{pos, negℤ, _+ℤ_, _*ℤ_};
+ghost use lib.ListN.{take};
+ghost use Rattle.integers.specs.Affine.{Within};
+ghost use Rattle.integers.specs.Difference.{size};
+ghost use Rattle.lists.specs.Place.{under, onHead, swapped};
+ghost use Rattle.model.specs.Steps.{signed};
+ghost use Rattle.model.specs.Limits.{onLimits, negated, skewLimit, skewCoefficients, sectionLower, sectionUpper, elementLimit, splitCoefficients};
+ghost use Rattle.nest.specs.Nested.{limitOf, sideOf, loopOf};
+ghost use Rattle.limits.specs.Small.{SmallLimit};
+ghost use Rattle.limits.specs.Makes.{mixed, RowIs, LimitIs, SideIs, LoopIs};
+ghost use Rattle.limits.specs.Change.{changeOf, outerAfter, Allowed, SideChange, LoopChange, LoopsChange, LoopsAre};
+use nest::Limit;
+use nest::Loop;
+use nest::Side;
+
+// ---- numbers
+
+// u x + v y
+pub fn blend(u: i64, x: i64, v: i64, y: i64) -> i64
+    requires { ⌜ (size u ≤ 32767) × (size x ≤ 32767) × (size v ≤ 32767) × (size y ≤ 32767) ⌝ }
+    ensures { λ r. ⌜ r ≡ u *ℤ x +ℤ v *ℤ y ⌝ }
+{
+    u * x + v * y
+}
+
+pub fn minus(x: i64) -> i64
+    requires { ⌜ size x ≤ 32767 ⌝ }
+    ensures { λ r. ⌜ r ≡ negℤ x ⌝ }
+{
+    -x
+}
+
+// x + y, or x − y
+fn plus(x: i64, y: i64, positive: bool) -> i64
+    requires { ⌜ (size x ≤ 32767) × (size y ≤ 32767) ⌝ }
+    ensures { λ r. ⌜ r ≡ x +ℤ signed positive y ⌝ }
+{
+    if positive { x + y } else { x - y }
+}
+
+fn times(x: i64, w: u64) -> i64
+    requires { ⌜ (size x ≤ 32767) × (w ≤ 32767) ⌝ }
+    ensures { λ r. ⌜ r ≡ x *ℤ pos w ⌝ }
+{
+    x * (w as i64)
+}
+
+// ---- rows
+
+// u xs + v ys
+pub fn mix(n: usize, u: i64, xs: [i64; 6], v: i64, ys: [i64; 6]) -> [i64; 6]
+    requires { ⌜ (n ≤ 6) × (size u ≤ 32767) × (size v ≤ 32767) × Within 32767 (take n xs) × Within 32767 (take n ys) ⌝ }
+    ensures { λ r. ⌜ RowIs n r (mixed u v (take n xs) (take n ys)) ⌝ }
+{
+    let mut r = [0i64; 6];
+    let mut k = 0;
+    while k < n {
+        let x = xs[k];
+        let y = ys[k];
+        let z = blend(u, x, v, y);
+        r[k] = z;
+        k += 1;
+    }
+    r
+}
+
+// The coefficient at place a changes sign.
+fn turned(cs: [i64; 6], n: usize, a: usize) -> [i64; 6]
+    requires { ⌜ (a < n) × (n ≤ 6) × Within 32767 (take n cs) ⌝ }
+    ensures { λ r. ⌜ RowIs n r (under a (onHead negℤ) (take n cs)) ⌝ }
+{
+    let mut r = cs;
+    let x = cs[a];
+    r[a] = minus(x);
+    r
+}
+
+// The coefficients at a and a + 1 trade places.
+fn swapped(cs: [i64; 6], n: usize, a: usize) -> [i64; 6]
+    requires { ⌜ (a + 1 < n) × (n ≤ 6) ⌝ }
+    ensures { λ r. ⌜ RowIs n r (under a swapped (take n cs)) ⌝ }
+{
+    let mut r = cs;
+    let b = a + 1;
+    let x = cs[a];
+    let y = cs[b];
+    r[a] = y;
+    r[b] = x;
+    r
+}
+
+// The loop d + 1 places inside loop a is skewed: what its coefficient takes from that of a.
+fn skewed(cs: [i64; 6], n: usize, a: usize, d: usize, positive: bool) -> [i64; 6]
+    requires { ⌜ (a + 1 + d < n) × (n ≤ 6) × Within 32767 (take n cs) ⌝ }
+    ensures { λ r. ⌜ RowIs n r (under a (skewCoefficients d positive) (take n cs)) ⌝ }
+{
+    let mut r = cs;
+    let b = a + 1 + d;
+    let x = cs[a];
+    let y = cs[b];
+    let z = plus(x, y, !positive);
+    r[a] = z;
+    r
+}
+
+// Coefficient a becomes w times itself, and itself.
+fn split(cs: [i64; 6], n: usize, a: usize, w: u64) -> [i64; 6]
+    requires { ⌜ (a < n) × (n < 6) × (w ≤ 32767) × Within 32767 (take n cs) ⌝ }
+    ensures { λ r. ⌜ RowIs (n + 1) r (under a (splitCoefficients w) (take n cs)) ⌝ }
+{
+    let mut r = cs;
+    let mut j = 0;
+    while a + j < n {
+        let i = a + j;
+        let x = cs[i];
+        r[i + 1] = x;
+        j += 1;
+    }
+    let y = cs[a];
+    let z = times(y, w);
+    r[a] = z;
+    r
+}
+
+// ---- limits
+
+fn negated(l: Limit, n: usize) -> Limit
+    requires { ⌜ (n ≤ 6) × SmallLimit (limitOf n l) ⌝ }
+    ensures { λ r. ⌜ LimitIs n r (negated (limitOf n l)) ⌝ }
+{
+    let c = l.constant;
+    let cs = l.coefficients;
+    let d = minus(c);
+    let ds = mix(n, -1, cs, 0, cs);
+    Limit {
+        multiplier: l.multiplier,
+        constant: d,
+        coefficients: ds,
+    }
+}
+
+// The skewed loop's own limits.
+fn leaning(l: Limit, n: usize, a: usize, positive: bool) -> Limit
+    requires { ⌜ (a < n) × (n ≤ 6) × SmallLimit (limitOf n l) ⌝ }
+    ensures { λ r. ⌜ LimitIs n r (skewLimit a positive (limitOf n l)) ⌝ }
+{
+    let p = l.multiplier as i64;
+    let mut cs = l.coefficients;
+    let x = cs[a];
+    let y = plus(x, p, positive);
+    cs[a] = y;
+    Limit {
+        multiplier: l.multiplier,
+        constant: l.constant,
+        coefficients: cs,
+    }
+}
+
+// p w S ≥ e − p (w − 1)
+fn section_lower(l: Limit, n: usize, w: u64) -> Limit
+    requires { ⌜ (1 ≤ w) × (w ≤ 256) × SmallLimit (limitOf n l) ⌝ }
+    ensures { λ r. ⌜ LimitIs n r (sectionLower w (limitOf n l)) ⌝ }
+{
+    let cs = l.coefficients;
+    Limit {
+        multiplier: l.multiplier * w,
+        constant: l.constant - ((l.multiplier * (w - 1)) as i64),
+        coefficients: cs,
+    }
+}
+
+// p w S ≤ e
+fn section_upper(l: Limit, n: usize, w: u64) -> Limit
+    requires { ⌜ (w ≤ 256) × SmallLimit (limitOf n l) ⌝ }
+    ensures { λ r. ⌜ LimitIs n r (sectionUpper w (limitOf n l)) ⌝ }
+{
+    let cs = l.coefficients;
+    Limit {
+        multiplier: l.multiplier * w,
+        constant: l.constant,
+        coefficients: cs,
+    }
+}
+
+// w S moved across
+fn element(l: Limit, n: usize, w: u64) -> Limit
+    requires { ⌜ (n < 6) × (w ≤ 256) × SmallLimit (limitOf n l) ⌝ }
+    ensures { λ r. ⌜ LimitIs (n + 1) r (elementLimit w (limitOf n l)) ⌝ }
+{
+    let mut cs = l.coefficients;
+    cs[n] = 0 - ((l.multiplier * w) as i64);
+    Limit {
+        multiplier: l.multiplier,
+        constant: l.constant,
+        coefficients: cs,
+    }
+}
+
+fn with_row(l: Limit, cs: [i64; 6]) -> Limit
+    ensures { λ r. ⌜ r ≡ record { multiplier = l .multiplier; constant = l .constant; coefficients = cs } ⌝ }
+{
+    Limit {
+        multiplier: l.multiplier,
+        constant: l.constant,
+        coefficients: cs,
+    }
+}
+
+// ---- every limit of a side, of a loop, and of the loops inside
+
+// Of the skew of the loop `between` + 1 places inside loop `outer`, by 1 or −1.
+pub struct Slant {
+    pub outer: usize,
+    pub between: usize,
+    pub positive: bool,
+}
+
+pub struct Cut {
+    pub place: usize,
+    pub width: u64,
+}
+
+pub enum Change {
+    // the reversed loop's own limits, and those inside it
+    Negate,
+    Turn(usize),
+    // inside an exchange
+    Swap(usize),
+    // the skewed loop's own limits, and those inside it
+    Lean(Slant),
+    Skew(Slant),
+    // the two loops of a section, and those inside
+    Low(u64),
+    Up(u64),
+    Element(u64),
+    Split(Cut),
+}
+
+fn changed(l: Limit, n: usize, change: Change) -> Limit
+    requires { ⌜ Allowed change n × SmallLimit (limitOf n l) ⌝ }
+    ensures { λ r. ⌜ LimitIs (outerAfter change n) r (changeOf change (limitOf n l)) ⌝ }
+{
+    let cs = l.coefficients;
+    match change {
+        Change::Negate => negated(l, n),
+        Change::Turn(a) => with_row(l, turned(cs, n, a)),
+        Change::Swap(a) => with_row(l, swapped(cs, n, a)),
+        Change::Lean(s) => {
+            let a = s.outer;
+            let positive = s.positive;
+            leaning(l, n, a, positive)
+        }
+        Change::Skew(s) => {
+            let a = s.outer;
+            let d = s.between;
+            let positive = s.positive;
+            with_row(l, skewed(cs, n, a, d, positive))
+        }
+        Change::Low(w) => section_lower(l, n, w),
+        Change::Up(w) => section_upper(l, n, w),
+        Change::Element(w) => element(l, n, w),
+        Change::Split(s) => {
+            let a = s.place;
+            let w = s.width;
+            with_row(l, split(cs, n, a, w))
+        }
+    }
+}
+
+pub fn changed_side(side: Side, n: usize, change: Change) -> Side
+    requires { ⌜ SideChange change n side ⌝ }
+    ensures { λ r. ⌜ SideIs (outerAfter change n) r (map (changeOf change) (sideOf n side)) × (r .count ≡ side .count) ⌝ }
+{
+    let count = side.count;
+    let from = side.limits;
+    let mut limits = from;
+    let mut k = 0;
+    while k < count {
+        let l = from[k];
+        let m = changed(l, n, change);
+        limits[k] = m;
+        k += 1;
+    }
+    Side {
+        count: count,
+        limits: limits,
+    }
+}
+
+pub fn changed_loop(body: Loop, n: usize, change: Change) -> Loop
+    requires { ⌜ LoopChange change n body ⌝ }
+    ensures { λ r. ⌜ LoopIs (outerAfter change n) r (onLimits (changeOf change) (loopOf n body)) ⌝ }
+{
+    let low = body.lower;
+    let up = body.upper;
+    let lower = changed_side(low, n, change);
+    let upper = changed_side(up, n, change);
+    Loop {
+        lower: lower,
+        upper: upper,
+    }
+}
+
+// The loops from place `start` on, changed, `by` places further in.
+pub fn changed_from(
+    from: [Loop; 6],
+    into: [Loop; 6],
+    start: usize,
+    many: usize,
+    by: usize,
+    change: Change,
+) -> [Loop; 6]
+    requires { ⌜ LoopsChange change from start many by ⌝ }
+    ensures { λ r. ⌜ LoopsAre change from into start many by r ⌝ }
+{
+    let at = start + by;
+    let mut out = into;
+    let mut j = 0;
+    while j < many {
+        let k = start + j;
+        let l = from[k];
+        let m = changed_loop(l, k, change);
+        out[at + j] = m;
+        j += 1;
+    }
+    out
+}

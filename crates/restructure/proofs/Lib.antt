@@ -1,0 +1,6 @@
+-- Laws over plain lists that the proofs of the crate's functions cite.
+pub mod SmallLaws
+pub mod NestLaws
+pub mod ChangeLaws
+pub mod StepLaws
+pub mod Witness

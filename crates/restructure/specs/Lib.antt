@@ -1,0 +1,2 @@
+-- What the contracts on whole nests speak of.
+pub mod After

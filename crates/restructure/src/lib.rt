@@ -1,0 +1,297 @@
+// The nest after each step, with the test of refusal 11, and the test of refusal 12. Loops are counted from 0.
+ghost use mathlib.Core.Path.{_≡_};
+ghost use Prim.Native.Nat.{ℕ, _+_, _<_, _≤_};
+ghost use lib.ListN.{take};
+ghost use Rattle.lists.specs.Tests.{all};
+ghost use mathlib.Core.Bool.{_||_};
+ghost use Rattle.model.specs.Ticket.{reversal, skew, section, exchange};
+ghost use Rattle.model.specs.Limits.{constantLimit};
+ghost use Rattle.model.specs.Judge.{small, smallLimit, smallLoop};
+ghost use Rattle.nest.specs.Nested.{limitOf, sideOf, loopOf, loopsOf, LimitIn, SideIn, LoopIn, NestIn};
+ghost use Rattle.restructure.specs.After.{ReversalIn, SkewIn, SectionIn, ExchangeIn, After, Prepends};
+use exchange::Filling;
+use limits::Change;
+use limits::Cut;
+use limits::Slant;
+use nest::Limit;
+use nest::Loop;
+use nest::Nest;
+use nest::Side;
+
+// The nest after a step; `full` where a side of a loop has more than 16 limits.
+pub struct Stepped {
+    pub full: bool,
+    pub nest: Nest,
+}
+
+pub fn reversed(nest: Nest, a: usize) -> Stepped
+    requires { ⌜ ReversalIn nest a ⌝ }
+    ensures { λ r. ⌜ After (reversal a) nest r ⌝ }
+{
+    let from = nest.loops;
+    let depth = nest.depth;
+    let l = from[a];
+    let low = l.lower;
+    let up = l.upper;
+    let lower = limits::changed_side(up, a, Change::Negate);
+    let upper = limits::changed_side(low, a, Change::Negate);
+    let start = a + 1;
+    let mut to = from;
+    to[a] = Loop {
+        lower: lower,
+        upper: upper,
+    };
+    let loops = limits::changed_from(from, to, start, depth - start, 0, Change::Turn(a));
+    Stepped {
+        full: false,
+        nest: Nest {
+            depth: depth,
+            loops: loops,
+        },
+    }
+}
+
+// The loop d + 1 places inside loop a, by 1 or −1.
+pub fn skewed(nest: Nest, a: usize, d: usize, positive: bool) -> Stepped
+    requires { ⌜ SkewIn nest a d ⌝ }
+    ensures { λ r. ⌜ After (skew a d positive) nest r ⌝ }
+{
+    let from = nest.loops;
+    let depth = nest.depth;
+    let b = a + 1 + d;
+    let l = from[b];
+    let slant = Slant {
+        outer: a,
+        between: d,
+        positive: positive,
+    };
+    let m = limits::changed_loop(l, b, Change::Lean(slant));
+    let start = b + 1;
+    let mut to = from;
+    to[b] = m;
+    let loops = limits::changed_from(from, to, start, depth - start, 0, Change::Skew(slant));
+    Stepped {
+        full: false,
+        nest: Nest {
+            depth: depth,
+            loops: loops,
+        },
+    }
+}
+
+fn either(a: bool, b: bool) -> bool
+    ensures { λ r. ⌜ r ≡ a || b ⌝ }
+{
+    a || b
+}
+
+// Loops a and a + 1.
+pub fn exchanged(nest: Nest, a: usize) -> Stepped
+    requires { ⌜ ExchangeIn nest a ⌝ }
+    ensures { λ r. ⌜ After (exchange a) nest r ⌝ }
+{
+    let from = nest.loops;
+    let depth = nest.depth;
+    let b = a + 1;
+    let i = from[a];
+    let j = from[b];
+    let outer = exchange::new_outer(a, i, j);
+    let inner = exchange::new_inner(a, i, j);
+    let x = outer.body;
+    let y = inner.body;
+    let mut to = from;
+    to[a] = x;
+    to[b] = y;
+    let start = b + 1;
+    let loops = limits::changed_from(from, to, start, depth - start, 0, Change::Swap(a));
+    let full = either(outer.full, inner.full);
+    Stepped {
+        full: full,
+        nest: Nest {
+            depth: depth,
+            loops: loops,
+        },
+    }
+}
+
+// ---- section
+
+// v, with a coefficient 0 for each loop outside.
+fn constant_limit(v: u64) -> Limit
+    requires { ⌜ v ≤ 256 ⌝ }
+    ensures { λ r. ⌜ ((a : ℕ) → a < 6 → limitOf (a + 1) r ≡ constantLimit a v) × LimitIn r ⌝ }
+{
+    Limit {
+        multiplier: 1,
+        constant: v as i64,
+        coefficients: [0i64; 6],
+    }
+}
+
+fn prepended(x: Limit, side: Side) -> Filling
+    requires { ⌜ LimitIn x × SideIn side ⌝ }
+    ensures { λ r. ⌜ Prepends x side r ⌝ }
+{
+    let count = side.count;
+    let from = side.limits;
+    if 16 <= count {
+        return Filling {
+            full: true,
+            side: side,
+        };
+    }
+    let mut to = from;
+    to[0] = x;
+    let mut k = 0;
+    while k < count {
+        let l = from[k];
+        to[k + 1] = l;
+        k += 1;
+    }
+    Filling {
+        full: false,
+        side: Side {
+            count: count + 1,
+            limits: to,
+        },
+    }
+}
+
+// Loop a by width w: S, and E inside it.
+pub fn sectioned(nest: Nest, a: usize, w: u64) -> Stepped
+    requires { ⌜ SectionIn nest a w ⌝ }
+    ensures { λ r. ⌜ After (section a w) nest r ⌝ }
+{
+    let from = nest.loops;
+    let depth = nest.depth;
+    let b = a + 1;
+    let l = from[a];
+    let low = l.lower;
+    let up = l.upper;
+    let slow = limits::changed_side(low, a, Change::Low(w));
+    let sup = limits::changed_side(up, a, Change::Up(w));
+    let elow = limits::changed_side(low, a, Change::Element(w));
+    let eup = limits::changed_side(up, a, Change::Element(w));
+    let first = constant_limit(0);
+    let last = constant_limit(w - 1);
+    let flow = prepended(first, elow);
+    let fup = prepended(last, eup);
+    let lower = flow.side;
+    let upper = fup.side;
+    let mut to = from;
+    to[a] = Loop {
+        lower: slow,
+        upper: sup,
+    };
+    to[b] = Loop {
+        lower: lower,
+        upper: upper,
+    };
+    let loops = limits::changed_from(
+        from,
+        to,
+        b,
+        depth - b,
+        1,
+        Change::Split(Cut { place: a, width: w }),
+    );
+    let full = either(flow.full, fup.full);
+    Stepped {
+        full: full,
+        nest: Nest {
+            depth: depth + 1,
+            loops: loops,
+        },
+    }
+}
+
+// ---- numbers within ±32767
+
+fn small_number(x: i64) -> bool
+    ensures { λ r. ⌜ r ≡ small x ⌝ }
+{
+    if 32767 < x {
+        return false;
+    }
+    if x < -32767 {
+        return false;
+    }
+    true
+}
+
+pub fn small_row(cs: [i64; 6], n: usize) -> bool
+    requires { ⌜ n ≤ 6 ⌝ }
+    ensures { λ r. ⌜ r ≡ all small (take n cs) ⌝ }
+{
+    let mut k = 0;
+    while k < n {
+        let x = cs[k];
+        if !small_number(x) {
+            return false;
+        }
+        k += 1;
+    }
+    true
+}
+
+fn small_limit(l: Limit, n: usize) -> bool
+    requires { ⌜ n ≤ 6 ⌝ }
+    ensures { λ r. ⌜ r ≡ smallLimit (limitOf n l) ⌝ }
+{
+    if 32767 < l.multiplier {
+        return false;
+    }
+    let c = l.constant;
+    if !small_number(c) {
+        return false;
+    }
+    let cs = l.coefficients;
+    small_row(cs, n)
+}
+
+fn small_side(side: Side, n: usize) -> bool
+    requires { ⌜ (n ≤ 6) × SideIn side ⌝ }
+    ensures { λ r. ⌜ r ≡ all smallLimit (sideOf n side) ⌝ }
+{
+    let count = side.count;
+    let limits = side.limits;
+    let mut k = 0;
+    while k < count {
+        let l = limits[k];
+        if !small_limit(l, n) {
+            return false;
+        }
+        k += 1;
+    }
+    true
+}
+
+fn small_loop(body: Loop, n: usize) -> bool
+    requires { ⌜ (n ≤ 6) × LoopIn body ⌝ }
+    ensures { λ r. ⌜ r ≡ smallLoop (loopOf n body) ⌝ }
+{
+    let low = body.lower;
+    let up = body.upper;
+    if !small_side(low, n) {
+        return false;
+    }
+    small_side(up, n)
+}
+
+// Every number of every limit: the test of refusal 12 on the loops.
+pub fn small_loops(nest: Nest) -> bool
+    requires { ⌜ NestIn nest ⌝ }
+    ensures { λ r. ⌜ r ≡ all smallLoop (loopsOf nest) ⌝ }
+{
+    let depth = nest.depth;
+    let loops = nest.loops;
+    let mut k = 0;
+    while k < depth {
+        let l = loops[k];
+        if !small_loop(l, k) {
+            return false;
+        }
+        k += 1;
+    }
+    true
+}
