@@ -1,0 +1,67 @@
+// Prints what decode answers for each ticket on standard input, where a ticket stands after its length in two bytes, lowest first:
+// `accepted` with the numbers of loops, arrays, statements and steps, or `refused` with number and place.
+use reading::Refusal;
+use reading::Status;
+ghost use Prim.Native.Nat.{_<_};
+
+fn print_number(n: usize) {
+    io::write_all(1, b" ");
+    io::print_decimal(1, n as u64);
+}
+
+fn print_refused(number: usize, place: usize) {
+    io::write_all(1, b"refused");
+    print_number(number);
+    print_number(place);
+}
+
+fn print_refusal(r: Refusal) {
+    match r {
+        Refusal::Truncated(p) => print_refused(1, p),
+        Refusal::TrailingBytes(p) => print_refused(2, p),
+        Refusal::CountOutOfRange(p) => print_refused(3, p),
+        Refusal::WordOutOfRange(p) => print_refused(4, p),
+        Refusal::TooManyElements(p) => print_refused(5, p),
+        Refusal::LoopOutOfNest(p) => print_refused(6, p),
+    }
+}
+
+fn print_answer(bytes: &[u8]) {
+    let d = ticket::decode(bytes);
+    let status = d.status;
+    let t = d.ticket;
+    match status {
+        Status::Fine => {
+            io::write_all(1, b"accepted");
+            print_number(t.nest.depth);
+            print_number(t.arrays.count);
+            print_number(t.body.count);
+            print_number(t.steps.count);
+        }
+        Status::Refused(r) => print_refusal(r),
+    }
+    io::write_all(1, b"\n");
+}
+
+fn wide(b: u8) -> usize
+    ensures { λ r. ⌜ r < 256 ⌝ }
+{
+    b as usize
+}
+
+fn main() {
+    let mut input = io::large_buffer();
+    let n = io::read_full(0, &mut input);
+    let all = &input[..n];
+    let mut at = 0;
+    while at + 2 <= n {
+        let length = wide(all[at]) + 256 * wide(all[at + 1]);
+        let from = at + 2;
+        if n - from < length {
+            return;
+        }
+        let to = from + length;
+        print_answer(&all[from..to]);
+        at = to;
+    }
+}
