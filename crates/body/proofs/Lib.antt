@@ -1,0 +1,3 @@
+-- Laws of arrays and statements that the code's proofs cite.
+pub mod ArrayLaws
+pub mod AccessLaws

@@ -1,0 +1,3 @@
+-- The model's lists that this crate's structs stand for, and what reading them gives.
+pub mod Arrays
+pub mod Statements

@@ -1,0 +1,186 @@
+// One word of a ticket in its range, or the refusal of that word; and a row of numbers. `at` is the number of a word, from 1.
+ghost use mathlib.Core.Path.{_≡_};
+ghost use Prim.Native.Nat.{_<_, _≤_};
+ghost use lib.IntN.{pos};
+ghost use lib.ListN.{length, take};
+ghost use Rattle.model.specs.Words.{signed};
+ghost use Rattle.model.specs.Grammar.{count, natural, number, loopNumber, times, between};
+ghost use Rattle.reading.specs.Refusals.{Reached, Reads};
+ghost use Rattle.reading.specs.Words.{ReadBits, ReadNatural, ReadNumber};
+
+// Document 01's numbers 1 to 6. The place is a word, of LoopOutOfNest a step.
+pub enum Refusal {
+    Truncated(usize),
+    TrailingBytes(usize),
+    CountOutOfRange(usize),
+    WordOutOfRange(usize),
+    TooManyElements(usize),
+    LoopOutOfNest(usize),
+}
+
+// Beside a value that holds an array.
+pub enum Status {
+    Fine,
+    Refused(Refusal),
+}
+
+// A word as its 16 bits.
+pub enum Bits {
+    Value(u16),
+    Torn,
+}
+
+pub enum Natural {
+    Value(usize),
+    Refused(Refusal),
+}
+
+pub enum Number {
+    Value(i64),
+    Refused(Refusal),
+}
+
+fn wide(x: u8) -> u16
+    ensures { λ r. ⌜ (r ≡ x) × (r < 256) ⌝ }
+{
+    x as u16
+}
+
+pub fn bits_at(s: &[u8], at: usize) -> Bits
+    requires { ⌜ Reached (now s) at ⌝ }
+    ensures { λ r. ⌜ ReadBits (now (s .entry)) at r ⌝ }
+{
+    let low = (at - 1) * 2;
+    if low + 1 < s.len() {
+        Bits::Value(wide(s[low]) + 256 * wide(s[low + 1]))
+    } else {
+        Bits::Torn
+    }
+}
+
+// Two's complement.
+pub fn signed_of(v: u16) -> i64
+    ensures { λ r. ⌜ r ≡ signed v ⌝ }
+{
+    if v < 32768 {
+        v as i64
+    } else {
+        (v as i64) - 65536
+    }
+}
+
+// A count from lo to hi.
+pub fn read_count(s: &[u8], at: usize, lo: usize, hi: usize) -> Natural
+    requires { ⌜ Reached (now s) at × (hi < 32768) ⌝ }
+    ensures { λ r. ⌜ ReadNatural (count lo hi (now (s .entry)) at) lo hi (now (s .entry)) at r ⌝ }
+{
+    match bits_at(s, at) {
+        Bits::Value(v) => {
+            let n = v as usize;
+            if n < lo {
+                return Natural::Refused(Refusal::CountOutOfRange(at));
+            }
+            if hi < n {
+                return Natural::Refused(Refusal::CountOutOfRange(at));
+            }
+            Natural::Value(n)
+        }
+        Bits::Torn => Natural::Refused(Refusal::Truncated(at)),
+    }
+}
+
+// Another number from lo to hi, none below 0.
+pub fn read_natural(s: &[u8], at: usize, lo: usize, hi: usize) -> Natural
+    requires { ⌜ Reached (now s) at × (hi < 32768) ⌝ }
+    ensures { λ r. ⌜ ReadNatural (natural lo hi (now (s .entry)) at) lo hi (now (s .entry)) at r ⌝ }
+{
+    match bits_at(s, at) {
+        Bits::Value(v) => {
+            let n = v as usize;
+            if n < lo {
+                return Natural::Refused(Refusal::WordOutOfRange(at));
+            }
+            if hi < n {
+                return Natural::Refused(Refusal::WordOutOfRange(at));
+            }
+            Natural::Value(n)
+        }
+        Bits::Torn => Natural::Refused(Refusal::Truncated(at)),
+    }
+}
+
+// The number of a loop, from lo to hi, named by a step.
+pub fn read_loop_number(s: &[u8], at: usize, step: usize, lo: usize, hi: usize) -> Natural
+    requires { ⌜ Reached (now s) at × (hi < 32768) ⌝ }
+    ensures { λ r. ⌜ ReadNatural (loopNumber step (between (pos lo) (pos hi)) (now (s .entry)) at) lo hi (now (s .entry)) at r ⌝ }
+{
+    match bits_at(s, at) {
+        Bits::Value(v) => {
+            if v == 32768 {
+                return Natural::Refused(Refusal::WordOutOfRange(at));
+            }
+            let n = v as usize;
+            if n < lo {
+                return Natural::Refused(Refusal::LoopOutOfNest(step));
+            }
+            if hi < n {
+                return Natural::Refused(Refusal::LoopOutOfNest(step));
+            }
+            Natural::Value(n)
+        }
+        Bits::Torn => Natural::Refused(Refusal::Truncated(at)),
+    }
+}
+
+// Any number but −32768.
+pub fn read_number(s: &[u8], at: usize) -> Number
+    requires { ⌜ Reached (now s) at ⌝ }
+    ensures { λ r. ⌜ ReadNumber (now (s .entry)) at r ⌝ }
+{
+    match bits_at(s, at) {
+        Bits::Value(v) => {
+            if v == 32768 {
+                return Number::Refused(Refusal::WordOutOfRange(at));
+            }
+            Number::Value(signed_of(v))
+        }
+        Bits::Torn => Number::Refused(Refusal::Truncated(at)),
+    }
+}
+
+// One number for each loop, at most six.
+pub struct RowRead {
+    pub status: Status,
+    pub row: [i64; 6],
+    pub next: usize,
+}
+
+pub fn read_row(s: &[u8], at: usize, n: usize) -> RowRead
+    requires { ⌜ Reached (now s) at × (n ≤ 6) ⌝ }
+    ensures { λ r. ⌜ Reads (times n number (now (s .entry)) at) (now (s .entry)) (r .status) (take n (r .row)) (r .next) × (length (r .row) ≡ 6) ⌝ }
+{
+    let mut row = [0i64; 6];
+    let mut next = at;
+    let mut k = 0;
+    while k < n {
+        match read_number(s, next) {
+            Number::Value(x) => {
+                row[k] = x;
+                next += 1;
+                k += 1;
+            }
+            Number::Refused(r) => {
+                return RowRead {
+                    status: Status::Refused(r),
+                    row: row,
+                    next: next,
+                };
+            }
+        }
+    }
+    RowRead {
+        status: Status::Fine,
+        row: row,
+        next: next,
+    }
+}
