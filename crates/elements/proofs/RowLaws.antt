@@ -1,0 +1,74 @@
+-- The rows of stored points, one at a time: what is lent of them, and a test of all that was made of each.
+use mathlib.Core.Path.{_≡_, refl, sym, _∙_, ap, ap₂, subst}
+use mathlib.Core.Bool.{Bool, true, false, _||_}
+use mathlib.Core.List.{List, [], _∷_, _++_}
+use Prim.Native.Nat.{ℕ, suc, _+_, _*_, _-_, _≤_, _<_}
+use native.Mathlib.Omega.{arith}
+use native.Mathlib.Nat.{mul-le-mul}
+use native.Mathlib.Numerals.{add-one}
+use lib.IntN.{ℤ}
+use lib.ListN.{length, getD, take, drop, length-drop}
+use lib.Seq.{length-take-le}
+use Rattle.lists.specs.Membership.{Mem, All}
+use Rattle.lists.specs.Tests.{any}
+use Rattle.lists.specs.Parts.{rows}
+use Rattle.lists.proofs.MembershipLaws.{getD-mem}
+use Rattle.lists.proofs.TestLaws.{some-any, any-join, true-T, T-true}
+use Rattle.lists.proofs.PartLaws.{rows-suc, rows-getD, length-rows, row-fits}
+use Rattle.integers.specs.Affine.{Within}
+use Rattle.model.specs.Bounds.{subscriptAt}
+use Rattle.elements.specs.Layout.{formAt}
+use Rattle.elements.specs.Search.{off, straysAt, SubscriptIn, RowsIn, StrayIn}
+
+module _ (points : List ℤ) (depth count : ℕ) (p : RowsIn points depth count) (i at : ℕ) (h : i < count) (e : at ≡ i * depth) where
+  pub row-ends : at + depth ≤ length points
+  row-ends = let f = row-fits depth i count h in let r = p .room in omega arith
+
+  pub row-small : at + depth ≤ 24576
+  row-small = let f = row-fits depth i count h in omega (arith, mul-le-mul {n₁ = count} {m₁ = depth} {n₂ = 4096} {m₂ = 6} (p .bound) (p .few))
+
+  -- the part that is lent is row i
+  abbrev pub lent : List ℤ
+  lent = take (at + depth - at) (drop at points)
+
+  pub row-is : lent ≡ getD (rows depth count points) i []
+  row-is = let d : at + depth - at ≡ depth = omega arith in ap₂ (λ (k l : ℕ). take k (drop l points)) d e ∙ sym (rows-getD depth count points i [] h)
+
+  pub row-length : length lent ≡ depth
+  row-length = let d : at + depth - at ≡ depth = omega arith in let f = row-ends in
+      ap (λ (k : ℕ). length (take k (drop at points))) d ∙ length-take-le depth (drop at points) (let l = length-drop at points in omega arith)
+
+  pub row-mem : Mem (getD (rows depth count points) i []) (rows depth count points)
+  row-mem = getD-mem (rows depth count points) i [] (let l = length-rows depth count points in omega arith)
+
+  pub row-near : Within 100000 lent
+  row-near = subst (Within 100000) (sym row-is) (p .near (getD (rows depth count points) i []) row-mem)
+
+  pub next-rows : rows depth (i + 1) points ≡ rows depth i points ++ (lent ∷ [])
+  next-rows = let d : at + depth - at ≡ depth = omega arith in rw (add-one i) (rows-suc depth i points)
+      ∙ ap₂ (λ (k l : ℕ). rows depth i points ++ (take k (drop l points) ∷ [])) (sym d) (sym e)
+
+-- ---- whether some point's subscript leaves its extent
+
+module _ (w : List ℤ) (j extent : ℕ) (points : List ℤ) (depth count : ℕ) (p : StrayIn w j extent points depth count) (i at : ℕ) (h : i < count) (e : at ≡ i * depth) where
+  pub stray-in : SubscriptIn w j (take (at + depth - at) (drop at points)) × (extent ≤ 4096)
+  stray-in = let l = row-length points depth count (p .stored) i at h e in let f = p .stored .few in (
+    record { inside = p .inside; room = p .long; small = p .small; few = omega arith; near = row-near points depth count (p .stored) i at h e },
+    p .extents,
+  )
+
+  module _ (r : Bool) (g : r ≡ off extent (subscriptAt (take (at + depth - at) (drop at points)) (formAt w (length (take (at + depth - at) (drop at points))) j))) where
+    here : r ≡ off extent (subscriptAt (take (at + depth - at) (drop at points)) (formAt w depth j))
+    here = g ∙ ap (λ (n : ℕ). off extent (subscriptAt (take (at + depth - at) (drop at points)) (formAt w n j))) (row-length points depth count (p .stored) i at h e)
+
+    pub stray-found : r ≡ true → true ≡ straysAt w depth j extent (rows depth count points)
+    unfolding straysAt
+    stray-found t = sym (T-true (straysAt w depth j extent (rows depth count points)) (some-any (λ q. off extent (subscriptAt q (formAt w depth j))) (rows depth count points)
+        (row-mem points depth count (p .stored) i at h e)
+        (true-T (off extent (subscriptAt (getD (rows depth count points) i []) (formAt w depth j))) (ap (λ (q : List ℤ). off extent (subscriptAt q (formAt w depth j))) (sym (row-is points depth count (p .stored) i at h e)) ∙ sym here ∙ t))))
+
+    pub stray-not : r ≡ false → straysAt w depth j extent (rows depth i points) ≡ false → straysAt w depth j extent (rows depth (i + 1) points) ≡ false
+    unfolding straysAt any
+    stray-not t f = ap (straysAt w depth j extent) (next-rows points depth count (p .stored) i at h e)
+        ∙ any-join (λ q. off extent (subscriptAt q (formAt w depth j))) (rows depth i points) (take (at + depth - at) (drop at points) ∷ [])
+        ∙ rw (f, ← here, t)

@@ -1,0 +1,32 @@
+-- A real nest meets `NestOk`: six loops with 1 for every word, one limit a side.
+use mathlib.Core.Path.{_≡_, sym, subst}
+use Prim.Native.Nat.{ℕ, zero, suc, _+_, _*_, _≤_, _<_}
+use native.Mathlib.Omega.{arith}
+use lib.IntN.{ℤ, pos}
+use lib.Signed.{_<ℤ_}
+use lib.ListN.{getD, replicate, length-replicate, getD-replicate}
+use Rattle.integers.specs.Affine.{Within}
+use Rattle.integers.proofs.RingLaws.{zarith}
+use Rattle.space.specs.Flat.{NestOk, Positive}
+
+within-replicate : (n m : ℕ) → 1 ≤ m → Within m (replicate n (pos 1))
+within-replicate zero m h = tt
+within-replicate (suc n) m h = (omega arith, within-replicate n m h)
+
+one : (i : ℕ) → i < 12 → getD {A = ℕ} (replicate 12 1) i 0 ≡ 1
+one i h = getD-replicate {A = ℕ} 12 i 1 0 h
+
+positive : (j n : ℕ) → j + n ≤ 192 → Positive (replicate 1536 (pos 1)) j n
+positive j n g i h = let e = getD-replicate 1536 ((j + i) * 8) (pos 1) (pos 0) (omega arith) in subst (λ (z : ℤ). pos 0 <ℤ z) (sym e) (omega zarith)
+
+pub ones-ok : NestOk (replicate 1536 (pos 1)) (replicate 12 1) 6
+ones-ok = record {
+  words = length-replicate 1536 (pos 1);
+  counts = length-replicate {A = ℕ} 12 1;
+  shallow = omega arith;
+  small = within-replicate 1536 32767 (omega arith);
+  lower-count = λ k h. let e = one (k * 2) (omega arith) in (omega arith, omega arith);
+  upper-count = λ k h. let e = one (k * 2 + 1) (omega arith) in (omega arith, omega arith);
+  lower-positive = λ k h. let e = one (k * 2) (omega arith) in positive (k * 32) (getD (replicate 12 1) (k * 2) 0) (omega arith);
+  upper-positive = λ k h. let e = one (k * 2 + 1) (omega arith) in positive (k * 32 + 16) (getD (replicate 12 1) (k * 2 + 1) 0) (omega arith);
+}

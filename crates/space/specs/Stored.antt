@@ -1,0 +1,42 @@
+-- Points stored row by row: what the functions that store them ask and give.
+use mathlib.Core.Path.{_≡_}
+use mathlib.Core.List.{List, flatMap}
+use Prim.Native.Nat.{ℕ, _+_, _*_, _≤_}
+use lib.IntN.{ℤ}
+use lib.ListN.{length, take}
+use Rattle.lists.specs.Parts.{rows, put}
+use Rattle.integers.specs.Affine.{Within}
+use Rattle.model.specs.Answer.{accepted}
+use Rattle.model.specs.Points.{iterations}
+use Rattle.model.specs.Bounds.{space}
+use Rattle.space.specs.Flat.{NestOk, loopsFrom}
+use Rattle.space.specs.Tallies.{through, Near}
+
+-- the indices of all points, one point after the other
+abbrev pub joined : List (List ℤ) → List ℤ
+joined ps = flatMap (λ p. p) ps
+
+-- k indices of the point stand, and `left` loops are to go; there is room from place `at` on
+pub record CollectIn (s : List ℤ) (c : List ℕ) (k left : ℕ) (point : List ℤ) (room at : ℕ) : Type 0 where
+  pub nest : NestOk s c (k + left)
+  pub small : Within 100000 (take k point)
+  pub near : Near 100000 (loopsFrom s c k left) (take k point)
+  pub fits : at + length (joined (through (loopsFrom s c k left) (take k point))) ≤ room
+
+pub record Collected (s : List ℤ) (c : List ℕ) (k left : ℕ) (point o e : List ℤ) (at r : ℕ) : Type 0 where
+  pub place : r ≡ at + length (joined (through (loopsFrom s c k left) (take k point)))
+  pub wrote : e ≡ put o at (joined (through (loopsFrom s c k left) (take k point)))
+
+-- a nest that keeps the bounds of 7 and 8, and room for 4096 points
+pub record PointsIn (s : List ℤ) (c : List ℕ) (depth room : ℕ) : Type 0 where
+  pub nest : NestOk s c depth
+  pub some : 1 ≤ depth
+  pub admitted : space (loopsFrom s c 0 depth) ≡ accepted tt
+  pub fits : 4096 * depth ≤ room
+
+pub record Listed (s : List ℤ) (c : List ℕ) (depth : ℕ) (o e : List ℤ) (r : ℕ) : Type 0 where
+  pub count : r ≡ length (iterations (loopsFrom s c 0 depth))
+  pub few : r ≤ 4096
+  pub points : rows depth r e ≡ iterations (loopsFrom s c 0 depth)
+  -- what stands after the points stays
+  pub wrote : e ≡ put o 0 (joined (iterations (loopsFrom s c 0 depth)))
