@@ -1,0 +1,2 @@
+-- What the crate's contracts speak of: flat slices with a nest laid over them, and what may be laid.
+pub mod Limits
