@@ -10,10 +10,11 @@ use Rattle.model.specs.Answer.{accepted, refused}
 use Rattle.model.specs.Grammar.{natural, times, done, extents, subscript, access}
 use Rattle.reading.proofs.ReaderLaws.{after-value, after-refusal}
 use Rattle.body.specs.Arrays.{shapeOf, arraysOf, ShapeIn, ArraysIn}
-use Rattle.body.specs.Statements.{subscriptOf, accessOf, SubscriptIn, AccessIn}
+use Rattle.body.specs.Statements.{subscriptOf, accessOf, SubscriptIn, AccessIn, AccessesIn}
 use Rattle.body.specs.declared.Shape.{Shape}
 use Rattle.body.specs.declared.Arrays.{Arrays}
 use Rattle.body.specs.declared.Subscript.{Subscript}
+use Rattle.body.specs.declared.Access.{Access}
 
 getD-map : {A B : Type 0} (f : A → B) (l : List A) (i : ℕ) (d : A) (e : B) → i < length l → getD (map f l) i e ≡ f (getD l i d)
 getD-map f [] i d e h = absurd (omega arith)
@@ -67,3 +68,6 @@ module _ (n : ℕ) (A : Arrays) (h : ArraysIn A) (b : List ℕ) (k : ℕ) where
     one-access l j f =
         after-value (natural 1 (length (arraysOf A))) _ b k v (k + 1) (rw (array-count A h) e)
         ∙ after-value (times (length (extents (arraysOf A) (v - 1))) (subscript n)) _ b (k + 1) (map (subscriptOf n) (take d l)) j (rw (sym s) f)
+
+pub empty-accesses : (l : List Access) → length l ≡ 4 → AccessesIn 0 l
+empty-accesses l h = record { few = omega arith; room = h; each = all-nil AccessIn }

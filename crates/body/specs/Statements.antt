@@ -5,7 +5,7 @@ use Prim.Native.Nat.{ℕ, _≤_}
 use lib.ListN.{length, take}
 use Rattle.lists.specs.Membership.{All}
 use Rattle.model.specs.Ticket as Model
-use Rattle.model.specs.Grammar.{subscript, access, statement, statements}
+use Rattle.model.specs.Grammar.{Reader, _>>=_, count, times, subscript, access, statement, statements}
 use Rattle.reading.specs.Refusals.{Reads}
 use Rattle.body.specs.Arrays.{arraysOf}
 use Rattle.body.specs.declared.Arrays.{Arrays}
@@ -15,6 +15,9 @@ use Rattle.body.specs.declared.Statement.{Statement}
 use Rattle.body.specs.declared.Body.{Body}
 use Rattle.body.specs.declared.SubscriptRead.{SubscriptRead}
 use Rattle.body.specs.declared.AccessRead.{AccessRead}
+use Rattle.body.specs.declared.AccessesRead.{AccessesRead}
+use Rattle.body.specs.declared.StatementRead.{StatementRead}
+use Rattle.body.specs.declared.BodyRead.{BodyRead}
 
 -- n is the number of loops
 
@@ -41,11 +44,14 @@ pub record AccessIn (a : Access) : Type 0 where
   pub room : length (a .subscripts) ≡ 3
   pub each : All SubscriptIn (take (a .dimensions) (a .subscripts))
 
+pub record AccessesIn (n : ℕ) (l : List Access) : Type 0 where
+  pub few : n ≤ 4
+  pub room : length l ≡ 4
+  pub each : All AccessIn (take n l)
+
 pub record StatementIn (s : Statement) : Type 0 where
   pub write : AccessIn (s .write)
-  pub few : s .reads ≤ 4
-  pub room : length (s .read) ≡ 4
-  pub each : All AccessIn (take (s .reads) (s .read))
+  pub read : AccessesIn (s .reads) (s .read)
 
 pub record BodyIn (B : Body) : Type 0 where
   pub few : B .count ≤ 4
@@ -61,3 +67,21 @@ pub record ReadsSubscript (b : List ℕ) (k n : ℕ) (r : SubscriptRead) : Type 
 pub record ReadsAccess (b : List ℕ) (k n : ℕ) (A : Arrays) (r : AccessRead) : Type 0 where
   pub reads : Reads (access n (arraysOf A) b k) b (r .status) (accessOf n (r .access)) (r .next)
   pub within : AccessIn (r .access)
+
+-- a count from lo to 4 and as many accesses
+unfoldable pub accesses : ℕ → ℕ → List (List ℕ) → Reader (List Model.Access)
+accesses lo n as′ = do
+  m ← count lo 4
+  times m (access n as′)
+
+pub record ReadsAccesses (b : List ℕ) (k lo n : ℕ) (A : Arrays) (r : AccessesRead) : Type 0 where
+  pub reads : Reads (accesses lo n (arraysOf A) b k) b (r .status) (map (accessOf n) (take (r .count) (r .accesses))) (r .next)
+  pub within : AccessesIn (r .count) (r .accesses)
+
+pub record ReadsStatement (b : List ℕ) (k n : ℕ) (A : Arrays) (r : StatementRead) : Type 0 where
+  pub reads : Reads (statement n (arraysOf A) b k) b (r .status) (statementOf n (r .statement)) (r .next)
+  pub within : StatementIn (r .statement)
+
+pub record ReadsBody (b : List ℕ) (k n : ℕ) (A : Arrays) (r : BodyRead) : Type 0 where
+  pub reads : Reads (statements n (arraysOf A) b k) b (r .status) (statementsOf n (r .body)) (r .next)
+  pub within : BodyIn (r .body)

@@ -1,12 +1,14 @@
 // The arrays and the statements of a ticket. `at` is the number of a word, from 1.
 ghost use mathlib.Core.Path.{_≡_};
 ghost use Prim.Native.Nat.{_<_, _≤_};
+ghost use mathlib.Core.Bool.{cond};
+ghost use lib.Dec.{eqb};
 ghost use lib.ListN.{length};
 ghost use Rattle.reading.specs.Refusals.{Reached};
 ghost use Rattle.reading.specs.declared.Status.the-variants.{Refused};
 ghost use Rattle.model.specs.Grammar.{extents};
 ghost use Rattle.body.specs.Arrays.{arraysOf, ArraysIn, ReadsShape, ReadsArrays};
-ghost use Rattle.body.specs.Statements.{SubscriptIn, AccessIn, ReadsSubscript, ReadsAccess};
+ghost use Rattle.body.specs.Statements.{SubscriptIn, AccessIn, AccessesIn, StatementIn, BodyIn, ReadsSubscript, ReadsAccess, ReadsAccesses, ReadsStatement, ReadsBody};
 
 use reading::{Natural, Number, Refusal, Status};
 
@@ -320,6 +322,196 @@ pub fn read_access(s: &[u8], at: usize, depth: usize, arrays: Arrays) -> AccessR
             array: array,
             dimensions: dimensions,
             subscripts: subscripts,
+        },
+        next: next,
+    }
+}
+
+fn no_accesses() -> [Access; 4]
+    ensures { λ r. ⌜ length r ≡ 4 ⌝ }
+{
+    let blank = blank_access();
+    [blank; 4]
+}
+
+fn none_read(r: Refusal, at: usize) -> AccessesRead
+    ensures { λ q. ⌜ (q .status ≡ Refused r) × (q .next ≡ at) × AccessesIn (q .count) (q .accesses) ⌝ }
+{
+    let blank = no_accesses();
+    AccessesRead {
+        status: Status::Refused(r),
+        count: 0,
+        accesses: blank,
+        next: at,
+    }
+}
+
+// A count from `least` to 4 and as many accesses.
+pub fn read_accesses(s: &[u8], at: usize, least: usize, depth: usize, arrays: Arrays) -> AccessesRead
+    requires { ⌜ Reached (now s) at × (depth ≤ 6) × ArraysIn arrays ⌝ }
+    ensures { λ r. ⌜ ReadsAccesses (now (s .entry)) at least depth arrays r ⌝ }
+{
+    let count = match reading::read_count(s, at, least, 4) {
+        Natural::Value(v) => v,
+        Natural::Refused(r) => return none_read(r, at),
+    };
+    let mut accesses = no_accesses();
+    let mut next = at + 1;
+    let mut k = 0;
+    while k < count {
+        let one = read_access(s, next, depth, arrays);
+        let status = one.status;
+        match status {
+            Status::Fine => {
+                let access = one.access;
+                accesses[k] = access;
+                next = one.next;
+                k += 1;
+            }
+            Status::Refused(r) => return none_read(r, at),
+        }
+    }
+    AccessesRead {
+        status: Status::Fine,
+        count: count,
+        accesses: accesses,
+        next: next,
+    }
+}
+
+fn blank_statement() -> Statement
+    ensures { λ r. ⌜ StatementIn r ⌝ }
+{
+    let write = blank_access();
+    let read = no_accesses();
+    Statement {
+        rule: 0,
+        constant: 0,
+        write: write,
+        reads: 0,
+        read: read,
+    }
+}
+
+fn no_statement(r: Refusal, at: usize) -> StatementRead
+    ensures { λ q. ⌜ (q .status ≡ Refused r) × (q .next ≡ at) × StatementIn (q .statement) ⌝ }
+{
+    let blank = blank_statement();
+    StatementRead {
+        status: Status::Refused(r),
+        statement: blank,
+        next: at,
+    }
+}
+
+// Under rule 3 the constant must be 0, and there must be a read.
+fn most_constant(rule: usize) -> usize
+    ensures { λ r. ⌜ (r ≡ cond (eqb rule 3) 0 32767) × (r < 32768) ⌝ }
+{
+    if rule == 3 { 0 } else { 32767 }
+}
+
+fn least_reads(rule: usize) -> usize
+    ensures { λ r. ⌜ r ≡ cond (eqb rule 3) 1 0 ⌝ }
+{
+    if rule == 3 { 1 } else { 0 }
+}
+
+// Rule, constant, the access written, and those read.
+pub fn read_statement(s: &[u8], at: usize, depth: usize, arrays: Arrays) -> StatementRead
+    requires { ⌜ Reached (now s) at × (depth ≤ 6) × ArraysIn arrays ⌝ }
+    ensures { λ r. ⌜ ReadsStatement (now (s .entry)) at depth arrays r ⌝ }
+{
+    let rule = match reading::read_natural(s, at, 0, 3) {
+        Natural::Value(v) => v,
+        Natural::Refused(r) => return no_statement(r, at),
+    };
+    let constant = match reading::read_natural(s, at + 1, 0, most_constant(rule)) {
+        Natural::Value(v) => v,
+        Natural::Refused(r) => return no_statement(r, at),
+    };
+    let first = read_access(s, at + 2, depth, arrays);
+    let status = first.status;
+    match status {
+        Status::Fine => {}
+        Status::Refused(r) => return no_statement(r, at),
+    }
+    let middle = first.next;
+    let others = read_accesses(s, middle, least_reads(rule), depth, arrays);
+    let status = others.status;
+    match status {
+        Status::Fine => {
+            let write = first.access;
+            let reads = others.count;
+            let read = others.accesses;
+            let next = others.next;
+            StatementRead {
+                status: Status::Fine,
+                statement: Statement {
+                    rule: rule,
+                    constant: constant,
+                    write: write,
+                    reads: reads,
+                    read: read,
+                },
+                next: next,
+            }
+        }
+        Status::Refused(r) => no_statement(r, at),
+    }
+}
+
+fn no_statements() -> [Statement; 4]
+    ensures { λ r. ⌜ length r ≡ 4 ⌝ }
+{
+    let blank = blank_statement();
+    [blank; 4]
+}
+
+fn no_body(r: Refusal, at: usize) -> BodyRead
+    ensures { λ q. ⌜ (q .status ≡ Refused r) × (q .next ≡ at) × BodyIn (q .body) ⌝ }
+{
+    let blank = no_statements();
+    BodyRead {
+        status: Status::Refused(r),
+        body: Body {
+            count: 0,
+            statements: blank,
+        },
+        next: at,
+    }
+}
+
+// The section: a count from 1 to 4 and as many statements, in body order.
+pub fn read_body(s: &[u8], at: usize, depth: usize, arrays: Arrays) -> BodyRead
+    requires { ⌜ Reached (now s) at × (depth ≤ 6) × ArraysIn arrays ⌝ }
+    ensures { λ r. ⌜ ReadsBody (now (s .entry)) at depth arrays r ⌝ }
+{
+    let count = match reading::read_count(s, at, 1, 4) {
+        Natural::Value(v) => v,
+        Natural::Refused(r) => return no_body(r, at),
+    };
+    let mut all = no_statements();
+    let mut next = at + 1;
+    let mut k = 0;
+    while k < count {
+        let one = read_statement(s, next, depth, arrays);
+        let status = one.status;
+        match status {
+            Status::Fine => {
+                let statement = one.statement;
+                all[k] = statement;
+                next = one.next;
+                k += 1;
+            }
+            Status::Refused(r) => return no_body(r, at),
+        }
+    }
+    BodyRead {
+        status: Status::Fine,
+        body: Body {
+            count: count,
+            statements: all,
         },
         next: next,
     }

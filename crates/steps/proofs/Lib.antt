@@ -1,0 +1,2 @@
+-- Laws of the steps that the code's proofs cite.
+pub mod StepLaws

@@ -1,0 +1,103 @@
+-- The steps that the structs hold, and what reading one gives.
+use mathlib.Core.Path.{_≡_}
+use mathlib.Core.Bool.{Bool, true, false, cond, not}
+use mathlib.Core.List.{List, [], _∷_, map}
+use Prim.Native.Nat.{ℕ, suc, _+_, _≤_}
+use lib.Dec.{ltb}
+use lib.IntN.{pos, negsuc}
+use lib.ListN.{length, take}
+use Rattle.integers.specs.Sign.{eqZ}
+use Rattle.model.specs.Answer.{Answer, accepted}
+use Rattle.model.specs.Ticket as Model
+use Rattle.model.specs.Grammar as Grammar
+use Rattle.model.specs.Grammar.{Read, Reader, _>>=_, _>>_}
+use Rattle.reading.specs.Refusals.{refusal, Reached, Reads}
+use Rattle.steps.specs.declared.Step.{Step}
+use Rattle.steps.specs.declared.Step.the-variants.{Swap, Reverse, Lean, Strip}
+use Rattle.steps.specs.declared.Numbered.{Numbered}
+use Rattle.steps.specs.declared.Steps.{Steps}
+use Rattle.steps.specs.declared.StepsRead.{StepsRead}
+use Rattle.steps.specs.declared.StepRead.{StepRead}
+use Rattle.steps.specs.declared.StepRead.the-variants as StepRead
+use Rattle.steps.specs.declared.Direction.{Direction}
+use Rattle.steps.specs.declared.Direction.the-variants as Direction
+
+abbrev pub stepOf : Step → Model.Step
+stepOf (Swap e) = Model.exchange (e .outer)
+stepOf (Reverse e) = Model.reversal (e .target)
+stepOf (Lean e) = Model.skew (e .outer) (e .distance) (e .forward)
+stepOf (Strip e) = Model.section (e .target) (e .width)
+
+-- ---- one step, of three words after its kind
+
+abbrev pub stepAnswer : ℕ → StepRead → Answer (Read Model.Step)
+stepAnswer k (StepRead.Taken x) = accepted (record { value = stepOf x; next = k + 3 })
+stepAnswer k (StepRead.Refused r) = refusal r
+
+-- the words are there, and the nest has at most 6 loops after the step
+pub record StepIn (b : List ℕ) (k depth : ℕ) (x : Step) : Type 0 where
+  pub reached : Reached b (k + 3)
+  pub few : Grammar.depthAfter (stepOf x) depth ≤ 6
+
+abbrev pub OnStep : List ℕ → ℕ → ℕ → StepRead → Type 0
+OnStep b k depth (StepRead.Taken x) = StepIn b k depth x
+OnStep b k depth (StepRead.Refused r) = Unit {0}
+
+-- m is the model's answer; k is the word after the kind
+pub record ReadsStep (m : Answer (Read Model.Step)) (b : List ℕ) (k depth : ℕ) (r : StepRead) : Type 0 where
+  pub same : stepAnswer k r ≡ m
+  pub known : OnStep b k depth r
+
+-- the last loop that an exchange with loop a may name
+abbrev pub nextLoop : ℕ → ℕ → ℕ
+nextLoop a m = cond (ltb a m) (a + 1) a
+
+-- the last loop that a section may name
+abbrev pub sectionable : ℕ → ℕ
+sectionable m = cond (ltb m 6) m 0
+
+-- the word c of a skew: by 1 (true) or by −1
+unfoldable pub direction : Reader Bool
+direction = do
+  c ← Grammar.within (negsuc 0) (pos 1)
+  Grammar.must (not (eqZ c (pos 0))) 4
+  Grammar.done (eqZ c (pos 1))
+
+abbrev pub directionAnswer : ℕ → Direction → Answer (Read Bool)
+directionAnswer k Direction.Forward = accepted (record { value = true; next = k + 1 })
+directionAnswer k Direction.Backward = accepted (record { value = false; next = k + 1 })
+directionAnswer k (Direction.Refused r) = refusal r
+
+abbrev pub OnDirection : List ℕ → ℕ → Direction → Type 0
+OnDirection b k Direction.Forward = Reached b (k + 1)
+OnDirection b k Direction.Backward = Reached b (k + 1)
+OnDirection b k (Direction.Refused r) = Unit {0}
+
+pub record ReadsDirection (b : List ℕ) (k : ℕ) (r : Direction) : Type 0 where
+  pub same : directionAnswer k r ≡ direction b k
+  pub known : OnDirection b k r
+
+-- the kind and what follows it
+unfoldable pub oneStep : ℕ → ℕ → Reader Model.Step
+oneStep k m = do
+  kind ← Grammar.natural 1 4
+  Grammar.stepOf kind k m
+
+-- ---- the section
+
+unfoldable pub stepsOf : Steps → List Model.Step
+stepsOf S = map (λ (x : Numbered). stepOf (x .step)) (take (S .count) (S .steps))
+
+-- each with its number, from k on
+abbrev pub NumberedFrom : ℕ → List Numbered → Type 0
+NumberedFrom k [] = Unit {0}
+NumberedFrom k (x ∷ l) = (x .number ≡ k) × NumberedFrom (suc k) l
+
+pub record StepsIn (S : Steps) : Type 0 where
+  pub few : S .count ≤ 8
+  pub room : length (S .steps) ≡ 8
+  pub numbered : NumberedFrom 1 (take (S .count) (S .steps))
+
+pub record ReadsSteps (b : List ℕ) (k depth : ℕ) (r : StepsRead) : Type 0 where
+  pub reads : Reads (Grammar.steps depth b k) b (r .status) (stepsOf (r .steps)) (r .next)
+  pub within : StepsIn (r .steps)

@@ -1,0 +1,276 @@
+// The steps section of a ticket. `at` is the number of a word, from 1.
+ghost use mathlib.Core.Path.{_≡_};
+ghost use Prim.Native.Nat.{_+_, _≤_};
+ghost use Rattle.model.specs.Grammar as Grammar;
+ghost use Rattle.reading.specs.Refusals.{Reached};
+ghost use Rattle.steps.specs.Steps.{ReadsStep, ReadsDirection, ReadsSteps, StepsIn, nextLoop, sectionable, oneStep, stepOf};
+ghost use Rattle.reading.specs.declared.Status.the-variants.{Refused};
+ghost use lib.ListN.{length};
+
+use reading::{Bits, Natural, Refusal, Status};
+
+// Loops are counted from 0.
+pub struct Exchange {
+    pub outer: usize,
+}
+
+pub struct Reversal {
+    pub target: usize,
+}
+
+// By loop `outer` the loop `distance` + 1 places inside it.
+pub struct Skew {
+    pub outer: usize,
+    pub distance: usize,
+    pub forward: bool,
+}
+
+pub struct Section {
+    pub target: usize,
+    pub width: usize,
+}
+
+pub enum Step {
+    Swap(Exchange),
+    Reverse(Reversal),
+    Lean(Skew),
+    Strip(Section),
+}
+
+// A step with its number, from 1.
+pub struct Numbered {
+    pub number: usize,
+    pub step: Step,
+}
+
+pub struct Steps {
+    pub count: usize,
+    pub steps: [Numbered; 8],
+}
+
+pub enum StepRead {
+    Taken(Step),
+    Refused(Refusal),
+}
+
+// Each step is read after its kind: number is the step's, depth that of the nest when it is reached.
+pub fn read_exchange(s: &[u8], at: usize, number: usize, depth: usize) -> StepRead
+    requires { ⌜ Reached (now s) at × (depth ≤ 6) ⌝ }
+    ensures { λ r. ⌜ ReadsStep (Grammar.exchangeStep number depth (now (s .entry)) at) (now (s .entry)) at depth r ⌝ }
+{
+    let a = match reading::read_loop_number(s, at, number, 1, depth) {
+        Natural::Value(v) => v,
+        Natural::Refused(r) => return StepRead::Refused(r),
+    };
+    match reading::read_loop_number(s, at + 1, number, a + 1, inner_most(a, depth)) {
+        Natural::Value(_) => {}
+        Natural::Refused(r) => return StepRead::Refused(r),
+    }
+    match reading::read_natural(s, at + 2, 0, 0) {
+        Natural::Value(_) => StepRead::Taken(Step::Swap(Exchange { outer: a - 1 })),
+        Natural::Refused(r) => StepRead::Refused(r),
+    }
+}
+
+// The next loop, or none inside the last.
+fn inner_most(a: usize, depth: usize) -> usize
+    requires { ⌜ a ≤ depth × (depth ≤ 6) ⌝ }
+    ensures { λ r. ⌜ (r ≡ nextLoop a depth) × (r ≤ 6) ⌝ }
+{
+    if a < depth { a + 1 } else { a }
+}
+
+pub fn read_reversal(s: &[u8], at: usize, number: usize, depth: usize) -> StepRead
+    requires { ⌜ Reached (now s) at × (depth ≤ 6) ⌝ }
+    ensures { λ r. ⌜ ReadsStep (Grammar.reversalStep number depth (now (s .entry)) at) (now (s .entry)) at depth r ⌝ }
+{
+    let a = match reading::read_loop_number(s, at, number, 1, depth) {
+        Natural::Value(v) => v,
+        Natural::Refused(r) => return StepRead::Refused(r),
+    };
+    match reading::read_natural(s, at + 1, 0, 0) {
+        Natural::Value(_) => {}
+        Natural::Refused(r) => return StepRead::Refused(r),
+    }
+    match reading::read_natural(s, at + 2, 0, 0) {
+        Natural::Value(_) => StepRead::Taken(Step::Reverse(Reversal { target: a - 1 })),
+        Natural::Refused(r) => StepRead::Refused(r),
+    }
+}
+
+// 1 or −1.
+pub enum Direction {
+    Forward,
+    Backward,
+    Refused(Refusal),
+}
+
+pub fn read_direction(s: &[u8], at: usize) -> Direction
+    requires { ⌜ Reached (now s) at ⌝ }
+    ensures { λ r. ⌜ ReadsDirection (now (s .entry)) at r ⌝ }
+{
+    match reading::bits_at(s, at) {
+        Bits::Value(v) => {
+            if v == 1 {
+                return Direction::Forward;
+            }
+            if v == 65535 {
+                return Direction::Backward;
+            }
+            Direction::Refused(Refusal::WordOutOfRange(at))
+        }
+        Bits::Torn => Direction::Refused(Refusal::Truncated(at)),
+    }
+}
+
+pub fn read_skew(s: &[u8], at: usize, number: usize, depth: usize) -> StepRead
+    requires { ⌜ Reached (now s) at × (depth ≤ 6) ⌝ }
+    ensures { λ r. ⌜ ReadsStep (Grammar.skewStep number depth (now (s .entry)) at) (now (s .entry)) at depth r ⌝ }
+{
+    let a = match reading::read_loop_number(s, at, number, 1, depth) {
+        Natural::Value(v) => v,
+        Natural::Refused(r) => return StepRead::Refused(r),
+    };
+    let b = match reading::read_loop_number(s, at + 1, number, a + 1, depth) {
+        Natural::Value(v) => v,
+        Natural::Refused(r) => return StepRead::Refused(r),
+    };
+    match read_direction(s, at + 2) {
+        Direction::Forward => StepRead::Taken(Step::Lean(Skew {
+            outer: a - 1,
+            distance: b - a - 1,
+            forward: true,
+        })),
+        Direction::Backward => StepRead::Taken(Step::Lean(Skew {
+            outer: a - 1,
+            distance: b - a - 1,
+            forward: false,
+        })),
+        Direction::Refused(r) => StepRead::Refused(r),
+    }
+}
+
+// No loop of a nest of six can be sectioned.
+fn sectioned_most(depth: usize) -> usize
+    requires { ⌜ depth ≤ 6 ⌝ }
+    ensures { λ r. ⌜ (r ≡ sectionable depth) × (r ≤ 6) ⌝ }
+{
+    if depth < 6 { depth } else { 0 }
+}
+
+pub fn read_section(s: &[u8], at: usize, number: usize, depth: usize) -> StepRead
+    requires { ⌜ Reached (now s) at × (depth ≤ 6) ⌝ }
+    ensures { λ r. ⌜ ReadsStep (Grammar.sectionStep number depth (now (s .entry)) at) (now (s .entry)) at depth r ⌝ }
+{
+    let a = match reading::read_loop_number(s, at, number, 1, sectioned_most(depth)) {
+        Natural::Value(v) => v,
+        Natural::Refused(r) => return StepRead::Refused(r),
+    };
+    let width = match reading::read_natural(s, at + 1, 2, 256) {
+        Natural::Value(v) => v,
+        Natural::Refused(r) => return StepRead::Refused(r),
+    };
+    match reading::read_natural(s, at + 2, 0, 0) {
+        Natural::Value(_) => StepRead::Taken(Step::Strip(Section {
+            target: a - 1,
+            width: width,
+        })),
+        Natural::Refused(r) => StepRead::Refused(r),
+    }
+}
+
+pub fn read_step(s: &[u8], at: usize, number: usize, depth: usize) -> StepRead
+    requires { ⌜ Reached (now s) at × (depth ≤ 6) ⌝ }
+    ensures { λ r. ⌜ ReadsStep (oneStep number depth (now (s .entry)) at) (now (s .entry)) (at + 1) depth r ⌝ }
+{
+    let kind = match reading::read_natural(s, at, 1, 4) {
+        Natural::Value(v) => v,
+        Natural::Refused(r) => return StepRead::Refused(r),
+    };
+    match kind {
+        1 => read_exchange(s, at + 1, number, depth),
+        2 => read_reversal(s, at + 1, number, depth),
+        3 => read_skew(s, at + 1, number, depth),
+        _ => read_section(s, at + 1, number, depth),
+    }
+}
+
+pub struct StepsRead {
+    pub status: Status,
+    pub steps: Steps,
+    pub next: usize,
+}
+
+// The number of loops after a step.
+fn depth_after(step: Step, depth: usize) -> usize
+    requires { ⌜ depth ≤ 6 ⌝ }
+    ensures { λ r. ⌜ r ≡ Grammar.depthAfter (stepOf step) depth ⌝ }
+{
+    match step {
+        Step::Swap(_) => depth,
+        Step::Reverse(_) => depth,
+        Step::Lean(_) => depth,
+        Step::Strip(_) => depth + 1,
+    }
+}
+
+fn blank_steps() -> [Numbered; 8]
+    ensures { λ r. ⌜ length r ≡ 8 ⌝ }
+{
+    let blank = Numbered {
+        number: 0,
+        step: Step::Reverse(Reversal { target: 0 }),
+    };
+    [blank; 8]
+}
+
+fn no_steps(r: Refusal, at: usize) -> StepsRead
+    ensures { λ q. ⌜ (q .status ≡ Refused r) × (q .next ≡ at) × StepsIn (q .steps) ⌝ }
+{
+    let blank = blank_steps();
+    StepsRead {
+        status: Status::Refused(r),
+        steps: Steps {
+            count: 0,
+            steps: blank,
+        },
+        next: at,
+    }
+}
+
+// The section: a count from 0 to 8 and as many steps of a nest that has `depth` loops.
+pub fn read_steps(s: &[u8], at: usize, depth: usize) -> StepsRead
+    requires { ⌜ Reached (now s) at × (depth ≤ 6) ⌝ }
+    ensures { λ r. ⌜ ReadsSteps (now (s .entry)) at depth r ⌝ }
+{
+    let count = match reading::read_count(s, at, 0, 8) {
+        Natural::Value(v) => v,
+        Natural::Refused(r) => return no_steps(r, at),
+    };
+    let mut all = blank_steps();
+    let mut next = at + 1;
+    let mut loops = depth;
+    let mut k = 0;
+    while k < count {
+        match read_step(s, next, k + 1, loops) {
+            StepRead::Taken(step) => {
+                loops = depth_after(step, loops);
+                all[k] = Numbered {
+                    number: k + 1,
+                    step: step,
+                };
+                next += 4;
+                k += 1;
+            }
+            StepRead::Refused(r) => return no_steps(r, at),
+        }
+    }
+    StepsRead {
+        status: Status::Fine,
+        steps: Steps {
+            count: count,
+            steps: all,
+        },
+        next: next,
+    }
+}
