@@ -1,3 +1,11 @@
 -- Laws that the crate's contracts need.
 pub mod SubscriptLaws
 pub mod RowLaws
+pub mod LayoutLaws
+pub mod StrayLaws
+pub mod FindLaws
+pub mod ElementLaws
+pub mod PlaceLaws
+pub mod NumberLaws
+pub mod AdmittedLaws
+pub mod Witness

@@ -1,15 +1,15 @@
 -- The rows of stored points, one at a time: what is lent of them, and a test of all that was made of each.
-use mathlib.Core.Path.{_≡_, refl, sym, _∙_, ap, ap₂, subst}
-use mathlib.Core.Bool.{Bool, true, false, _||_}
+use mathlib.Core.Path.{_≡_, sym, _∙_, ap, ap₂, subst}
+use mathlib.Core.Bool.{Bool, true, false}
 use mathlib.Core.List.{List, [], _∷_, _++_}
-use Prim.Native.Nat.{ℕ, suc, _+_, _*_, _-_, _≤_, _<_}
+use Prim.Native.Nat.{ℕ, _+_, _*_, _-_, _≤_, _<_}
 use native.Mathlib.Omega.{arith}
 use native.Mathlib.Nat.{mul-le-mul}
 use native.Mathlib.Numerals.{add-one}
 use lib.IntN.{ℤ}
 use lib.ListN.{length, getD, take, drop, length-drop}
 use lib.Seq.{length-take-le}
-use Rattle.lists.specs.Membership.{Mem, All}
+use Rattle.lists.specs.Membership.{Mem}
 use Rattle.lists.specs.Tests.{any}
 use Rattle.lists.specs.Parts.{rows}
 use Rattle.lists.proofs.MembershipLaws.{getD-mem}

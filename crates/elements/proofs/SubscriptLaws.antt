@@ -1,23 +1,16 @@
 -- One subscript at a point: its words are small, so the machine reads what the model says; then the test against its extent; then all points.
-use mathlib.Core.Path.{_≡_, refl, sym, _∙_, ap, ap₂, subst}
-use mathlib.Core.Bool.{Bool, true, false, _||_}
-use mathlib.Core.List.{List, [], _∷_, _++_}
-use Prim.Native.Nat.{ℕ, suc, _+_, _*_, _-_, _≤_, _<_}
+use mathlib.Core.Path.{_≡_, sym, _∙_, ap, ap₂, subst}
+use mathlib.Core.Bool.{true, false}
+use mathlib.Core.List.{List, []}
+use Prim.Native.Nat.{ℕ, _+_, _*_, _-_, _≤_}
 use native.Mathlib.Omega.{arith}
 use native.Mathlib.Nat.{mul-le-mul-right}
-use native.Mathlib.Numerals.{add-one}
 use lib.IntN.{ℤ, pos}
 use lib.Signed.{ltZ, leZ}
-use lib.ListN.{length, getD, take, drop, length-take, length-drop}
+use lib.ListN.{length, getD, take, drop, length-drop}
 use lib.Seq.{length-take-le}
 use mir.Syntax.{w64}
 use mir.Val.{toZ, ofZ}
-use Rattle.lists.specs.Membership.{Mem, All}
-use Rattle.lists.specs.Tests.{any}
-use Rattle.lists.specs.Parts.{rows}
-use Rattle.lists.proofs.MembershipLaws.{getD-mem}
-use Rattle.lists.proofs.TestLaws.{any-join}
-use Rattle.lists.proofs.PartLaws.{rows-suc, rows-getD, length-rows, row-fits}
 use Rattle.integers.specs.Difference.{size}
 use Rattle.integers.specs.Affine.{affine, Within, AffineIn}
 use Rattle.integers.proofs.RangeLaws.{from-nat}
@@ -25,7 +18,7 @@ use Rattle.integers.proofs.AffineLaws.{within-at, within-take, affine-size, nes
 use Rattle.model.specs.Bounds.{subscriptAt}
 use Rattle.space.proofs.LimitLaws.{copied, within-drop}
 use Rattle.elements.specs.Layout.{formAt}
-use Rattle.elements.specs.Search.{off, straysAt, SubscriptIn, RowsIn, StrayIn}
+use Rattle.elements.specs.Search.{off, SubscriptIn}
 
 abbrev coefficients : List ℤ → ℕ → List ℤ → List ℤ
 coefficients w j point = take (length point) (drop (j * 8 + 1) w)

@@ -44,6 +44,13 @@ bodiesFrom w o a n k (m ∷ ms) = accessesFrom w o a n k m ∷ bodiesFrom w o a 
 unfoldable pub arraysOf : List ℕ → List (List ℕ)
 arraysOf a = arraysFrom a 0 (length a / 4)
 
+-- array i of a slice
+pub record ArrayIn (a : List ℕ) (i : ℕ) : Type 0 where
+  pub few : length a ≤ 16
+  pub there : i < length a / 4
+  pub dimensions : (j : ℕ) → j < length a / 4 → getD a (j * 4) 0 ≤ 3
+  pub extents : (j : ℕ) → getD a j 0 ≤ 4096
+
 -- what every ticket's arrays and accesses have, in a nest of n loops
 pub record AccessesOk (w : List ℤ) (o a : List ℕ) (n : ℕ) : Type 0 where
   pub words : length w ≡ length o * 24

@@ -1,3 +1,4 @@
 -- What the crate's contracts speak of: arrays and accesses in flat slices, and what each function asks and gives.
 pub mod Layout
 pub mod Search
+pub mod Places

@@ -1,5 +1,5 @@
 -- What one turn of `survey` needs: the depths before it passed, so its tally can be asked for; what the tally says of the depth; the answer.
-use mathlib.Core.Path.{_≡_, refl, sym, _∙_, ap, subst}
+use mathlib.Core.Path.{_≡_, sym, _∙_, ap, subst}
 use mathlib.Core.Bool.{true, false}
 use mathlib.Core.Logic.{⊎-elim}
 use mathlib.Core.List.{List, []}
@@ -16,7 +16,7 @@ use Rattle.model.specs.Points.{points, partialPoints}
 use Rattle.model.specs.Bounds.{survey}
 use Rattle.space.specs.declared.Tally.{Tally}
 use Rattle.space.specs.Flat.{NestOk, loopsFrom}
-use Rattle.space.specs.Tallies.{through, capped, seen, Near, TallyIn, Tallied}
+use Rattle.space.specs.Tallies.{capped, seen, TallyIn, Tallied}
 use Rattle.space.specs.Surveys.{SurveyIn}
 use Rattle.space.proofs.ThroughLaws.{loops-length, loops-take, partial-are}
 use Rattle.space.proofs.TallyLaws.{capped-test}

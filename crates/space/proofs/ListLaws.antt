@@ -2,7 +2,7 @@
 use mathlib.Core.Path.{_≡_, refl, sym, _∙_, ap, subst}
 use mathlib.Core.Logic.{⊎-elim}
 use mathlib.Core.List.{List, [], _∷_, _++_, map, List·Memᴰ·not-nil, List·Memᴰ·cases-cons, Memᴰ·of-map}
-use Prim.Native.Nat.{ℕ, zero, suc, _+_, _*_, _/_, _≤_}
+use Prim.Native.Nat.{ℕ, suc, _*_, _/_, _≤_}
 use native.Mathlib.Omega.{arith}
 use native.Mathlib.Nat.{zero-add, mul-le-mul-right, mul-div-cancel}
 use lib.IntN.{ℤ}
@@ -11,13 +11,13 @@ use lib.Seq.{take-length}
 use Rattle.lists.specs.Membership.{All}
 use Rattle.lists.specs.Parts.{rows, put}
 use Rattle.lists.proofs.FlatMapLaws.{flatMap-mem, length-flatMap-even}
-use Rattle.lists.proofs.PartLaws.{put-all, rows-append, rows-flatMap}
-use Rattle.integers.specs.Difference.{size}
+use Rattle.lists.proofs.PartLaws.{put-all, length-put, rows-append, rows-flatMap}
+use Rattle.integers.specs.Affine.{Within}
 use Rattle.model.specs.Answer.{accepted}
 use Rattle.model.specs.Ticket.{Loop}
 use Rattle.model.specs.Points.{indices, points, partialPoints, iterations}
 use Rattle.model.specs.Bounds.{survey, space}
-use Rattle.space.specs.Flat.{NestOk, loopsFrom}
+use Rattle.space.specs.Flat.{loopsFrom}
 use Rattle.space.specs.Tallies.{through, Near}
 use Rattle.space.specs.Stored.{joined, CollectIn, Collected, PointsIn, Listed}
 use Rattle.space.proofs.ThroughLaws.{through-none, loops-length}
@@ -75,8 +75,8 @@ module _ (s : List ℤ) (c : List ℕ) (depth : ℕ) where
       fits = rw all-points (let w = words in let f = p .fits in omega (arith, mul-le-mul-right depth few));
     }
 
-    pub list-out : (point o e : List ℤ) (r : ℕ) → length o ≡ room → Collected s c 0 depth point o e 0 r → Listed s c depth o e (r / depth)
-    list-out point o e r l g = record { count = how-many; few = rw how-many few; points = rw (how-many, written, put-all o (joined (iterations (loopsFrom s c 0 depth)))) rows-are; wrote = written }
+    pub list-out : (point o e : List ℤ) (r : ℕ) → Collected s c 0 depth point o e 0 r → Listed s c depth o e (r / depth)
+    list-out point o e r g = record { count = how-many; few = rw how-many few; points = rw (how-many, written, put-all o (joined (iterations (loopsFrom s c 0 depth)))) rows-are; wrote = written }
       where
         place : r ≡ length (iterations (loopsFrom s c 0 depth)) * depth
         place = g .place ∙ zero-add (length (joined (through (loopsFrom s c 0 depth) []))) ∙ ap (λ (ps : List (List ℤ)). length (joined ps)) all-points ∙ words
@@ -92,3 +92,25 @@ module _ (s : List ℤ) (c : List ℕ) (depth : ℕ) where
             rows-append depth (length (iterations (loopsFrom s c 0 depth))) (joined (iterations (loopsFrom s c 0 depth))) (drop (length (joined (iterations (loopsFrom s c 0 depth)))) o) (let w = words in omega arith)
             ∙ rows-flatMap depth (λ p. p) (iterations (loopsFrom s c 0 depth)) even
             ∙ map-same-all (iterations (loopsFrom s c 0 depth))
+
+-- ---- what is listed is near
+
+points-near : (m : ℕ) (N : List Loop) (outer : List ℤ) → Near m N outer → All (Within m) (points N outer)
+unfolding points
+points-near m [] outer h y k = ⊎-elim (λ e. subst (Within m) (sym e) tt) (λ n. absurd (List·Memᴰ·not-nil n)) (List·Memᴰ·cases-cons k)
+points-near m (L ∷ N) outer h y k =
+    let q = flatMap-mem (λ i. map (λ z. i ∷ z) (points N (outer ++ (i ∷ [])))) (indices L outer) k in
+    let t = Memᴰ·of-map (λ z. q .0 ∷ z) (points N (outer ++ (q .0 ∷ []))) (q .2) in
+    let g = h (q .0) (q .1) in
+    subst (Within m) (t .2) (g .0, points-near m N (outer ++ (q .0 ∷ [])) (g .1) (t .0) (t .1))
+
+pub listed-near : (s : List ℤ) (c : List ℕ) (depth room : ℕ) (o e : List ℤ) (r : ℕ) → PointsIn s c depth room → Listed s c depth o e r → All (Within 32767) (rows depth r e)
+unfolding space iterations
+listed-near s c depth room o e r p g = subst (All (Within 32767)) (sym (g .points))
+    (points-near 32767 (loopsFrom s c 0 depth) [] (survey-near 7 8 32767 4096 (loopsFrom s c 0 depth) (p .admitted)))
+
+pub listed-room : (s : List ℤ) (c : List ℕ) (depth : ℕ) (o e : List ℤ) (r : ℕ) → PointsIn s c depth (length o) → Listed s c depth o e r → (length e ≡ length o) × (r * depth ≤ length e)
+listed-room s c depth o e r p g =
+    let w = words s c depth in let f = p .fits in let n = g .count in let q = g .few in
+    let l : length e ≡ length o = ap length (g .wrote) ∙ length-put o 0 (joined (iterations (loopsFrom s c 0 depth))) (rw (w, ← n) (omega (arith, mul-le-mul-right depth q))) in
+    (l, omega (arith, mul-le-mul-right depth q))

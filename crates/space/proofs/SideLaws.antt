@@ -13,7 +13,7 @@ use mir.Val.{toZ, ofZ}
 use Rattle.integers.specs.Difference.{size}
 use Rattle.model.specs.Points.{maxZ, minZ, largest, smallest}
 use Rattle.space.specs.Flat.{limitAt, limitsAt}
-use Rattle.space.specs.Ranges.{ceilAt, floorAt, firstFrom, lastFrom, LimitIn, DivisorIn, SideIn}
+use Rattle.space.specs.Ranges.{ceilAt, floorAt, firstFrom, lastFrom, DivisorIn, SideIn}
 use Rattle.space.proofs.LimitLaws.{copied}
 
 -- ---- the larger and the smaller of two

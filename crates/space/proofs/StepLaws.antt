@@ -1,7 +1,7 @@
 -- One turn of a walk over a nest: the first k indices of a point, the point moved to the next index, and what stays near.
 use mathlib.Core.Path.{_≡_, refl, sym, _∙_, ap, ap₂, subst}
 use mathlib.Core.List.{List, [], _∷_, _++_}
-use Prim.Native.Nat.{ℕ, suc, _+_, _-_, _≤_, _<_}
+use Prim.Native.Nat.{ℕ, _+_, _-_, _≤_, _<_}
 use native.Mathlib.Omega.{arith}
 use native.Mathlib.Numerals.{add-one}
 use lib.IntN.{ℤ, pos, _+ℤ_, _-ℤ_}
@@ -14,7 +14,7 @@ use Rattle.integers.specs.Difference.{size}
 use Rattle.integers.specs.Affine.{Within}
 use Rattle.integers.proofs.RangeLaws.{back, from-nat, size-add, size-fits}
 use Rattle.model.specs.Ticket.{Loop}
-use Rattle.model.specs.Points.{span, indices}
+use Rattle.model.specs.Points.{span}
 use Rattle.space.specs.Flat.{loopAt, loopsFrom}
 use Rattle.space.specs.Ranges.{Ranged}
 use Rattle.space.specs.Tallies.{Near}

@@ -1,17 +1,16 @@
 -- The survey, depth by depth: what a depth that passes, is far or is crowded makes of the answer; what an accepted survey says of each depth;
 -- then that the indices of the loops that passed are near.
 use mathlib.Core.Path.{_≡_, refl, sym, _∙_, ap, subst}
-use mathlib.Core.Bool.{Bool, true, false, not, cond}
+use mathlib.Core.Bool.{Bool, true, false}
 use mathlib.Core.Logic.{⊎-elim}
 use mathlib.Core.List.{List, [], _∷_, _++_, flatMap}
-use Prim.Native.Nat.{ℕ, zero, suc, _+_, _-_, _≤_, _<_}
+use Prim.Native.Nat.{ℕ, zero, suc, _+_, _≤_, _<_}
 use native.Mathlib.Omega.{arith}
 use native.Mathlib.Nat.{add-zero, zero-add, add-suc, suc-add, eq-or-lt-of-le}
-use borrow.Author.Tests.{le-leb, lt-leb, leb-true, leb-false, ltb-true, ltb-false}
-use lib.Dec.{T, leb, ltb}
+use borrow.Author.Tests.{le-leb, lt-leb, ltb-true, ltb-false}
+use lib.Dec.{T, ltb}
 use lib.IntN.{ℤ, natAbs}
 use lib.ListN.{length, take}
-use Rattle.lists.specs.Membership.{Mem}
 use Rattle.lists.specs.Tests.{any}
 use Rattle.lists.proofs.FlatMapLaws.{mem-flatMap}
 use Rattle.lists.proofs.TestLaws.{any-none, none-any, not-T-false}
@@ -19,7 +18,7 @@ use Rattle.integers.specs.Difference.{size}
 use Rattle.integers.proofs.RangeLaws.{size-natAbs}
 use Rattle.model.specs.Answer.{Answer, accepted, refused, require, _>>_, _>>=_}
 use Rattle.model.specs.Ticket.{Loop}
-use Rattle.model.specs.Points.{indices, points, partialPoints}
+use Rattle.model.specs.Points.{indices, partialPoints}
 use Rattle.model.specs.Bounds.{lastOf, beyond, survey}
 use Rattle.space.specs.Tallies.{through, Near}
 use Rattle.space.proofs.ThroughLaws.{through-cons, through-one, through-none}

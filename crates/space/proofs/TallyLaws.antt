@@ -5,9 +5,8 @@ use mathlib.Core.List.{List, [], _∷_, _++_, map}
 use Prim.Native.Nat.{ℕ, suc, _+_, _≤_, _<_}
 use native.Mathlib.Omega.{arith}
 use native.Mathlib.Nat.{add-assoc, add-zero}
-use native.Mathlib.Numerals.{add-one}
-use borrow.Author.Tests.{lt-ltb, le-ltb, ltb-true, ltb-false, le-leb, lt-leb}
-use lib.Dec.{ltb, leb}
+use borrow.Author.Tests.{lt-ltb, le-ltb, ltb-true, ltb-false}
+use lib.Dec.{ltb}
 use lib.IntN.{ℤ, pos, negℤ, _-ℤ_, +ℤ-idl}
 use lib.Signed.{ltZ}
 use lib.ListN.{length, length-append, length-map}
@@ -18,7 +17,7 @@ use Rattle.lists.proofs.TestLaws.{any-join, cond-cases}
 use Rattle.integers.specs.Difference.{size}
 use Rattle.integers.proofs.RangeLaws.{back, from-nat, size-fits, size-sub}
 use Rattle.model.specs.Ticket.{Loop}
-use Rattle.model.specs.Points.{span, ints, indices}
+use Rattle.model.specs.Points.{span, ints}
 use Rattle.model.specs.Bounds.{lastOf, beyond}
 use Rattle.space.specs.declared.Tally.{Tally}
 use Rattle.space.specs.Ranges.{Ranged}

@@ -7,7 +7,6 @@ use native.Mathlib.Omega.{arith}
 use native.Mathlib.Numerals.{add-one, one-add, sub-one}
 use lib.IntN.{ℤ, pos, _+ℤ_, _-ℤ_, +ℤ-idr, +ℤ-assoc}
 use lib.ListN.{length, take}
-use Rattle.lists.specs.Membership.{Mem}
 use Rattle.lists.proofs.MembershipLaws.{map-same}
 use Rattle.lists.proofs.FlatMapLaws.{flatMap-snoc, flatMap-same, flatMap-single, map-flatMap}
 use Rattle.model.specs.Ticket.{Loop}

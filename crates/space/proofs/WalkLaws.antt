@@ -1,5 +1,5 @@
 -- What one level of `tally_points` needs, over plain lists: the last loop, then one turn, then all.
-use mathlib.Core.Path.{_≡_, refl, sym, _∙_, ap, subst}
+use mathlib.Core.Path.{_≡_, sym, _∙_, ap, subst}
 use mathlib.Core.List.{List, [], _∷_, _++_, flatMap}
 use Prim.Native.Nat.{ℕ, suc, _+_, _-_, _≤_, _<_}
 use native.Mathlib.Omega.{arith}
@@ -17,7 +17,7 @@ use Rattle.space.proofs.ThroughLaws.{loops-step, loops-none, after, thr
 use Rattle.space.proofs.TallyLaws.{seen-append, seen-none}
 use Rattle.space.proofs.StepLaws.{within-snoc, take-moved, prefix, near-step}
 
-module _ (s : List ℤ) (c : List ℕ) (k left : ℕ) (point : List ℤ) (bound most : ℕ) (a : Tally) (p : TallyIn s c k left point bound most a) (len : length point ≡ 6) where
+module _ {s : List ℤ} {c : List ℕ} {k left : ℕ} {point : List ℤ} {bound most : ℕ} {a : Tally} (p : TallyIn s c k left point bound most a) (len : length point ≡ 6) where
   pub room : k < 6
   room = let d = p .nest .shallow in let h = p .some in omega arith
 

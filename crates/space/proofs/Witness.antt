@@ -1,13 +1,22 @@
--- A real nest meets `NestOk`: six loops with 1 for every word, one limit a side.
-use mathlib.Core.Path.{_≡_, sym, subst}
+-- A real nest meets what the functions ask: six loops with 1 for every word, one limit a side.
+use mathlib.Core.Path.{_≡_, refl, sym, subst}
+use mathlib.Core.List.{flatMap}
 use Prim.Native.Nat.{ℕ, zero, suc, _+_, _*_, _≤_, _<_}
 use native.Mathlib.Omega.{arith}
 use lib.IntN.{ℤ, pos}
 use lib.Signed.{_<ℤ_}
 use lib.ListN.{getD, replicate, length-replicate, getD-replicate}
-use Rattle.integers.specs.Affine.{Within}
+use Rattle.lists.specs.Tests.{any}
+use Rattle.integers.specs.Affine.{Within, affine, dot}
+use Rattle.integers.specs.Division.{floorDiv, ceilDiv}
 use Rattle.integers.proofs.RingLaws.{zarith}
-use Rattle.space.specs.Flat.{NestOk, Positive}
+use Rattle.model.specs.Answer.{require, _>>_, _>>=_}
+use Rattle.model.specs.Points.{largest, smallest, value, firstIndex, lastIndex, span, ints, indices, points, partialPoints}
+use Rattle.model.specs.Bounds.{lastOf, beyond, survey, space}
+use Rattle.space.specs.Flat.{limitAt, limitsAt, loopAt, loopsFrom, Positive, NestOk}
+use Rattle.space.specs.Surveys.{SurveyIn}
+use Rattle.space.specs.Stored.{PointsIn}
+use Rattle.space.proofs.DepthLaws.{nest-part}
 
 within-replicate : (n m : ℕ) → 1 ≤ m → Within m (replicate n (pos 1))
 within-replicate zero m h = tt
@@ -30,3 +39,11 @@ ones-ok = record {
   lower-positive = λ k h. let e = one (k * 2) (omega arith) in positive (k * 32) (getD (replicate 12 1) (k * 2) 0) (omega arith);
   upper-positive = λ k h. let e = one (k * 2 + 1) (omega arith) in positive (k * 32 + 16) (getD (replicate 12 1) (k * 2 + 1) 0) (omega arith);
 }
+
+-- of its first loop, which has the one index 1
+pub ones-points : PointsIn (replicate 1536 (pos 1)) (replicate 12 1) 1 4096
+unfolding space survey _>>_ _>>=_ require any beyond lastOf partialPoints points flatMap indices ints span firstIndex lastIndex largest smallest value affine dot ceilDiv floorDiv loopsFrom loopAt limitsAt limitAt
+ones-points = record { nest = nest-part (replicate 1536 (pos 1)) (replicate 12 1) 6 1 ones-ok (omega arith); some = omega arith; admitted = refl; fits = omega arith }
+
+pub ones-survey : SurveyIn (replicate 1536 (pos 1)) (replicate 12 1) 6 100000 65536
+ones-survey = record { nest = ones-ok; bounds = record { near = omega arith; few = omega arith } }

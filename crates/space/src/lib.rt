@@ -232,19 +232,11 @@ pub fn survey(nest: &[i64], counts: &[usize], depth: usize, bound: usize, most: 
 {
     let mut level = 1;
     while level <= depth {
-        let seen = tally_points(
-            nest,
-            counts,
-            0,
-            level,
-            [0; 6],
-            bound,
-            most,
-            Tally {
-                far: false,
-                count: 0,
-            },
-        );
+        let none = Tally {
+            far: false,
+            count: 0,
+        };
+        let seen = tally_points(nest, counts, 0, level, [0; 6], bound, most, none);
         if seen.far {
             return Verdict::FarIndex(level);
         }

@@ -3,23 +3,16 @@ use Rattle.elements.proofs.SubscriptLaws.{off-below, off-above}
 use borrow.Author.Needs.{needs}
 use Rattle.elements.proofs.leaves.Statement.{statement}
 use Rattle.elements.proofs.leaves.Tie as tie
-use Rattle.elements.proofs.leaves.Reads as reads
-use Rattle.elements.proofs.leaves.Lts as lts
-use Rattle.elements.proofs.subscript.Reads as subscript-reads
 
--- src/lib.rt:26:9
 subscript-requires : tie.Need-subscript-requires
 subscript-requires c κs = search needs
 
--- src/lib.rt:28:9
 returns : tie.Need-returns
 returns c = let s = c .before .before in let x = c .before .subscript in off-below (s .args .extent) (x .result) _ (s .pre .1) (x .ensures .0) (x .ensures .1) (c .if1 .taken)
 
--- src/lib.rt:30:5
 cast-result : tie.Need-cast-result
 cast-result c = search needs
 
--- src/lib.rt:22:1
 returns-2 : tie.Need-returns-2
 returns-2 c = let s = c .before .before in let x = c .before .subscript in off-above (s .args .extent) (x .result) _ (s .pre .1) (x .ensures .0) (x .ensures .1) (c .if1 .left)
 

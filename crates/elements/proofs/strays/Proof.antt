@@ -11,9 +11,6 @@ use Rattle.elements.specs.Search.{straysAt}
 use Rattle.elements.proofs.RowLaws.{row-ends, row-small, stray-in, stray-found, stray-not}
 use Rattle.elements.proofs.strays.Statement.{statement}
 use Rattle.elements.proofs.strays.Tie as tie
-use Rattle.elements.proofs.strays.Reads as reads
-use Rattle.elements.proofs.strays.Lts as lts
-use Rattle.elements.proofs.leaves.Reads as leaves-reads
 
 abbrev Inv-loop : tie.InvT-loop
 Inv-loop words j extent points depth count at₀ i₀ at i = (i ≤ count) × (at ≡ i * depth) × (straysAt words depth j extent (rows depth i points) ≡ false)
@@ -21,57 +18,44 @@ Inv-loop words j extent points depth count at₀ i₀ at i = (i ≤ count) × (a
 abbrev μ-loop : tie.MeasureT-loop
 μ-loop words j extent points depth count at₀ i₀ at i = count - i
 
--- src/lib.rt:40:5
 loop-holds : tie.Need-loop-holds Inv-loop μ-loop
 unfolding straysAt rows any
 loop-holds c = (omega arith, sym (zero-mul (c .args .depth)), refl)
 
--- src/lib.rt:41:49
 add-leaves : tie.Need-add-leaves Inv-loop μ-loop
 add-leaves c = let s = c .before .before in let l = c .before .loop in let r = row-small (s .args .points .now) (s .args .depth) (s .args .count) (s .pre .stored) (l .i) (l .at) (c .loop-test .taken) (l .inv .1) in omega arith
 
--- src/lib.rt:41:37
 mul-leaves : tie.Need-mul-leaves Inv-loop μ-loop
 mul-leaves c = let s = c .before .before in let l = c .before .loop in let r = row-small (s .args .points .now) (s .args .depth) (s .args .count) (s .pre .stored) (l .i) (l .at) (c .loop-test .taken) (l .inv .1) in omega arith
 
--- src/lib.rt:41:37
 sub-leaves : tie.Need-sub-leaves Inv-loop μ-loop
 sub-leaves c = omega arith
 
--- src/lib.rt:41:37
 part-leaves-start : tie.Need-part-leaves-start Inv-loop μ-loop
 part-leaves-start c = omega arith
 
--- src/lib.rt:41:37
 part-leaves-end : tie.Need-part-leaves-end Inv-loop μ-loop
 part-leaves-end c = let s = c .before .before in let l = c .before .loop in row-ends (s .args .points .now) (s .args .depth) (s .args .count) (s .pre .stored) (l .i) (l .at) (c .loop-test .taken) (l .inv .1)
 
--- src/lib.rt:41:12
 leaves-requires : tie.Need-leaves-requires Inv-loop μ-loop
 leaves-requires c κs = let s = c .before .before .before in let l = c .before .before .loop in stray-in (s .args .words .now) (s .args .j) (s .args .extent) (s .args .points .now) (s .args .depth) (s .args .count) (s .pre) (l .i) (l .at) (c .before .loop-test .taken) (l .inv .1)
 
--- src/lib.rt:42:13
 returns : tie.Need-returns Inv-loop μ-loop
 returns c = let s = c .before .before .before .before .before in let l = c .before .before .before .before .loop in stray-found (s .args .words .now) (s .args .j) (s .args .extent) (s .args .points .now) (s .args .depth) (s .args .count) (s .pre) (l .i) (l .at) (c .before .before .before .loop-test .taken) (l .inv .1) (c .before .leaves .result) (c .before .leaves .ensures) (c .if1 .taken)
 
--- src/lib.rt:44:9
 add-at : tie.Need-add-at Inv-loop μ-loop
 add-at c = let s = c .before .before .before .before .before in let l = c .before .before .before .before .loop in let r = row-small (s .args .points .now) (s .args .depth) (s .args .count) (s .pre .stored) (l .i) (l .at) (c .before .before .before .loop-test .taken) (l .inv .1) in omega arith
 
--- src/lib.rt:45:9
 add-i : tie.Need-add-i Inv-loop μ-loop
 add-i c = let s = c .before .before .before .before .before in let b = s .pre .stored .bound in omega arith
 
--- src/lib.rt:40:5
 loop-less : tie.Need-loop-less Inv-loop μ-loop
 loop-less c = let v = c .before .before .before .loop-test .taken in omega arith
 
--- src/lib.rt:40:5
 loop-again : tie.Need-loop-again Inv-loop μ-loop
 loop-again c = let s = c .before .before .before .before .before in let l = c .before .before .before .before .loop in let v = c .before .before .before .loop-test .taken in
     (omega arith, ap (λ (k : ℕ). k + s .args .depth) (l .inv .1) ∙ row-next (s .args .depth) (l .i), stray-not (s .args .words .now) (s .args .j) (s .args .extent) (s .args .points .now) (s .args .depth) (s .args .count) (s .pre) (l .i) (l .at) v (l .inv .1) (c .before .leaves .result) (c .before .leaves .ensures) (c .if1 .left) (l .inv .2))
 
--- src/lib.rt:34:1
 returns-2 : tie.Need-returns-2 Inv-loop μ-loop
 returns-2 c = let s = c .before .before in let l = c .before .loop in let e : l .i ≡ s .args .count = omega (arith, l .inv .0, c .loop-test .left) in
     sym (l .inv .2) ∙ ap (λ (k : ℕ). straysAt (s .args .words .now) (s .args .depth) (s .args .j) (s .args .extent) (rows (s .args .depth) k (s .args .points .now))) e

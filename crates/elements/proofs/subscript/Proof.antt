@@ -3,55 +3,40 @@ use Rattle.elements.proofs.SubscriptLaws.{affine-in, subscript-is}
 use borrow.Author.Needs.{needs}
 use Rattle.elements.proofs.subscript.Statement.{statement}
 use Rattle.elements.proofs.subscript.Tie as tie
-use Rattle.elements.proofs.subscript.Reads as reads
-use Rattle.elements.proofs.subscript.Lts as lts
-use Rattle.integers.proofs.affine.Reads as affine-reads
 
--- src/lib.rt:17:14
 mul-at : tie.Need-mul-at
 mul-at c = search needs
 
--- src/lib.rt:18:22
 mul-affine : tie.Need-mul-affine
 mul-affine c = search needs
 
--- src/lib.rt:18:22
 shared-slice-copy-out-affine : tie.Need-shared-slice-copy-out-affine
 shared-slice-copy-out-affine c = search needs
 
--- src/lib.rt:18:40
 add-affine : tie.Need-add-affine
 add-affine c = search needs
 
--- src/lib.rt:18:48
 add-affine-2 : tie.Need-add-affine-2
 add-affine-2 c = search needs
 
--- src/lib.rt:18:48
 add-affine-3 : tie.Need-add-affine-3
 add-affine-3 c = search needs
 
--- src/lib.rt:18:33
 mul-affine-2 : tie.Need-mul-affine-2
 mul-affine-2 c = search needs
 
--- src/lib.rt:18:33
 sub-affine : tie.Need-sub-affine
 sub-affine c = search needs
 
--- src/lib.rt:18:33
 part-affine-start : tie.Need-part-affine-start
 part-affine-start c = search needs
 
--- src/lib.rt:18:33
 part-affine-end : tie.Need-part-affine-end
 part-affine-end c = search needs
 
--- src/lib.rt:18:5
 affine-requires : tie.Need-affine-requires
 affine-requires c κs = let s = c .before .before in affine-in (s .args .words .now) (s .args .j) (s .args .point .now) (s .pre)
 
--- src/lib.rt:13:1
 returns : tie.Need-returns
 returns c = let s = c .before .before .before in subscript-is (s .args .words .now) (s .args .j) (s .args .point .now) (s .pre) (c .affine .result) (c .affine .ensures)
 

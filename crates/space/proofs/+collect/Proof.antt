@@ -28,331 +28,84 @@ collect-at t = and 3 collect-kinds.ps (is 3 collect-kinds.ps μ-collect t) colle
 abbrev collect-below : ℕ → In 3 collect-kinds.ps
 collect-below t = and 3 collect-kinds.ps (falls 3 collect-kinds.ps _<_ μ-collect t) collect.Pre
 
+-- what the calls ask and give
+abbrev claims : ℕ → collect-lts.Claims
+claims t = (store-reads.Asked, store-reads.Learnt, range-reads.Asked, range-reads.Learnt, count-reads.Asked, count-reads.Learnt, moved-reads.Asked, moved-reads.Learnt, collect-below t, collect.Post)
+
 abbrev collect-Inv-loop : collect-lts.InvT-loop
 collect-Inv-loop nest counts k left out₀ at point e n p₀ t₀ out p t = (t ≤ n) × (p ≡ at + length (words nest counts k left point (e .lo) t)) × (out ≡ put out₀ at (words nest counts k left point (e .lo) t))
 
 abbrev collect-μ-loop : collect-lts.MeasureT-loop
 collect-μ-loop nest counts k left out₀ at point e n p₀ t₀ out p t = n - t
 
--- src/lib.rt:277:24
-collect-array-share-prefix-point : (t : ℕ) → collect-lts.Need-array-share-prefix-point (
-  store-reads.Asked,
-  store-reads.Learnt,
-  range-reads.Asked,
-  range-reads.Learnt,
-  count-reads.Asked,
-  count-reads.Learnt,
-  moved-reads.Asked,
-  moved-reads.Learnt,
-  collect-below t,
-  collect.Post,
-) (collect-at t) collect.Post collect-Inv-loop collect-μ-loop
+collect-array-share-prefix-point : (t : ℕ) → collect-lts.Need-array-share-prefix-point (claims t) (collect-at t) collect.Post collect-Inv-loop collect-μ-loop
 collect-array-share-prefix-point t c = let s = c .before .before .before in let h = shallow (s .args .nest .now) (s .args .counts .now) (s .args .k) (s .args .left) (s .args .t5) (s .args .out .now) (s .args .at) (s .pre .1) (s .good .1 .1 .1 .1 .0 .1 .0 .1) in let l = s .good .1 .1 .1 .1 .0 .1 .0 .1 in omega arith
 
--- src/lib.rt:277:24
-collect-slice-aggregate-store : (t : ℕ) → collect-lts.Need-slice-aggregate-store (
-  store-reads.Asked,
-  store-reads.Learnt,
-  range-reads.Asked,
-  range-reads.Learnt,
-  count-reads.Asked,
-  count-reads.Learnt,
-  moved-reads.Asked,
-  moved-reads.Learnt,
-  collect-below t,
-  collect.Post,
-) (collect-at t) collect.Post collect-Inv-loop collect-μ-loop
+collect-slice-aggregate-store : (t : ℕ) → collect-lts.Need-slice-aggregate-store (claims t) (collect-at t) collect.Post collect-Inv-loop collect-μ-loop
 collect-slice-aggregate-store t c = let s = c .before .before .before .before in sym (outer-length (s .args .nest .now) (s .args .counts .now) (s .args .k) (s .args .left) (s .args .t5) (s .args .out .now) (s .args .at) (s .pre .1) (s .good .1 .1 .1 .1 .0 .1 .0 .1))
 
--- src/lib.rt:277:9
-collect-store-requires : (t : ℕ) → collect-lts.Need-store-requires (
-  store-reads.Asked,
-  store-reads.Learnt,
-  range-reads.Asked,
-  range-reads.Learnt,
-  count-reads.Asked,
-  count-reads.Learnt,
-  moved-reads.Asked,
-  moved-reads.Learnt,
-  collect-below t,
-  collect.Post,
-) (collect-at t) collect.Post collect-Inv-loop collect-μ-loop
+collect-store-requires : (t : ℕ) → collect-lts.Need-store-requires (claims t) (collect-at t) collect.Post collect-Inv-loop collect-μ-loop
 collect-store-requires t c κs = let s = c .before .before .before .before in leaf-fits (s .args .nest .now) (s .args .counts .now) (s .args .k) (s .args .left) (s .args .t5) (s .args .out .now) (s .args .at) (s .pre .1) (s .good .1 .1 .1 .1 .0 .1 .0 .1) (c .before .before .if1 .taken)
 
--- src/lib.rt:278:16
-collect-add-result : (t : ℕ) → collect-lts.Need-add-result (
-  store-reads.Asked,
-  store-reads.Learnt,
-  range-reads.Asked,
-  range-reads.Learnt,
-  count-reads.Asked,
-  count-reads.Learnt,
-  moved-reads.Asked,
-  moved-reads.Learnt,
-  collect-below t,
-  collect.Post,
-) (collect-at t) collect.Post collect-Inv-loop collect-μ-loop
+collect-add-result : (t : ℕ) → collect-lts.Need-add-result (claims t) (collect-at t) collect.Post collect-Inv-loop collect-μ-loop
 collect-add-result t c = let s = c .before .before .before .before .before .before in let f = leaf-room (s .args .nest .now) (s .args .counts .now) (s .args .k) (s .args .left) (s .args .t5) (s .args .out .now) (s .args .at) (s .pre .1) (s .good .1 .1 .1 .1 .0 .1 .0 .1) (c .before .before .before .before .if1 .taken) in record { fits = omega (arith, f, s .good .1 .1 .1 .1 .1 .0 .0) }
 
--- src/lib.rt:278:9
-collect-same-length : (t : ℕ) → collect-lts.Need-same-length (
-  store-reads.Asked,
-  store-reads.Learnt,
-  range-reads.Asked,
-  range-reads.Learnt,
-  count-reads.Asked,
-  count-reads.Learnt,
-  moved-reads.Asked,
-  moved-reads.Learnt,
-  collect-below t,
-  collect.Post,
-) (collect-at t) collect.Post collect-Inv-loop collect-μ-loop
+collect-same-length : (t : ℕ) → collect-lts.Need-same-length (claims t) (collect-at t) collect.Post collect-Inv-loop collect-μ-loop
 collect-same-length t c = c .before .store .kept .0
 
--- src/lib.rt:278:9
-collect-returns : (t : ℕ) → collect-lts.Need-returns (
-  store-reads.Asked,
-  store-reads.Learnt,
-  range-reads.Asked,
-  range-reads.Learnt,
-  count-reads.Asked,
-  count-reads.Learnt,
-  moved-reads.Asked,
-  moved-reads.Learnt,
-  collect-below t,
-  collect.Post,
-) (collect-at t) collect.Post collect-Inv-loop collect-μ-loop
+collect-returns : (t : ℕ) → collect-lts.Need-returns (claims t) (collect-at t) collect.Post collect-Inv-loop collect-μ-loop
 collect-returns t c = let s = c .before .before .before .before .before .before in leaf-out (s .args .nest .now) (s .args .counts .now) (s .args .k) (s .args .left) (s .args .t5) (s .args .out .now) (s .args .at) (s .pre .1) (s .good .1 .1 .1 .1 .0 .1 .0 .1) (c .before .store .last .0) (c .before .before .before .before .if1 .taken) (c .before .store .ensures)
 
--- src/lib.rt:280:33
-collect-array-share-prefix-point-2 : (t : ℕ) → collect-lts.Need-array-share-prefix-point-2 (
-  store-reads.Asked,
-  store-reads.Learnt,
-  range-reads.Asked,
-  range-reads.Learnt,
-  count-reads.Asked,
-  count-reads.Learnt,
-  moved-reads.Asked,
-  moved-reads.Learnt,
-  collect-below t,
-  collect.Post,
-) (collect-at t) collect.Post collect-Inv-loop collect-μ-loop
+collect-array-share-prefix-point-2 : (t : ℕ) → collect-lts.Need-array-share-prefix-point-2 (claims t) (collect-at t) collect.Post collect-Inv-loop collect-μ-loop
 collect-array-share-prefix-point-2 t c = let s = c .before .before in let h = shallow (s .args .nest .now) (s .args .counts .now) (s .args .k) (s .args .left) (s .args .t5) (s .args .out .now) (s .args .at) (s .pre .1) (s .good .1 .1 .1 .1 .0 .1 .0 .1) in let l = s .good .1 .1 .1 .1 .0 .1 .0 .1 in omega arith
 
--- src/lib.rt:280:33
-collect-slice-aggregate-range : (t : ℕ) → collect-lts.Need-slice-aggregate-range (
-  store-reads.Asked,
-  store-reads.Learnt,
-  range-reads.Asked,
-  range-reads.Learnt,
-  count-reads.Asked,
-  count-reads.Learnt,
-  moved-reads.Asked,
-  moved-reads.Learnt,
-  collect-below t,
-  collect.Post,
-) (collect-at t) collect.Post collect-Inv-loop collect-μ-loop
+collect-slice-aggregate-range : (t : ℕ) → collect-lts.Need-slice-aggregate-range (claims t) (collect-at t) collect.Post collect-Inv-loop collect-μ-loop
 collect-slice-aggregate-range t c = let s = c .before .before .before in sym (outer-length (s .args .nest .now) (s .args .counts .now) (s .args .k) (s .args .left) (s .args .t5) (s .args .out .now) (s .args .at) (s .pre .1) (s .good .1 .1 .1 .1 .0 .1 .0 .1))
 
--- src/lib.rt:280:9
-collect-range-requires : (t : ℕ) → collect-lts.Need-range-requires (
-  store-reads.Asked,
-  store-reads.Learnt,
-  range-reads.Asked,
-  range-reads.Learnt,
-  count-reads.Asked,
-  count-reads.Learnt,
-  moved-reads.Asked,
-  moved-reads.Learnt,
-  collect-below t,
-  collect.Post,
-) (collect-at t) collect.Post collect-Inv-loop collect-μ-loop
+collect-range-requires : (t : ℕ) → collect-lts.Need-range-requires (claims t) (collect-at t) collect.Post collect-Inv-loop collect-μ-loop
 collect-range-requires t c κs = let s = c .before .before .before in outer-range (s .args .nest .now) (s .args .counts .now) (s .args .k) (s .args .left) (s .args .t5) (s .args .out .now) (s .args .at) (s .pre .1) (s .good .1 .1 .1 .1 .0 .1 .0 .1) (c .before .if1 .left)
 
--- src/lib.rt:281:9
-collect-count-requires : (t : ℕ) → collect-lts.Need-count-requires (
-  store-reads.Asked,
-  store-reads.Learnt,
-  range-reads.Asked,
-  range-reads.Learnt,
-  count-reads.Asked,
-  count-reads.Learnt,
-  moved-reads.Asked,
-  moved-reads.Learnt,
-  collect-below t,
-  collect.Post,
-) (collect-at t) collect.Post collect-Inv-loop collect-μ-loop
+collect-count-requires : (t : ℕ) → collect-lts.Need-count-requires (claims t) (collect-at t) collect.Post collect-Inv-loop collect-μ-loop
 collect-count-requires t c κs = (c .range .ensures .low-size, c .range .ensures .high-size)
 
--- src/lib.rt:284:5
-collect-loop-holds : (t : ℕ) → collect-lts.Need-loop-holds (
-  store-reads.Asked,
-  store-reads.Learnt,
-  range-reads.Asked,
-  range-reads.Learnt,
-  count-reads.Asked,
-  count-reads.Learnt,
-  moved-reads.Asked,
-  moved-reads.Learnt,
-  collect-below t,
-  collect.Post,
-) (collect-at t) collect.Post collect-Inv-loop collect-μ-loop
+collect-loop-holds : (t : ℕ) → collect-lts.Need-loop-holds (claims t) (collect-at t) collect.Post collect-Inv-loop collect-μ-loop
 collect-loop-holds t c = let s = c .before .before .before .before .before in let g = start (s .args .nest .now) (s .args .counts .now) (s .args .k) (s .args .left) (s .args .t5) (s .args .out .now) (s .args .at) (s .pre .1) (s .good .1 .1 .1 .1 .0 .1 .0 .1) (c .before .range .result .lo) in (omega arith, g .0, g .1)
 
--- src/lib.rt:285:13
-collect-moved-requires : (t : ℕ) → collect-lts.Need-moved-requires (
-  store-reads.Asked,
-  store-reads.Learnt,
-  range-reads.Asked,
-  range-reads.Learnt,
-  count-reads.Asked,
-  count-reads.Learnt,
-  moved-reads.Asked,
-  moved-reads.Learnt,
-  collect-below t,
-  collect.Post,
-) (collect-at t) collect.Post collect-Inv-loop collect-μ-loop
+collect-moved-requires : (t : ℕ) → collect-lts.Need-moved-requires (claims t) (collect-at t) collect.Post collect-Inv-loop collect-μ-loop
 collect-moved-requires t c κs = let s = c .before .before .before .before .before .before .before in let h = shallow (s .args .nest .now) (s .args .counts .now) (s .args .k) (s .args .left) (s .args .t5) (s .args .out .now) (s .args .at) (s .pre .1) (s .good .1 .1 .1 .1 .0 .1 .0 .1) in let o = one (s .args .nest .now) (s .args .counts .now) (s .args .k) (s .args .left) (s .args .t5) (s .args .out .now) (s .args .at) (s .pre .1) (s .good .1 .1 .1 .1 .0 .1 .0 .1) (c .before .before .before .before .before .if1 .left) in let u = c .before .before .count .ensures .1 in let v = c .loop-test .taken in (omega arith, c .before .before .before .range .ensures .low-size, omega arith)
 
--- src/lib.rt:286:35
-collect-add-collect : (t : ℕ) → collect-lts.Need-add-collect (
-  store-reads.Asked,
-  store-reads.Learnt,
-  range-reads.Asked,
-  range-reads.Learnt,
-  count-reads.Asked,
-  count-reads.Learnt,
-  moved-reads.Asked,
-  moved-reads.Learnt,
-  collect-below t,
-  collect.Post,
-) (collect-at t) collect.Post collect-Inv-loop collect-μ-loop
+collect-add-collect : (t : ℕ) → collect-lts.Need-add-collect (claims t) (collect-at t) collect.Post collect-Inv-loop collect-μ-loop
 collect-add-collect t c = let s = c .before .before .before .before .before .before .before .before in let h = shallow (s .args .nest .now) (s .args .counts .now) (s .args .k) (s .args .left) (s .args .t5) (s .args .out .now) (s .args .at) (s .pre .1) (s .good .1 .1 .1 .1 .0 .1 .0 .1) in record { fits = omega arith }
 
--- src/lib.rt:286:42
-collect-sub-collect : (t : ℕ) → collect-lts.Need-sub-collect (
-  store-reads.Asked,
-  store-reads.Learnt,
-  range-reads.Asked,
-  range-reads.Learnt,
-  count-reads.Asked,
-  count-reads.Learnt,
-  moved-reads.Asked,
-  moved-reads.Learnt,
-  collect-below t,
-  collect.Post,
-) (collect-at t) collect.Post collect-Inv-loop collect-μ-loop
+collect-sub-collect : (t : ℕ) → collect-lts.Need-sub-collect (claims t) (collect-at t) collect.Post collect-Inv-loop collect-μ-loop
 collect-sub-collect t c = let s = c .before .before .before .before .before .before .before .before in one (s .args .nest .now) (s .args .counts .now) (s .args .k) (s .args .left) (s .args .t5) (s .args .out .now) (s .args .at) (s .pre .1) (s .good .1 .1 .1 .1 .0 .1 .0 .1) (c .before .before .before .before .before .before .if1 .left)
 
--- src/lib.rt:286:9
-collect-collect-requires : (t : ℕ) → collect-lts.Need-collect-requires (
-  store-reads.Asked,
-  store-reads.Learnt,
-  range-reads.Asked,
-  range-reads.Learnt,
-  count-reads.Asked,
-  count-reads.Learnt,
-  moved-reads.Asked,
-  moved-reads.Learnt,
-  collect-below t,
-  collect.Post,
-) (collect-at t) collect.Post collect-Inv-loop collect-μ-loop
+collect-collect-requires : (t : ℕ) → collect-lts.Need-collect-requires (claims t) (collect-at t) collect.Post collect-Inv-loop collect-μ-loop
 collect-collect-requires t c κs = let s = c .before .before .before .before .before .before .before .before .before in let l = c .before .before .before .loop in let h = one (s .args .nest .now) (s .args .counts .now) (s .args .k) (s .args .left) (s .args .t5) (s .args .out .now) (s .args .at) (s .pre .1) (s .good .1 .1 .1 .1 .0 .1 .0 .1) (c .before .before .before .before .before .before .before .if1 .left) in let m = s .pre .0 in
     (omega arith, turn-in (s .args .nest .now) (s .args .counts .now) (s .args .k) (s .args .left) (s .args .t5) (s .args .out .now) (s .args .at) (s .pre .1) (s .good .1 .1 .1 .1 .0 .1 .0 .1) (c .before .before .before .before .before .range .result .lo) (c .before .before .before .before .before .range .result .hi) (c .before .before .before .before .count .result) (c .before .before .before .before .before .before .before .if1 .left) (c .before .before .before .before .before .range .ensures) (c .before .before .before .before .count .ensures .0) (l .t) (l .p) (l .out) (c .before .moved .result) (c .before .before .loop-test .taken) (l .inv .1) (l .inv .2) (c .before .moved .ensures))
 
--- src/lib.rt:287:9
-collect-add-t : (t : ℕ) → collect-lts.Need-add-t (
-  store-reads.Asked,
-  store-reads.Learnt,
-  range-reads.Asked,
-  range-reads.Learnt,
-  count-reads.Asked,
-  count-reads.Learnt,
-  moved-reads.Asked,
-  moved-reads.Learnt,
-  collect-below t,
-  collect.Post,
-) (collect-at t) collect.Post collect-Inv-loop collect-μ-loop
+collect-add-t : (t : ℕ) → collect-lts.Need-add-t (claims t) (collect-at t) collect.Post collect-Inv-loop collect-μ-loop
 collect-add-t t c = let u = c .before .before .before .before .before .before .count .ensures .1 in let v = c .before .before .before .before .loop-test .taken in record { fits = omega arith }
 
--- src/lib.rt:284:5
-collect-loop-less : (t : ℕ) → collect-lts.Need-loop-less (
-  store-reads.Asked,
-  store-reads.Learnt,
-  range-reads.Asked,
-  range-reads.Learnt,
-  count-reads.Asked,
-  count-reads.Learnt,
-  moved-reads.Asked,
-  moved-reads.Learnt,
-  collect-below t,
-  collect.Post,
-) (collect-at t) collect.Post collect-Inv-loop collect-μ-loop
+collect-loop-less : (t : ℕ) → collect-lts.Need-loop-less (claims t) (collect-at t) collect.Post collect-Inv-loop collect-μ-loop
 collect-loop-less t c = let v = c .before .before .before .before .loop-test .taken in omega arith
 
--- src/lib.rt:284:5
-collect-loop-again : (t : ℕ) → collect-lts.Need-loop-again (
-  store-reads.Asked,
-  store-reads.Learnt,
-  range-reads.Asked,
-  range-reads.Learnt,
-  count-reads.Asked,
-  count-reads.Learnt,
-  moved-reads.Asked,
-  moved-reads.Learnt,
-  collect-below t,
-  collect.Post,
-) (collect-at t) collect.Post collect-Inv-loop collect-μ-loop
+collect-loop-again : (t : ℕ) → collect-lts.Need-loop-again (claims t) (collect-at t) collect.Post collect-Inv-loop collect-μ-loop
 collect-loop-again t c = let s = c .before .before .before .before .before .before .before .before .before .before .before in let l = c .before .before .before .before .before .loop in let v = c .before .before .before .before .loop-test .taken in
     let g = turn-out (s .args .nest .now) (s .args .counts .now) (s .args .k) (s .args .left) (s .args .t5) (s .args .out .now) (s .args .at) (s .pre .1) (s .good .1 .1 .1 .1 .0 .1 .0 .1) (c .before .before .before .before .before .before .before .range .result .lo) (c .before .before .before .before .before .before .before .range .result .hi) (c .before .before .before .before .before .before .count .result) (c .before .before .before .before .before .before .before .before .before .if1 .left) (c .before .before .before .before .before .before .before .range .ensures) (c .before .before .before .before .before .before .count .ensures .0) (l .t) (l .p) (l .out) (c .before .before .before .moved .result) v (l .inv .1) (l .inv .2) (c .before .before .before .moved .ensures) (c .before .collect .last .1 .1 .1 .1 .1 .0) (c .before .collect .result) (c .before .collect .ensures) in
     (omega arith, g .0, g .1)
 
--- src/lib.rt:272:1
-collect-same-length-2 : (t : ℕ) → collect-lts.Need-same-length-2 (
-  store-reads.Asked,
-  store-reads.Learnt,
-  range-reads.Asked,
-  range-reads.Learnt,
-  count-reads.Asked,
-  count-reads.Learnt,
-  moved-reads.Asked,
-  moved-reads.Learnt,
-  collect-below t,
-  collect.Post,
-) (collect-at t) collect.Post collect-Inv-loop collect-μ-loop
+collect-same-length-2 : (t : ℕ) → collect-lts.Need-same-length-2 (claims t) (collect-at t) collect.Post collect-Inv-loop collect-μ-loop
 collect-same-length-2 t c = let s = c .before .before .before .before .before .before .before in let l = c .before .loop in
     let g = room (s .args .nest .now) (s .args .counts .now) (s .args .k) (s .args .left) (s .args .t5) (s .args .out .now) (s .args .at) (s .pre .1) (s .good .1 .1 .1 .1 .0 .1 .0 .1) (c .before .before .before .range .result .lo) (c .before .before .before .range .result .hi) (c .before .before .count .result) (c .before .before .before .before .before .if1 .left) (c .before .before .before .range .ensures) (c .before .before .count .ensures .0) (l .t) (l .inv .0) in
     ap length (l .inv .2) ∙ length-put (s .args .out .now) (s .args .at) (words (s .args .nest .now) (s .args .counts .now) (s .args .k) (s .args .left) (s .args .t5) (c .before .before .before .range .result .lo) (l .t)) g
 
--- src/lib.rt:272:1
-collect-returns-2 : (t : ℕ) → collect-lts.Need-returns-2 (
-  store-reads.Asked,
-  store-reads.Learnt,
-  range-reads.Asked,
-  range-reads.Learnt,
-  count-reads.Asked,
-  count-reads.Learnt,
-  moved-reads.Asked,
-  moved-reads.Learnt,
-  collect-below t,
-  collect.Post,
-) (collect-at t) collect.Post collect-Inv-loop collect-μ-loop
+collect-returns-2 : (t : ℕ) → collect-lts.Need-returns-2 (claims t) (collect-at t) collect.Post collect-Inv-loop collect-μ-loop
 collect-returns-2 t c = let s = c .before .before .before .before .before .before .before in let l = c .before .loop in
     level-out (s .args .nest .now) (s .args .counts .now) (s .args .k) (s .args .left) (s .args .t5) (s .args .out .now) (s .args .at) (s .pre .1) (s .good .1 .1 .1 .1 .0 .1 .0 .1) (c .before .before .before .range .result .lo) (c .before .before .before .range .result .hi) (c .before .before .count .result) (c .before .before .before .before .before .if1 .left) (c .before .before .before .range .ensures) (c .before .before .count .ensures .0) (l .t) (l .p) (l .out) (l .inv .0) (c .loop-test .left) (l .inv .1) (l .inv .2)
 
 pub +collect-spec : {M : Type 1} → statement M
-+collect-spec = close μ-collect λ t. collect-lts.spec (
-  store-reads.Asked,
-  store-reads.Learnt,
-  range-reads.Asked,
-  range-reads.Learnt,
-  count-reads.Asked,
-  count-reads.Learnt,
-  moved-reads.Asked,
-  moved-reads.Learnt,
-  collect-below t,
-  collect.Post,
-)
++collect-spec = close μ-collect λ t. collect-lts.spec (claims t)
     (collect-at t)
     collect.Post
     collect-Inv-loop

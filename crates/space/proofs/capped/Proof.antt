@@ -5,18 +5,13 @@ use Rattle.space.proofs.TallyLaws.{capped-above, capped-below}
 use borrow.Author.Needs.{needs}
 use Rattle.space.proofs.capped.Statement.{statement}
 use Rattle.space.proofs.capped.Tie as tie
-use Rattle.space.proofs.capped.Reads as reads
-use Rattle.space.proofs.capped.Lts as lts
 
--- src/lib.rt:139:19
 add-result : tie.Need-add-result
 add-result c = search needs
 
--- src/lib.rt:135:1
 returns : tie.Need-returns
 returns c = add-one (c .before .args .most) ∙ sym (capped-above (c .before .args .most) (c .before .args .n) (c .if1 .taken))
 
--- src/lib.rt:135:1
 returns-2 : tie.Need-returns-2
 returns-2 c = sym (capped-below (c .before .args .most) (c .before .args .n) (c .if1 .left))
 

@@ -2,26 +2,19 @@
 use Rattle.space.proofs.RangeLaws.{none, difference-fits, difference-cast, one-more, how-many}
 use Rattle.space.proofs.count.Statement.{statement}
 use Rattle.space.proofs.count.Tie as tie
-use Rattle.space.proofs.count.Reads as reads
-use Rattle.space.proofs.count.Lts as lts
 
--- src/lib.rt:106:34
 sub-result : tie.Need-sub-result
 sub-result c = let s = c .before .before .before .before .before in difference-fits (s .args .e .lo) (s .args .e .hi) (s .pre)
 
--- src/lib.rt:106:33
 cast-result : tie.Need-cast-result
 cast-result c = let s = c .before .before .before .before .before in difference-cast (s .args .e .lo) (s .args .e .hi) (s .pre) (c .before .before .if1 .left)
 
--- src/lib.rt:106:33
 add-result : tie.Need-add-result
 add-result c = let s = c .before .before .before .before .before in one-more (s .args .e .lo) (s .args .e .hi) (s .pre) (c .before .before .if1 .left)
 
--- src/lib.rt:102:1
 returns : tie.Need-returns
 returns c = let s = c .before .before .before in none (s .args .e .lo) (s .args .e .hi) (s .pre) (c .if1 .taken)
 
--- src/lib.rt:102:1
 returns-2 : tie.Need-returns-2
 returns-2 c = let s = c .before .before .before .before .before in how-many (s .args .e .lo) (s .args .e .hi) (s .pre) (c .before .before .if1 .left)
 

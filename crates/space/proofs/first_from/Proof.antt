@@ -8,10 +8,6 @@ use Rattle.space.proofs.LimitLaws.{copied}
 use Rattle.space.proofs.SideLaws.{divisor-at, first-last, first-before, first-all}
 use Rattle.space.proofs.first_from.Statement.{statement}
 use Rattle.space.proofs.first_from.Tie as tie
-use Rattle.space.proofs.first_from.Reads as reads
-use Rattle.space.proofs.first_from.Lts as lts
-use Rattle.space.proofs.larger.Reads as larger-reads
-use Rattle.space.proofs.low_at.Reads as low-at-reads
 
 abbrev Inv-loop : tie.InvT-loop
 Inv-loop nest j n outer i₀ r₀ i r = (i < n) × (r .value ≡ firstFrom nest (j + i) (n - i) outer) × (size (r .value) ≤ 34359738368)
@@ -19,49 +15,38 @@ Inv-loop nest j n outer i₀ r₀ i r = (i < n) × (r .value ≡ firstFrom nest 
 abbrev μ-loop : tie.MeasureT-loop
 μ-loop nest j n outer i₀ r₀ i r = i
 
--- src/lib.rt:60:17
 sub-i : tie.Need-sub-i Inv-loop μ-loop
 sub-i c = c .pre .some
 
--- src/lib.rt:61:45
 add-low-at : tie.Need-add-low-at Inv-loop μ-loop
 add-low-at c = let v = c .pre .inside in omega arith
 
--- src/lib.rt:61:32
 low-at-requires : tie.Need-low-at-requires Inv-loop μ-loop
 low-at-requires c κs = let h = c .pre .some in divisor-at (c .args .nest .now) (c .args .j) (c .args .n) (c .args .outer .now) (c .pre) (c .args .n - 1) (omega arith)
 
--- src/lib.rt:62:5
 loop-holds : tie.Need-loop-holds Inv-loop μ-loop
 loop-holds c = let s = c .before in let h = s .pre .some in let e = copied (c .low-at .result) (c .low-at .ensures .1) in
     (omega arith, e ∙ c .low-at .ensures .0 ∙ first-last (s .args .nest .now) (s .args .j) (s .args .n) (s .args .outer .now) (s .pre), rw e (c .low-at .ensures .1))
 
--- src/lib.rt:63:9
 sub-i-2 : tie.Need-sub-i-2 Inv-loop μ-loop
 sub-i-2 c = c .loop-test .taken
 
--- src/lib.rt:64:33
 add-low-at-2 : tie.Need-add-low-at-2 Inv-loop μ-loop
 add-low-at-2 c = let v = c .before .before .before .pre .inside in omega arith
 
--- src/lib.rt:64:20
 low-at-requires-2 : tie.Need-low-at-requires-2 Inv-loop μ-loop
 low-at-requires-2 c κs = let s = c .before .before .before in divisor-at (s .args .nest .now) (s .args .j) (s .args .n) (s .args .outer .now) (s .pre) (c .before .loop .i - 1) (omega arith)
 
--- src/lib.rt:64:9
 larger-requires : tie.Need-larger-requires Inv-loop μ-loop
 larger-requires c κs = let e = copied (c .low-at2 .result) (c .low-at2 .ensures .1) in (rw e (c .low-at2 .ensures .1), c .before .before .loop .inv .2)
 
--- src/lib.rt:62:5
 loop-less : tie.Need-loop-less Inv-loop μ-loop
 loop-less c = let h = c .before .before .loop-test .taken in omega arith
 
--- src/lib.rt:62:5
 loop-again : tie.Need-loop-again Inv-loop μ-loop
 loop-again c = let s = c .before .before .before .before .before in let l = c .before .before .before .loop in let v = c .before .low-at2 in let e = copied (v .result) (v .ensures .1) in
     (omega arith, c .larger .ensures .0 ∙ first-before (s .args .nest .now) (s .args .j) (s .args .n) (s .args .outer .now) (s .pre) (l .i) (c .before .before .loop-test .taken) (l .inv .0) (l .r .value) _ (l .inv .1) (e ∙ v .ensures .0), c .larger .ensures .1)
 
--- src/lib.rt:56:1
 returns : tie.Need-returns Inv-loop μ-loop
 returns c = let s = c .before .before .before .before in let l = c .before .before .loop in
     first-all (s .args .nest .now) (s .args .j) (s .args .n) (s .args .outer .now) (s .pre) (l .i) (omega (arith, c .before .loop-test .left)) (l .r .value) (l .inv .1) (l .inv .2)

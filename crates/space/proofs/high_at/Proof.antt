@@ -3,32 +3,22 @@ use Rattle.space.proofs.LimitLaws.{floor-is}
 use borrow.Author.Needs.{needs}
 use Rattle.space.proofs.high_at.Statement.{statement}
 use Rattle.space.proofs.high_at.Tie as tie
-use Rattle.space.proofs.high_at.Reads as reads
-use Rattle.space.proofs.high_at.Lts as lts
-use Rattle.integers.proofs.floor_div.Reads as floor-div-reads
-use Rattle.space.proofs.value.Reads as value-reads
 
--- src/lib.rt:33:25
 value-requires : tie.Need-value-requires
 value-requires c κs = search needs
 
--- src/lib.rt:33:53
 mul-floor-div : tie.Need-mul-floor-div
 mul-floor-div c = search needs
 
--- src/lib.rt:33:48
 mul-floor-div-2 : tie.Need-mul-floor-div-2
 mul-floor-div-2 c = search needs
 
--- src/lib.rt:33:48
 shared-slice-copy-out-floor-div : tie.Need-shared-slice-copy-out-floor-div
 shared-slice-copy-out-floor-div c = search needs
 
--- src/lib.rt:33:5
 floor-div-requires : tie.Need-floor-div-requires
 floor-div-requires c κs = search needs
 
--- src/lib.rt:29:1
 returns : tie.Need-returns
 returns c = let s = c .before .before .before in floor-is (s .args .nest .now) (s .args .j) (s .args .outer .now) (s .pre) (c .before .before .value .result) (c .floor-div .result) (c .before .before .value .ensures) (c .floor-div .ensures)
 

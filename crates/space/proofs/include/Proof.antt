@@ -5,39 +5,26 @@ use Rattle.space.proofs.TallyLaws.{empty-loop, one-loop}
 use borrow.Author.Needs.{needs}
 use Rattle.space.proofs.include.Statement.{statement}
 use Rattle.space.proofs.include.Tie as tie
-use Rattle.space.proofs.include.Reads as reads
-use Rattle.space.proofs.include.Lts as lts
-use Rattle.space.proofs.capped.Reads as capped-reads
-use Rattle.space.proofs.count.Reads as count-reads
-use Rattle.space.proofs.outside.Reads as outside-reads
-use Rattle.space.proofs.range.Reads as range-reads
 
--- src/lib.rt:159:9
 range-requires : tie.Need-range-requires
 range-requires c κs = search needs
 
--- src/lib.rt:160:9
 count-requires : tie.Need-count-requires
 count-requires c κs = search needs
 
--- src/lib.rt:162:9
 returns : tie.Need-returns
 returns c = let s = c .before .before .before .before in let e = c .before .before .range in let n = c .before .count in
     empty-loop (s .args .bound) (s .args .most) (s .args .a) (loopAt (s .args .nest .now) (s .args .counts .now) (length (s .args .outer .now))) (s .args .outer .now) (e .result .lo) (e .result .hi) (n .result) (e .ensures) (n .ensures .0) (s .pre .counted) (c .if1 .taken)
 
--- src/lib.rt:164:9
 outside-requires : tie.Need-outside-requires
 outside-requires c κs = search needs
 
--- src/lib.rt:167:23
 add-capped : tie.Need-add-capped
 add-capped c = search needs
 
--- src/lib.rt:167:16
 capped-requires : tie.Need-capped-requires
 capped-requires c κs = search needs
 
--- src/lib.rt:155:1
 returns-2 : tie.Need-returns-2
 returns-2 c = let s = c .before .before .before .before .before .before .before .before in let e = c .before .before .before .before .before .before .range in let n = c .before .before .before .before .before .count in
     one-loop (s .args .bound) (s .args .most) (s .args .a) (loopAt (s .args .nest .now) (s .args .counts .now) (length (s .args .outer .now))) (s .args .outer .now) (e .result .lo) (e .result .hi) (n .result) (e .ensures) (n .ensures .0) (c .before .before .before .outside .result) (c .capped .result) (c .before .before .before .before .if1 .left) (c .before .before .before .outside .ensures) (c .capped .ensures)

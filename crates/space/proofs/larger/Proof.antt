@@ -2,14 +2,10 @@
 use Rattle.space.proofs.SideLaws.{max-left, max-right}
 use Rattle.space.proofs.larger.Statement.{statement}
 use Rattle.space.proofs.larger.Tie as tie
-use Rattle.space.proofs.larger.Reads as reads
-use Rattle.space.proofs.larger.Lts as lts
 
--- src/lib.rt:41:1
 returns : tie.Need-returns
 returns c = let s = c .before .before .before in max-left (s .args .x) (s .args .rest .value) (s .pre) (c .if1 .taken)
 
--- src/lib.rt:41:1
 returns-2 : tie.Need-returns-2
 returns-2 c = let s = c .before .before .before in max-right (s .args .x) (s .args .rest .value) (s .pre) (c .if1 .left)
 

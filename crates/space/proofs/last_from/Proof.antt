@@ -8,10 +8,6 @@ use Rattle.space.proofs.LimitLaws.{copied}
 use Rattle.space.proofs.SideLaws.{divisor-at, last-last, last-before, last-all}
 use Rattle.space.proofs.last_from.Statement.{statement}
 use Rattle.space.proofs.last_from.Tie as tie
-use Rattle.space.proofs.last_from.Reads as reads
-use Rattle.space.proofs.last_from.Lts as lts
-use Rattle.space.proofs.high_at.Reads as high-at-reads
-use Rattle.space.proofs.smaller.Reads as smaller-reads
 
 abbrev Inv-loop : tie.InvT-loop
 Inv-loop nest j n outer i₀ r₀ i r = (i < n) × (r .value ≡ lastFrom nest (j + i) (n - i) outer) × (size (r .value) ≤ 34359738368)
@@ -19,49 +15,38 @@ Inv-loop nest j n outer i₀ r₀ i r = (i < n) × (r .value ≡ lastFrom nest (
 abbrev μ-loop : tie.MeasureT-loop
 μ-loop nest j n outer i₀ r₀ i r = i
 
--- src/lib.rt:74:17
 sub-i : tie.Need-sub-i Inv-loop μ-loop
 sub-i c = c .pre .some
 
--- src/lib.rt:75:46
 add-high-at : tie.Need-add-high-at Inv-loop μ-loop
 add-high-at c = let v = c .pre .inside in omega arith
 
--- src/lib.rt:75:32
 high-at-requires : tie.Need-high-at-requires Inv-loop μ-loop
 high-at-requires c κs = let h = c .pre .some in divisor-at (c .args .nest .now) (c .args .j) (c .args .n) (c .args .outer .now) (c .pre) (c .args .n - 1) (omega arith)
 
--- src/lib.rt:76:5
 loop-holds : tie.Need-loop-holds Inv-loop μ-loop
 loop-holds c = let s = c .before in let h = s .pre .some in let e = copied (c .high-at .result) (c .high-at .ensures .1) in
     (omega arith, e ∙ c .high-at .ensures .0 ∙ last-last (s .args .nest .now) (s .args .j) (s .args .n) (s .args .outer .now) (s .pre), rw e (c .high-at .ensures .1))
 
--- src/lib.rt:77:9
 sub-i-2 : tie.Need-sub-i-2 Inv-loop μ-loop
 sub-i-2 c = c .loop-test .taken
 
--- src/lib.rt:78:35
 add-high-at-2 : tie.Need-add-high-at-2 Inv-loop μ-loop
 add-high-at-2 c = let v = c .before .before .before .pre .inside in omega arith
 
--- src/lib.rt:78:21
 high-at-requires-2 : tie.Need-high-at-requires-2 Inv-loop μ-loop
 high-at-requires-2 c κs = let s = c .before .before .before in divisor-at (s .args .nest .now) (s .args .j) (s .args .n) (s .args .outer .now) (s .pre) (c .before .loop .i - 1) (omega arith)
 
--- src/lib.rt:78:9
 smaller-requires : tie.Need-smaller-requires Inv-loop μ-loop
 smaller-requires c κs = let e = copied (c .high-at2 .result) (c .high-at2 .ensures .1) in (rw e (c .high-at2 .ensures .1), c .before .before .loop .inv .2)
 
--- src/lib.rt:76:5
 loop-less : tie.Need-loop-less Inv-loop μ-loop
 loop-less c = let h = c .before .before .loop-test .taken in omega arith
 
--- src/lib.rt:76:5
 loop-again : tie.Need-loop-again Inv-loop μ-loop
 loop-again c = let s = c .before .before .before .before .before in let l = c .before .before .before .loop in let v = c .before .high-at2 in let e = copied (v .result) (v .ensures .1) in
     (omega arith, c .smaller .ensures .0 ∙ last-before (s .args .nest .now) (s .args .j) (s .args .n) (s .args .outer .now) (s .pre) (l .i) (c .before .before .loop-test .taken) (l .inv .0) (l .r .value) _ (l .inv .1) (e ∙ v .ensures .0), c .smaller .ensures .1)
 
--- src/lib.rt:70:1
 returns : tie.Need-returns Inv-loop μ-loop
 returns c = let s = c .before .before .before .before in let l = c .before .before .loop in
     last-all (s .args .nest .now) (s .args .j) (s .args .n) (s .args .outer .now) (s .pre) (l .i) (omega (arith, c .before .loop-test .left)) (l .r .value) (l .inv .1) (l .inv .2)

@@ -1,29 +1,21 @@
 -- `list_points`: `collect` from no index on; the place after the points is their number times the depth.
-use mathlib.Core.Path.{refl}
 use lib.ListN.{length}
 use Rattle.space.proofs.ListLaws.{list-in, list-out}
 use borrow.Author.Needs.{needs}
 use Rattle.space.proofs.list_points.Statement.{statement}
 use Rattle.space.proofs.list_points.Tie as tie
-use Rattle.space.proofs.list_points.Reads as reads
-use Rattle.space.proofs.list_points.Lts as lts
-use Rattle.space.proofs.collect.Reads as collect-reads
 
--- src/lib.rt:305:9
 collect-requires : tie.Need-collect-requires
 collect-requires c κs = let s = c .before .before in list-in (s .args .nest .now) (s .args .counts .now) (s .args .depth) (length (s .args .out .now)) (s .pre) _
 
--- src/lib.rt:306:5
 div-result : tie.Need-div-result
 div-result c = search needs
 
--- src/lib.rt:301:1
 same-length : tie.Need-same-length
 same-length c = search needs
 
--- src/lib.rt:301:1
 returns : tie.Need-returns
-returns c = let s = c .before .before .before .before in list-out (s .args .nest .now) (s .args .counts .now) (s .args .depth) (length (s .args .out .now)) (s .pre) _ (s .args .out .now) (c .before .collect .last .1 .1 .1 .1 .1 .0) (c .before .collect .result) refl (c .before .collect .ensures)
+returns c = let s = c .before .before .before .before in list-out (s .args .nest .now) (s .args .counts .now) (s .args .depth) (length (s .args .out .now)) (s .pre) _ (s .args .out .now) (c .before .collect .last .1 .1 .1 .1 .1 .0) (c .before .collect .result) (c .before .collect .ensures)
 
 pub list-points-spec : {M : Type 1} → statement M
 list-points-spec = tie.close (tie.spec collect-requires div-result same-length returns)

@@ -3,22 +3,16 @@ use Rattle.space.proofs.TallyLaws.{bound-negated, low-outside, high-out
 use borrow.Author.Needs.{needs}
 use Rattle.space.proofs.outside.Statement.{statement}
 use Rattle.space.proofs.outside.Tie as tie
-use Rattle.space.proofs.outside.Reads as reads
-use Rattle.space.proofs.outside.Lts as lts
 
--- src/lib.rt:147:13
 cast-b : tie.Need-cast-b
 cast-b c = search needs
 
--- src/lib.rt:148:15
 sub-if1 : tie.Need-sub-if1
 sub-if1 c = bound-negated (c .args .bound) (c .args .e .lo) (c .args .e .hi) (c .pre)
 
--- src/lib.rt:149:9
 returns : tie.Need-returns
 returns c = let s = c .before .before .before in low-outside (s .args .bound) (s .args .e .lo) (s .args .e .hi) (s .pre) (c .if1 .taken)
 
--- src/lib.rt:143:1
 returns-2 : tie.Need-returns-2
 returns-2 c = let s = c .before .before .before .before .before in high-outside (s .args .bound) (s .args .e .lo) (s .args .e .hi) (s .pre) (c .before .before .if1 .left)
 

@@ -2,14 +2,10 @@
 use Rattle.space.proofs.SideLaws.{min-left, min-right}
 use Rattle.space.proofs.smaller.Statement.{statement}
 use Rattle.space.proofs.smaller.Tie as tie
-use Rattle.space.proofs.smaller.Reads as reads
-use Rattle.space.proofs.smaller.Lts as lts
 
--- src/lib.rt:48:1
 returns : tie.Need-returns
 returns c = let s = c .before .before .before in min-left (s .args .x) (s .args .rest .value) (s .pre) (c .if1 .taken)
 
--- src/lib.rt:48:1
 returns-2 : tie.Need-returns-2
 returns-2 c = let s = c .before .before .before in min-right (s .args .x) (s .args .rest .value) (s .pre) (c .if1 .left)
 

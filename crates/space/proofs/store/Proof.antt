@@ -8,8 +8,6 @@ use Rattle.lists.proofs.PartLaws.{put-nil}
 use Rattle.space.proofs.StoreLaws.{copy-room, copy-more, copy-done}
 use Rattle.space.proofs.store.Statement.{statement}
 use Rattle.space.proofs.store.Tie as tie
-use Rattle.space.proofs.store.Reads as reads
-use Rattle.space.proofs.store.Lts as lts
 
 abbrev Inv-loop : tie.InvT-loop
 Inv-loop out₀ at row j₀ out j = (j ≤ length row) × (out ≡ put out₀ at (take j row))
@@ -17,48 +15,37 @@ Inv-loop out₀ at row j₀ out j = (j ≤ length row) × (out ≡ put out₀ at
 abbrev μ-loop : tie.MeasureT-loop
 μ-loop out₀ at row j₀ out j = length row - j
 
--- src/lib.rt:265:5
 loop-holds : tie.Need-loop-holds Inv-loop μ-loop
 loop-holds c = (omega arith, sym (put-nil _ _))
 
--- src/lib.rt:266:23
 mul-out : tie.Need-mul-out Inv-loop μ-loop
 mul-out c = omega arith
 
--- src/lib.rt:266:23
 shared-slice-copy-out-out : tie.Need-shared-slice-copy-out-out Inv-loop μ-loop
 shared-slice-copy-out-out c = omega arith
 
--- src/lib.rt:266:13
 add-t9 : tie.Need-add-t9 Inv-loop μ-loop
 add-t9 c = omega arith
 
--- src/lib.rt:266:9
 mul-t10 : tie.Need-mul-t10 Inv-loop μ-loop
 mul-t10 c = omega arith
 
--- src/lib.rt:266:9
 slice-set-from-out : tie.Need-slice-set-from-out Inv-loop μ-loop
 slice-set-from-out c = let s = c .before .before .before in let l = c .before .before .loop in let n = copy-room (s .args .out .now) (s .args .row .now) (s .args .at) (s .pre) (l .out) (l .j) (l .inv .1) (l .inv .0) in omega arith
 
--- src/lib.rt:267:9
 add-j : tie.Need-add-j Inv-loop μ-loop
 add-j c = omega arith
 
--- src/lib.rt:265:5
 loop-less : tie.Need-loop-less Inv-loop μ-loop
 loop-less c = omega arith
 
--- src/lib.rt:265:5
 loop-again : tie.Need-loop-again Inv-loop μ-loop
 loop-again c = let s = c .before .before .before in let l = c .before .before .loop in
     (omega arith, copy-more (s .args .out .now) (s .args .row .now) (s .args .at) (s .pre) (l .out) (l .j) (l .inv .1) (c .before .loop-test .taken) (record { sfits = c .out .given }))
 
--- src/lib.rt:260:1
 same-length : tie.Need-same-length Inv-loop μ-loop
 same-length c = let s = c .before .before in let l = c .before .loop in copy-room (s .args .out .now) (s .args .row .now) (s .args .at) (s .pre) (l .out) (l .j) (l .inv .1) (l .inv .0)
 
--- src/lib.rt:260:1
 returns : tie.Need-returns Inv-loop μ-loop
 returns c = let s = c .before .before in let l = c .before .loop in copy-done (s .args .out .now) (s .args .row .now) (s .args .at) (s .pre) (l .out) (l .j) (l .inv .1) (omega (arith, l .inv .0, c .loop-test .left))
 

@@ -5,9 +5,6 @@ use Rattle.space.specs.Flat.{loopsFrom}
 use Rattle.space.proofs.DepthLaws.{Passed, tally-in, passes, far-answer, crowded-answer, admitted-answer}
 use Rattle.space.proofs.survey.Statement.{statement}
 use Rattle.space.proofs.survey.Tie as tie
-use Rattle.space.proofs.survey.Reads as reads
-use Rattle.space.proofs.survey.Lts as lts
-use Rattle.space.proofs.tally_points.Reads as tally-points-reads
 
 abbrev Inv-loop : tie.InvT-loop
 Inv-loop nest counts depth bound most level₀ level = (1 ≤ level) × Passed bound most (loopsFrom nest counts 0 depth) level × (level ≤ depth + 1)
@@ -15,38 +12,30 @@ Inv-loop nest counts depth bound most level₀ level = (1 ≤ level) × Passed b
 abbrev μ-loop : tie.MeasureT-loop
 μ-loop nest counts depth bound most level₀ level = depth + 1 - level
 
--- src/lib.rt:216:5
 loop-holds : tie.Need-loop-holds Inv-loop μ-loop
 loop-holds c = (omega arith, λ j a b. absurd (omega arith), omega arith)
 
--- src/lib.rt:217:13
 tally-points-requires : tie.Need-tally-points-requires Inv-loop μ-loop
 tally-points-requires c κs = let s = c .before .before .before in let l = c .before .loop in tally-in (s .args .nest .now) (s .args .counts .now) (s .args .depth) (s .args .bound) (s .args .most) (s .pre) (l .level) (l .inv .1) (l .inv .0) (c .loop-test .taken) _
 
--- src/lib.rt:219:13
 returns : tie.Need-returns Inv-loop μ-loop
 returns c = let s = c .before .before .before .before .before in let l = c .before .before .before .loop in let t = c .before .tally-points in
     λ far crowded. far-answer (s .args .nest .now) (s .args .counts .now) (s .args .depth) (s .args .bound) (s .args .most) (s .pre) (l .level) (l .inv .1) (l .inv .0) (c .before .before .loop-test .taken) _ (t .result) (t .ensures) far crowded (c .if1 .taken)
 
--- src/lib.rt:222:13
 returns-2 : tie.Need-returns-2 Inv-loop μ-loop
 returns-2 c = let s = c .before .before .before .before .before .before .before in let l = c .before .before .before .before .before .loop in let t = c .before .before .before .tally-points in
     λ far crowded. crowded-answer (s .args .nest .now) (s .args .counts .now) (s .args .depth) (s .args .bound) (s .args .most) (s .pre) (l .level) (l .inv .1) (l .inv .0) (c .before .before .before .before .loop-test .taken) _ (t .result) (t .ensures) far crowded (c .before .before .if1 .left) (c .if2 .taken)
 
--- src/lib.rt:224:9
 add-level : tie.Need-add-level Inv-loop μ-loop
 add-level c = let d = c .before .before .before .before .before .before .before .pre .nest .shallow in let h = c .before .before .before .before .loop-test .taken in omega arith
 
--- src/lib.rt:216:5
 loop-less : tie.Need-loop-less Inv-loop μ-loop
 loop-less c = let h = c .before .before .before .before .loop-test .taken in omega arith
 
--- src/lib.rt:216:5
 loop-again : tie.Need-loop-again Inv-loop μ-loop
 loop-again c = let s = c .before .before .before .before .before .before .before in let l = c .before .before .before .before .before .loop in let t = c .before .before .before .tally-points in let h = c .before .before .before .before .loop-test .taken in
     (omega arith, passes (s .args .nest .now) (s .args .counts .now) (s .args .depth) (s .args .bound) (s .args .most) (s .pre) (l .level) (l .inv .1) (l .inv .0) h _ (t .result) (t .ensures) (c .before .before .if1 .left) (c .if2 .left), omega arith)
 
--- src/lib.rt:211:1
 returns-3 : tie.Need-returns-3 Inv-loop μ-loop
 returns-3 c = let s = c .before .before .before in let l = c .before .loop in λ far crowded. admitted-answer (s .args .nest .now) (s .args .counts .now) (s .args .depth) (s .args .bound) (s .args .most) (s .pre) (l .level) (l .inv .1) (l .inv .0) far crowded (omega (arith, l .inv .2, c .loop-test .left))
 

@@ -3,59 +3,43 @@ use Rattle.space.proofs.LimitLaws.{affine-in, value-is}
 use borrow.Author.Needs.{needs}
 use Rattle.space.proofs.value.Statement.{statement}
 use Rattle.space.proofs.value.Tie as tie
-use Rattle.space.proofs.value.Reads as reads
-use Rattle.space.proofs.value.Lts as lts
-use Rattle.integers.proofs.affine.Reads as affine-reads
 
--- src/lib.rt:16:14
 mul-at : tie.Need-mul-at
 mul-at c = search needs
 
--- src/lib.rt:17:27
 add-affine : tie.Need-add-affine
 add-affine c = search needs
 
--- src/lib.rt:17:22
 mul-affine : tie.Need-mul-affine
 mul-affine c = search needs
 
--- src/lib.rt:17:22
 shared-slice-copy-out-affine : tie.Need-shared-slice-copy-out-affine
 shared-slice-copy-out-affine c = search needs
 
--- src/lib.rt:17:42
 add-affine-2 : tie.Need-add-affine-2
 add-affine-2 c = search needs
 
--- src/lib.rt:17:50
 add-affine-3 : tie.Need-add-affine-3
 add-affine-3 c = search needs
 
--- src/lib.rt:17:50
 add-affine-4 : tie.Need-add-affine-4
 add-affine-4 c = search needs
 
--- src/lib.rt:17:36
 mul-affine-2 : tie.Need-mul-affine-2
 mul-affine-2 c = search needs
 
--- src/lib.rt:17:36
 sub-affine : tie.Need-sub-affine
 sub-affine c = search needs
 
--- src/lib.rt:17:36
 part-affine-start : tie.Need-part-affine-start
 part-affine-start c = search needs
 
--- src/lib.rt:17:36
 part-affine-end : tie.Need-part-affine-end
 part-affine-end c = search needs
 
--- src/lib.rt:17:5
 affine-requires : tie.Need-affine-requires
 affine-requires c κs = let s = c .before .before in affine-in (s .args .nest .now) (s .args .j) (s .args .outer .now) (s .pre)
 
--- src/lib.rt:12:1
 returns : tie.Need-returns
 returns c = let s = c .before .before .before in value-is (s .args .nest .now) (s .args .j) (s .args .outer .now) (s .pre) (c .affine .result) (c .affine .ensures)
 

@@ -1,0 +1,116 @@
+-- The numbers of one access at the stored points, one more; then those of all accesses, and what is read back of them.
+use mathlib.Core.Path.{_≡_, refl, sym, _∙_, ap, subst}
+use mathlib.Core.Bool.{false}
+use mathlib.Core.Logic.{⊎-elim}
+use mathlib.Core.List.{List, [], _∷_, _++_, map, map-append}
+use Prim.Native.Nat.{ℕ, zero, suc, _+_, _*_, _-_, _≤_, _<_}
+use native.Mathlib.Omega.{arith}
+use native.Mathlib.Nat.{eq-or-lt-of-le}
+use native.Mathlib.Numerals.{add-one}
+use lib.IntN.{ℤ}
+use lib.ListN.{length, getD, take, drop, set, length-map}
+use Rattle.lists.specs.Parts.{rows, put}
+use Rattle.lists.proofs.PartLaws.{length-rows, length-put, set-put, put-nil, getD-put, getD-put-before}
+use Rattle.model.specs.Bounds.{strays}
+use Rattle.model.specs.Store.{base}
+use Rattle.elements.specs.Layout.{arraysOf, accessAt}
+use Rattle.elements.specs.Places.{BaseIn, PlaceIn, NumberIn, placeAt, placesOf, numbered}
+use Rattle.elements.proofs.LayoutLaws.{array-in}
+use Rattle.elements.proofs.RowLaws.{lent, row-is, row-length, row-mem, row-near, next-rows}
+
+module _ (w : List ℤ) (o a : List ℕ) (points : List ℤ) (depth count room : ℕ) (p : NumberIn w o a points depth count room) (k : ℕ) (h : k < length o) where
+  pub base-in : BaseIn a (getD o k 0)
+  base-in = record { array = array-in w o a depth (getD o k 0) (p .accesses) (p .accesses .there k h); fits = p .fits }
+
+  places-length : (i : ℕ) → length (placesOf w o a depth (rows depth i points) k) ≡ i
+  unfolding placesOf
+  places-length i = length-map (rows depth i points) (placeAt w o a depth k) ∙ length-rows depth i points
+
+  pub same-room : (i : ℕ) → i ≤ count → (out out₀ : List ℕ) → length out₀ ≡ room → out ≡ put out₀ (k * 4096) (placesOf w o a depth (rows depth i points) k) → length out ≡ length out₀
+  same-room i l out out₀ len f = let s = p .space in let c = p .stored .bound in let n = places-length i in
+      ap length f ∙ length-put out₀ (k * 4096) (placesOf w o a depth (rows depth i points) k) (omega arith)
+
+  pub no-place : (out₀ : List ℕ) → out₀ ≡ put out₀ (k * 4096) (placesOf w o a depth (rows depth 0 points) k)
+  unfolding placesOf rows
+  no-place out₀ = sym (put-nil out₀ (k * 4096))
+
+  module _ (b i at : ℕ) (q : b ≡ base (arraysOf a) (getD o k 0)) (l : i < count) (e : at ≡ i * depth) where
+    width : length (lent points depth count (p .stored) i at l e) ≡ depth
+    width = row-length points depth count (p .stored) i at l e
+
+    pub place-in : PlaceIn w o a k b (take (at + depth - at) (drop at points))
+    place-in = record {
+      accesses = rw width (p .accesses);
+      there = h;
+      near = row-near points depth count (p .stored) i at l e;
+      inside = rw width (subst (λ (x : List ℤ). strays (arraysOf a) x (accessAt w o a depth k) ≡ false) (sym (row-is points depth count (p .stored) i at l e)) (p .inside k h (getD (rows depth count points) i []) (row-mem points depth count (p .stored) i at l e)));
+      fits = p .fits;
+      begins = q;
+    }
+
+    module _ (out out₀ : List ℕ) (len : length out₀ ≡ room) (f : out ≡ put out₀ (k * 4096) (placesOf w o a depth (rows depth i points) k)) where
+      ends : k * 4096 + i < room
+      ends = let s = p .space in let c = p .stored .bound in omega arith
+
+      pub in-room : k * 4096 + i < length out
+      in-room = let g = ends in let z = same-room i (omega arith) out out₀ len f in omega arith
+
+      pub place-more : (r : ℕ) → r ≡ placeAt w o a (length (take (at + depth - at) (drop at points))) k (take (at + depth - at) (drop at points))
+          → set out (k * 4096 + i) r ≡ put out₀ (k * 4096) (placesOf w o a depth (rows depth (i + 1) points) k)
+      unfolding placesOf
+      place-more r g =
+          let n = places-length i in let z = ends in
+          let v : r ≡ placeAt w o a depth k (take (at + depth - at) (drop at points)) = g ∙ ap (λ (m : ℕ). placeAt w o a m k (take (at + depth - at) (drop at points))) width in
+          ap (λ (x : List ℕ). set x (k * 4096 + i) r) f
+          ∙ ap (λ (m : ℕ). set (put out₀ (k * 4096) (map (placeAt w o a depth k) (rows depth i points))) (k * 4096 + m) r) (sym n)
+          ∙ set-put out₀ (k * 4096) (map (placeAt w o a depth k) (rows depth i points)) r (omega arith)
+          ∙ ap (put out₀ (k * 4096)) (ap (λ (x : ℕ). map (placeAt w o a depth k) (rows depth i points) ++ (x ∷ [])) v
+          ∙ sym (map-append (placeAt w o a depth k) (rows depth i points) (take (at + depth - at) (drop at points) ∷ []))
+          ∙ ap (map (placeAt w o a depth k)) (sym (next-rows points depth count (p .stored) i at l e)))
+
+-- ---- what is written and what is read back
+
+pub numbered-length : (f : ℕ → List ℕ) (m : ℕ) (out : List ℕ) → ((k : ℕ) → k < m → length (f k) ≤ 4096) → m * 4096 ≤ length out → length (numbered f m out) ≡ length out
+unfolding numbered
+numbered-length f zero out h r = refl
+numbered-length f (suc m) out h r = let s = h m (omega arith) in let l = numbered-length f m out (λ k g. h k (omega arith)) (omega arith) in
+    length-put (numbered f m out) (m * 4096) (f m) (omega arith) ∙ l
+
+pub numbered-read : (f : ℕ → List ℕ) (m : ℕ) (out : List ℕ) → ((k : ℕ) → k < m → length (f k) ≤ 4096) → m * 4096 ≤ length out
+    → (k i : ℕ) → k < m → i < length (f k) → getD (numbered f m out) (k * 4096 + i) 0 ≡ getD (f k) i 0
+unfolding numbered
+numbered-read f zero out h r k i g l = absurd (omega arith)
+numbered-read f (suc m) out h r k i g l =
+    let n = numbered-length f m out (λ j x. h j (omega arith)) (omega arith) in
+    ⊎-elim (λ (e : k ≡ m). ap (λ (j : ℕ). getD (put (numbered f m out) (m * 4096) (f m)) (j * 4096 + i) 0) e ∙ getD-put (numbered f m out) (m * 4096) (f m) i 0 (subst (λ (j : ℕ). i < length (f j)) e l) (omega arith) ∙ ap (λ (j : ℕ). getD (f j) i 0) (sym e))
+    (λ (e : k < m). let s = h k g in getD-put-before (numbered f m out) (m * 4096) (f m) (k * 4096 + i) 0 (omega arith) (omega arith) ∙ numbered-read f m out (λ j x. h j (omega arith)) (omega arith) k i e l)
+    (eq-or-lt-of-le (below k m g))
+  where
+    below : (k m : ℕ) → k < suc m → k ≤ m
+    below k m g = omega arith
+
+-- ---- the loop over all accesses
+
+module _ (w : List ℤ) (o a : List ℕ) (points : List ℤ) (depth count : ℕ) (out₀ : List ℕ) (p : NumberIn w o a points depth count (length out₀)) where
+  few-places : (k : ℕ) → length (placesOf w o a depth (rows depth count points) k) ≤ 4096
+  unfolding placesOf
+  few-places k = let l = length-map (rows depth count points) (placeAt w o a depth k) ∙ length-rows depth count points in let b = p .stored .bound in omega arith
+
+  pub same-out : (k : ℕ) → k ≤ length o → (out : List ℕ) → out ≡ numbered (placesOf w o a depth (rows depth count points)) k out₀ → length out ≡ length out₀
+  same-out k h out e = let s = p .space in ap length e ∙ numbered-length (placesOf w o a depth (rows depth count points)) k out₀ (λ j _. few-places j) (omega arith)
+
+  pub next-in : (k : ℕ) → k < length o → (out : List ℕ) → out ≡ numbered (placesOf w o a depth (rows depth count points)) k out₀ → NumberIn w o a points depth count (length out) × (k < length o)
+  next-in k h out e = (subst (NumberIn w o a points depth count) (sym (same-out k (omega arith) out e)) p, h)
+
+  pub next-out : (k : ℕ) (out e : List ℕ) → out ≡ numbered (placesOf w o a depth (rows depth count points)) k out₀ → e ≡ put out (k * 4096) (placesOf w o a depth (rows depth count points) k)
+      → e ≡ numbered (placesOf w o a depth (rows depth count points)) (k + 1) out₀
+  unfolding numbered
+  next-out k out e f g = g ∙ rw (f, add-one k)
+
+  -- what stands for access k at point i
+  pub stored-place : (e : List ℕ) → e ≡ numbered (placesOf w o a depth (rows depth count points)) (length o) out₀ → (k i : ℕ) → k < length o → i < count
+      → getD e (k * 4096 + i) 0 ≡ getD (placesOf w o a depth (rows depth count points) k) i 0
+  unfolding placesOf
+  stored-place e f k i h g = let s = p .space in let l = length-map (rows depth count points) (placeAt w o a depth k) ∙ length-rows depth count points in
+      ap (λ (x : List ℕ). getD x (k * 4096 + i) 0) f
+      ∙ numbered-read (placesOf w o a depth (rows depth count points)) (length o) out₀ (λ j _. few-places j) (omega arith) k i h (omega arith)
