@@ -8,3 +8,6 @@ pub mod WriteLaws
 pub mod SideLaws
 pub mod LayLaws
 pub mod Witness
+pub mod RowLaws
+pub mod AccessWrites
+pub mod StatementWrites

@@ -1,12 +1,17 @@
 // A decoded ticket laid out in flat slices, which the enumeration of points and the search for conflicts are lent.
 ghost use mathlib.Core.Path.{_≡_};
 ghost use Prim.Native.Nat.{_*_};
-ghost use lib.ListN.{length};
+ghost use lib.ListN.{length, set};
 ghost use Rattle.lists.specs.Parts.{put};
 ghost use Rattle.integers.specs.Affine.{Within};
 ghost use Rattle.model.specs.Encode.{limitWords};
 ghost use Rattle.nest.specs.Nested.{limitOf, sideOf, loopOf};
+ghost use Rattle.body.specs.Statements.{subscriptOf, accessOf};
+ghost use Rattle.layout.specs.Accesses.{subscriptWords, layAccess, LaySubscriptIn, LayAccessIn, LayStatementIn, StatementLaid};
 ghost use Rattle.layout.specs.Limits.{layLimits, layLoop, layCount, LayLimitIn, LaySideIn, LayLoopIn, LayNestIn, NestLaid};
+use body::Access;
+use body::Statement;
+use body::Subscript;
 use nest::Limit;
 use nest::Loop;
 use nest::Nest;
@@ -77,4 +82,56 @@ pub fn lay_nest(words: &mut [i64], counts: &mut [usize], nest: Nest)
         lay_loop(words, counts, k, body);
         k += 1;
     }
+}
+
+// Subscript j of all.
+fn lay_subscript(words: &mut [i64], j: usize, subscript: Subscript, depth: usize)
+    requires { ⌜ LaySubscriptIn (length (now words)) j depth subscript ⌝ }
+    ensures { λ _. ⌜ now (words .exit) ≡ put (now (words .entry)) (j * 8) (subscriptWords (subscriptOf depth subscript)) ⌝ }
+{
+    let at = j * 8;
+    let constant = subscript.constant;
+    let coefficients = subscript.coefficients;
+    words[at] = constant;
+    space::store(words, at + 1, &coefficients[..depth]);
+}
+
+// Access k, and the number of its array.
+fn lay_access(words: &mut [i64], owners: &mut [usize], k: usize, access: Access, depth: usize)
+    requires { ⌜ LayAccessIn (length (now words)) (length (now owners)) k depth access ⌝ }
+    ensures { λ _. ⌜ (now (words .exit) ≡ layAccess (now (words .entry)) k (accessOf depth access)) × (now (owners .exit) ≡ set (now (owners .entry)) k (access .array)) ⌝ }
+{
+    owners[k] = access.array;
+    let dimensions = access.dimensions;
+    let subscripts = access.subscripts;
+    let mut d = 0;
+    while d < dimensions {
+        let subscript = subscripts[d];
+        lay_subscript(words, k * 3 + d, subscript, depth);
+        d += 1;
+    }
+}
+
+// The accesses of a statement from access k on, the written one first; returns the number after them.
+fn lay_statement(
+    words: &mut [i64],
+    owners: &mut [usize],
+    k: usize,
+    statement: Statement,
+    depth: usize,
+) -> usize
+    requires { ⌜ LayStatementIn (length (now words)) (length (now owners)) k depth statement ⌝ }
+    ensures { λ r. ⌜ StatementLaid depth statement k r (now (words .entry)) (now (words .exit)) (now (owners .entry)) (now (owners .exit)) ⌝ }
+{
+    let write = statement.write;
+    let reads = statement.reads;
+    let read = statement.read;
+    lay_access(words, owners, k, write, depth);
+    let mut i = 0;
+    while i < reads {
+        let access = read[i];
+        lay_access(words, owners, k + 1 + i, access, depth);
+        i += 1;
+    }
+    k + 1 + reads
 }
