@@ -17,7 +17,7 @@ use Rattle.nest.specs.declared.Loop.{Loop}
 
 -- ---- the array
 
-loops-append : (n : ℕ) (xs ys : List Loop) → loopsFrom n (xs ++ ys) ≡ loopsFrom n xs ++ loopsFrom (n + length xs) ys
+pub loops-append : (n : ℕ) (xs ys : List Loop) → loopsFrom n (xs ++ ys) ≡ loopsFrom n xs ++ loopsFrom (n + length xs) ys
 unfolding loopsFrom
 loops-append n [] ys = ap (λ m. loopsFrom m ys) (omega arith)
 loops-append n (x ∷ xs) ys =

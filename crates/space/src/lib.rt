@@ -249,7 +249,7 @@ pub fn survey(nest: &[i64], counts: &[usize], depth: usize, bound: usize, most: 
 }
 
 // Writes a row into out from place at on.
-fn store(out: &mut [i64], at: usize, row: &[i64])
+pub fn store(out: &mut [i64], at: usize, row: &[i64])
     requires { ⌜ at + length (now row) ≤ length (now out) ⌝ }
     ensures { λ _. ⌜ now (out .exit) ≡ put (now (out .entry)) at (now (row .entry)) ⌝ }
 {

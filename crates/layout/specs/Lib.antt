@@ -1,0 +1,3 @@
+-- What the crate's contracts speak of: flat slices with a nest laid over them, and what may be laid.
+pub mod Limits
+pub mod Accesses
