@@ -95,9 +95,9 @@ module _ (o : List ℤ) (rows k depth : ℕ) (a : Access) (p : LayAccessIn (leng
         let n = rows-count i (omega arith) in
         let s = getD (a .subscripts) i x in
         let m : firstRows depth (a .subscripts) (i + 1) ≡ firstRows depth (a .subscripts) i ++ (subscriptWords (subscriptOf depth s) ∷ []) =
-            ap (λ l. map subscriptWords (map (subscriptOf depth) l)) (ap (λ t. take t (a .subscripts)) (add-one i) ∙ take-suc (a .subscripts) i x (omega arith))
-            ∙ ap (map subscriptWords) (map-append (subscriptOf depth) (take i (a .subscripts)) (s ∷ []))
-            ∙ map-append subscriptWords (map (subscriptOf depth) (take i (a .subscripts))) (subscriptOf depth s ∷ []) in
+        ap (λ l. map subscriptWords (map (subscriptOf depth) l)) (ap (λ t. take t (a .subscripts)) (add-one i) ∙ take-suc (a .subscripts) i x (omega arith))
+        ∙ ap (map subscriptWords) (map-append (subscriptOf depth) (take i (a .subscripts)) (s ∷ []))
+        ∙ map-append subscriptWords (map (subscriptOf depth) (take i (a .subscripts))) (subscriptOf depth s ∷ []) in
         q ∙ ap₂ (λ y t. put y ((k * 3 + t) * 8) (subscriptWords (subscriptOf depth s))) e (sym n)
         ∙ sym (rows-more 8 o (k * 3) (firstRows depth (a .subscripts) i) (subscriptWords (subscriptOf depth s)))
         ∙ ap (layRows 8 o (k * 3)) (sym m)
