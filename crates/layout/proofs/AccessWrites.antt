@@ -1,10 +1,10 @@
 -- What `lay_subscript`, `lay_access` and `lay_statement` write.
-use mathlib.Core.Path.{_≡_, refl, sym, ap, ap₂, _∙_, subst}
-use mathlib.Core.List.{List, [], _∷_, _++_, map, map-append, map-map, Memᴰ·map}
-use Prim.Native.Nat.{ℕ, suc, _+_, _*_, _≤_, _<_}
+use mathlib.Core.Path.{_≡_, sym, ap, ap₂, _∙_, subst}
+use mathlib.Core.List.{List, [], _∷_, _++_, map, map-append, Memᴰ·map}
+use Prim.Native.Nat.{ℕ, _+_, _*_, _≤_, _<_}
 use native.Mathlib.Omega.{arith}
 use native.Mathlib.Numerals.{add-one}
-use lib.IntN.{ℤ, pos}
+use lib.IntN.{ℤ}
 use lib.ListN.{length, getD, take, set, length-map}
 use lib.Seq.{length-take-le, take-suc, take-take, getD-take}
 use mir.Syntax.{w64}
@@ -12,7 +12,7 @@ use mir.Val.{SFits, toZ, ofZ}
 use Rattle.lists.specs.Membership.{Mem, All}
 use Rattle.lists.specs.Parts.{put}
 use Rattle.lists.proofs.MembershipLaws.{all-getD, all-take, getD-mem, map-all}
-use Rattle.lists.proofs.PartLaws.{put-put, set-is-put, set-put, length-put}
+use Rattle.lists.proofs.PartLaws.{put-put, set-is-put, length-put}
 use Rattle.integers.proofs.RangeLaws.{back, size-fits, size-natAbs}
 use Rattle.model.specs.Ticket as Model
 use Rattle.model.specs.Ranges.{SubscriptRanges}

@@ -1,10 +1,10 @@
 -- Rows laid over a list (`layRows`), each shorter than the place that it has. In order: one more; what stays; a row read back; a property
 -- of every element.
-use mathlib.Core.Path.{_≡_, refl, sym, ap, ap₂, _∙_, subst}
+use mathlib.Core.Path.{_≡_, refl, sym, ap, _∙_, subst}
 use mathlib.Core.List.{List, [], _∷_, _++_, List·Memᴰ·head, List·Memᴰ·tail}
-use Prim.Native.Nat.{ℕ, zero, suc, _+_, _*_, _-_, _≤_, _<_}
+use Prim.Native.Nat.{ℕ, suc, _+_, _*_, _-_, _≤_}
 use native.Mathlib.Omega.{arith}
-use native.Mathlib.Nat.{add-zero, suc-mul, mul-le-mul-right}
+use native.Mathlib.Nat.{add-zero, suc-mul}
 use lib.ListN.{length, getD, take, drop}
 use lib.Seq.{take-take, drop-drop, getD-drop, getD-take}
 use Rattle.lists.specs.Membership.{All}

@@ -1,25 +1,20 @@
 -- Flat slices (`elements`, specs/Layout) with arrays and accesses laid over them. First the lists that are left; then what each function asks
 -- and gives.
 use mathlib.Core.Path.{_≡_}
-use mathlib.Core.List.{List, [], _∷_, _++_, map, flatMap}
+use mathlib.Core.List.{List, [], _∷_, map}
 use Prim.Native.Nat.{ℕ, suc, _+_, _*_, _≤_, _<_}
 use lib.IntN.{ℤ}
-use lib.ListN.{length, take}
+use lib.ListN.{length}
 use Rattle.lists.specs.Membership.{All}
 use Rattle.lists.specs.Parts.{put}
 use Rattle.model.specs.Ticket as Model
 use Rattle.model.specs.Bounds.{accessesOf}
-use Rattle.model.specs.Shape.{Fits}
-use Rattle.model.specs.Ranges.{ArrayRanges, SubscriptRanges, AccessRanges}
+use Rattle.model.specs.Ranges.{SubscriptRanges, AccessRanges}
 use Rattle.body.specs.Arrays as Struct
-use Rattle.body.specs.Statements.{subscriptOf, accessOf, statementOf, statementsOf, SubscriptIn, AccessIn, StatementIn, BodyIn}
-use Rattle.body.specs.declared.Arrays.{Arrays}
-use Rattle.body.specs.declared.Shape.{Shape}
+use Rattle.body.specs.Statements.{subscriptOf, accessOf, statementOf, SubscriptIn, AccessIn, StatementIn}
 use Rattle.body.specs.declared.Subscript.{Subscript}
 use Rattle.body.specs.declared.Access.{Access}
 use Rattle.body.specs.declared.Statement.{Statement}
-use Rattle.body.specs.declared.Body.{Body}
-use Rattle.elements.specs.Layout.{arraysOf, bodiesFrom, AccessesOk}
 
 -- rows of at most w elements, from row j on
 unfoldable pub layRows : {A : Type 0} → ℕ → List A → ℕ → List (List A) → List A

@@ -1,5 +1,4 @@
 -- The difference of two subscripts over two free iterations, and the test of two accesses: what the functions ask.
-use mathlib.Core.Path.{_≡_}
 use mathlib.Core.List.{List, [], _∷_, _++_}
 use Prim.Native.Nat.{ℕ, _+_, _*_, _≤_, _<_}
 use lib.IntN.{ℤ, natAbs, _+ℤ_}

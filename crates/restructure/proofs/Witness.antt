@@ -1,13 +1,12 @@
 -- A nest that meets what each step asks: two loops from 0 to 5.
 use mathlib.Core.Path.{refl}
-use mathlib.Core.List.{List}
 use native.Mathlib.Omega.{arith}
 use lib.IntN.{ℤ, pos}
-use lib.ListN.{length, replicate}
+use lib.ListN.{replicate}
 use Rattle.lists.specs.Tests.{all}
 use Rattle.lists.proofs.MembershipLaws.{all-nil, all-cons}
 use Rattle.model.specs.Judge.{small, smallLimit, smallLoop}
-use Rattle.nest.specs.Nested.{limitOf, sideOf, loopOf, loopsFrom, loopsOf, LimitIn, SideIn, LoopIn, NestIn}
+use Rattle.nest.specs.Nested.{limitOf, sideOf, loopOf, loopsFrom, loopsOf, LimitIn, SideIn, LoopIn}
 use Rattle.nest.specs.declared.Limit.{Limit}
 use Rattle.nest.specs.declared.Side.{Side}
 use Rattle.nest.specs.declared.Loop.{Loop}

@@ -3,7 +3,7 @@ use mathlib.Core.List.{[], map}
 use mathlib.Core.Bool.{false}
 use Prim.Native.Nat.{ℕ, _-_, _≤_}
 use native.Mathlib.Omega.{arith}
-use lib.ListN.{length, take}
+use lib.ListN.{take}
 use borrow.Author.Needs.{needs}
 use Rattle.lists.specs.Tests.{any}
 use Rattle.model.specs.Limits.{sameLimit}
