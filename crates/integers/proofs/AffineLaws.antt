@@ -1,5 +1,5 @@
--- Affine values: the dot product of longer lists, of changed coefficients, of the first elements (as a loop sums them); then its size; then
--- what divides it.
+-- Affine values: the dot product of longer lists, of changed coefficients, of a changed index, of the first elements (as a loop sums them);
+-- then its size; then what divides it.
 use mathlib.Core.Path.{_≡_, refl, sym, _∙_, ap}
 use mathlib.Core.List.{List, [], _∷_, _++_, map, zipWith, List·Memᴰ, List·Memᴰ·head, List·Memᴰ·tail}
 use Prim.Native.Nat.{ℕ, zero, suc, _+_, _*_, _≤_, _<_}
@@ -7,6 +7,7 @@ use native.Mathlib.Omega.{arith}
 use lib.ListN.{length, getD, take, replicate}
 use lib.Seq.{take-length}
 use lib.IntN.{ℤ, pos, negℤ, _+ℤ_, _*ℤ_}
+use Rattle.lists.specs.Place.{under, onHead}
 use Rattle.integers.specs.Difference.{size}
 use Rattle.integers.specs.Affine.{dot, affine, Within, AffineIn}
 use Rattle.integers.proofs.RangeLaws.{size-add, size-mul}
@@ -29,6 +30,19 @@ dot-append (c ∷ cs) ds [] ys e = absurd (omega arith)
 dot-append (c ∷ cs) ds (x ∷ xs) ys e =
     ap (λ t. c *ℤ x +ℤ t) (dot-append cs ds xs ys (omega arith))
     ∙ lin ((c *ℤ x) ∷ dot cs xs ∷ dot ds ys ∷ []) (λ a b d. a ⊕ (b ⊕ d) ≐ a ⊕ b ⊕ d) tt
+
+-- one coefficient and one index more
+pub dot-more : (cs : List ℤ) (c : ℤ) (xs : List ℤ) (x : ℤ) → length cs ≡ length xs → dot (cs ++ (c ∷ [])) (xs ++ (x ∷ [])) ≡ dot cs xs +ℤ c *ℤ x
+unfolding dot
+dot-more cs c xs x e = dot-append cs (c ∷ []) xs (x ∷ []) e ∙ lin (dot cs xs ∷ c ∷ x ∷ []) (λ d c x. d ⊕ (c ⊗ x ⊕ # 0) ≐ d ⊕ c ⊗ x) tt
+
+pub dot-last : (cs xs : List ℤ) (x : ℤ) → length cs ≡ suc (length xs) → dot cs (xs ++ (x ∷ [])) ≡ dot (take (length xs) cs) xs +ℤ getD cs (length xs) (pos 0) *ℤ x
+unfolding dot
+dot-last [] xs x e = absurd (omega arith)
+dot-last (c ∷ []) [] x e = lin (c ∷ x ∷ []) (λ c x. c ⊗ x ⊕ # 0 ≐ # 0 ⊕ c ⊗ x) tt
+dot-last (c ∷ d ∷ cs) [] x e = absurd (omega arith)
+dot-last (c ∷ cs) (y ∷ xs) x e = ap (λ d. c *ℤ y +ℤ d) (dot-last cs xs x (omega arith))
+    ∙ lin ((c *ℤ y) ∷ dot (take (length xs) cs) xs ∷ (getD cs (length xs) (pos 0) *ℤ x) ∷ []) (λ a d b. a ⊕ (d ⊕ b) ≐ a ⊕ d ⊕ b) tt
 
 -- coefficients beyond the indices count for nothing
 pub dot-short : (cs ds xs : List ℤ) → length xs ≤ length cs → dot (cs ++ ds) xs ≡ dot cs xs
@@ -62,6 +76,24 @@ dot-mixed u v (c ∷ cs) (d ∷ ds) [] e = lin (u ∷ v ∷ []) (λ u v. # 0 ≐
 dot-mixed u v (c ∷ cs) (d ∷ ds) (x ∷ xs) e =
     ap (λ t. (u *ℤ c +ℤ v *ℤ d) *ℤ x +ℤ t) (dot-mixed u v cs ds xs (omega arith))
     ∙ lin (u ∷ v ∷ c ∷ d ∷ x ∷ dot cs xs ∷ dot ds xs ∷ []) (λ u v c d x s t. (u ⊗ c ⊕ v ⊗ d) ⊗ x ⊕ (u ⊗ s ⊕ v ⊗ t) ≐ u ⊗ (c ⊗ x ⊕ s) ⊕ v ⊗ (d ⊗ x ⊕ t)) tt
+
+-- one coefficient more by t
+pub dot-coefficient : (outer : List ℤ) (x t : ℤ) (z ds : List ℤ) → length outer < length ds → dot (under (length outer) (onHead (λ b. b +ℤ t)) ds) (outer ++ x ∷ z) ≡ dot ds (outer ++ x ∷ z) +ℤ t *ℤ x
+unfolding dot under onHead
+dot-coefficient outer x t z [] h = absurd (omega arith)
+dot-coefficient [] x t z (d ∷ ds) h = lin (d ∷ x ∷ t ∷ dot ds z ∷ []) (λ d x t r. (d ⊕ t) ⊗ x ⊕ r ≐ d ⊗ x ⊕ r ⊕ t ⊗ x) tt
+dot-coefficient (y ∷ outer) x t z (d ∷ ds) h = ap (λ r. d *ℤ y +ℤ r) (dot-coefficient outer x t z ds (omega arith))
+    ∙ lin ((d *ℤ y) ∷ dot ds (outer ++ x ∷ z) ∷ (t *ℤ x) ∷ []) (λ a r b. a ⊕ (r ⊕ b) ≐ a ⊕ r ⊕ b) tt
+
+-- ---- a changed index
+
+-- one index more by t
+pub dot-index : (d : ℕ) (t : ℤ) (cs p : List ℤ) → length cs ≡ length p → dot cs (under d (onHead (λ y. y +ℤ t)) p) ≡ dot cs p +ℤ getD cs d (pos 0) *ℤ t
+unfolding under onHead dot
+dot-index d t [] p e = lin (t ∷ []) (λ t. # 0 ≐ # 0 ⊕ # 0 ⊗ t) tt
+dot-index d t (c ∷ cs) [] e = absurd (omega arith)
+dot-index zero t (c ∷ cs) (x ∷ p) e = lin (c ∷ x ∷ t ∷ dot cs p ∷ []) (λ c x t r. c ⊗ (x ⊕ t) ⊕ r ≐ c ⊗ x ⊕ r ⊕ c ⊗ t) tt
+dot-index (suc d) t (c ∷ cs) (x ∷ p) e = ap (λ r. c *ℤ x +ℤ r) (dot-index d t cs p (omega arith)) ∙ lin ((c *ℤ x) ∷ dot cs p ∷ (getD cs d (pos 0) *ℤ t) ∷ []) (λ a r b. a ⊕ (r ⊕ b) ≐ a ⊕ r ⊕ b) tt
 
 -- ---- the first elements
 

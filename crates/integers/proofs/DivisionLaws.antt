@@ -1,7 +1,7 @@
--- Division by a positive number: what lies between two multiples, then the two characterisations, then uniqueness, then sizes, then the
--- machine's quotient and remainder (rounded towards 0) and how floor and ceiling come of them.
-use mathlib.Core.Path.{_≡_, ap}
-use mathlib.Core.Logic.{_↔_}
+-- Division by a positive number: what lies between two multiples, then the two characterisations, then uniqueness, then quotient and rest, then
+-- sizes, then the machine's quotient and remainder (rounded towards 0) and how floor and ceiling come of them.
+use mathlib.Core.Path.{_≡_, sym, ap, _∙_}
+use mathlib.Core.Logic.{_⊎_, inl, inr, ⊎-elim, _↔_}
 use mathlib.Core.List.{[], _∷_}
 use Prim.Native.Nat.{suc, _*_, _/_, _%_, _≤_, _<_}
 use native.Mathlib.Omega.{arith}
@@ -13,8 +13,8 @@ use Rattle.integers.specs.Division.{floorDiv, ceilDiv}
 use Rattle.integers.proofs.DifferenceLaws.{mul-fact, neg-fact, add-fact, neg-parts, nat-le, nat-lt, nat-eq}
 use Rattle.integers.proofs.RingLaws.{zarith, mulˡ, ≤ℤ-antisym, <ℤ-≤ℤ}
 use Rattle.integers.proofs.Polynomial.{_⊕_, _⊖_, _⊗_, ⊝, #}
-use Rattle.integers.proofs.Linear.{lin, terms, _⊑_, _⊏_, _⟶_}
-use Rattle.integers.proofs.OrderLaws.{mul-cancel-<}
+use Rattle.integers.proofs.Linear.{lin, by, terms, _⊑_, _⊏_, _≐_, _⟶_, _▸_⟹_}
+use Rattle.integers.proofs.OrderLaws.{mul-cancel-<, trichotomy}
 
 -- ---- p ⌊e/p⌋ ≤ e < p ⌊e/p⌋ + p
 
@@ -77,6 +77,44 @@ ceil-unique e p q h lo hi = omega (
       (lin (e ∷ p ∷ q ∷ []) (λ e p x. e ⊑ p ⊗ x ⟶ p ⊗ ⊝ x ⊑ ⊝ e) tt lo)
       (lin (e ∷ p ∷ q ∷ []) (λ e p q. p ⊗ q ⊏ e ⊕ p ⟶ ⊝ e ⊏ p ⊗ ⊝ q ⊕ p) tt hi),
 )
+
+-- ---- quotient and rest, parted and joined again: x = w × quotient + rest, the rest from 0 to w − 1
+
+module _ (w : ℤ) where
+  abbrev pub quotient : ℤ → ℤ
+  quotient x = floorDiv x w
+
+  abbrev pub rest : ℤ → ℤ
+  rest x = x -ℤ w *ℤ floorDiv x w
+
+  pub rejoin : (x : ℤ) → w *ℤ quotient x +ℤ rest x ≡ x
+  rejoin x = lin (w ∷ x ∷ floorDiv x w ∷ []) (λ w x q. w ⊗ q ⊕ (x ⊖ w ⊗ q) ≐ x) tt
+
+  module _ (h : pos 0 <ℤ w) where
+    pub rest-low : (x : ℤ) → pos 0 ≤ℤ rest x
+    rest-low x = lin (w ∷ x ∷ floorDiv x w ∷ []) (λ w x q. w ⊗ q ⊑ x ⟶ # 0 ⊑ x ⊖ w ⊗ q) tt (floor-low x w h)
+
+    pub rest-high : (x : ℤ) → rest x <ℤ w
+    rest-high x = lin (w ∷ x ∷ floorDiv x w ∷ []) (λ w x q. x ⊏ w ⊗ q ⊕ w ⟶ x ⊖ w ⊗ q ⊏ w) tt (floor-high x w h)
+
+    module _ (s e : ℤ) (low : pos 0 ≤ℤ e) (high : e <ℤ w) where
+      pub joined-quotient : quotient (w *ℤ s +ℤ e) ≡ s
+      joined-quotient = sym (floor-unique (w *ℤ s +ℤ e) w s h
+          (lin (w ∷ s ∷ e ∷ []) (λ w s e. # 0 ⊑ e ⟶ w ⊗ s ⊑ w ⊗ s ⊕ e) tt low)
+          (lin (w ∷ s ∷ e ∷ []) (λ w s e. e ⊏ w ⟶ w ⊗ s ⊕ e ⊏ w ⊗ s ⊕ w) tt high))
+
+      pub joined-rest : rest (w *ℤ s +ℤ e) ≡ e
+      joined-rest = ap (λ q. w *ℤ s +ℤ e -ℤ w *ℤ q) joined-quotient ∙ lin (w ∷ s ∷ e ∷ []) (λ w s e. w ⊗ s ⊕ e ⊖ w ⊗ s ≐ e) tt
+
+    -- of two numbers in order
+    pub split-less : (x y : ℤ) → x <ℤ y → (quotient x <ℤ quotient y) ⊎ ((quotient x ≡ quotient y) × (rest x <ℤ rest y))
+    split-less x y l = ⊎-elim inl (λ c. inr (⊎-elim same (λ g. absurd (omega (zarith, under))) c)) (trichotomy (quotient x) (quotient y))
+      where
+        under : quotient x ≤ℤ quotient y
+        under = floor-iff y w (quotient x) h .0 (omega (zarith, floor-low x w h))
+
+        same : quotient x ≡ quotient y → (quotient x ≡ quotient y) × (rest x <ℤ rest y)
+        same e = (e, by (w ∷ x ∷ y ∷ floorDiv x w ∷ floorDiv y w ∷ []) (λ w x y p q. w ▸ p ≐ q ⟹ x ⊏ y ⟶ x ⊖ w ⊗ p ⊏ y ⊖ w ⊗ q) (omega arith) e l)
 
 -- ---- a quotient is no larger than what is divided
 

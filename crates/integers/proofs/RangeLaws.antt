@@ -171,6 +171,12 @@ pub to-nat : (z : ℤ) → pos 0 ≤ℤ z → pos (natAbs z) ≡ z
 to-nat (pos n) h = refl
 to-nat (negsuc n) h = absurd (omega zarith)
 
+pub abs-below : (x : ℤ) (n : ℕ) → pos 0 ≤ℤ x → x <ℤ pos n → natAbs x < n
+abs-below x n h k = omega (zarith, to-nat x h)
+
+pub abs-injective : (x y : ℤ) → pos 0 ≤ℤ x → pos 0 ≤ℤ y → natAbs x ≡ natAbs y → x ≡ y
+abs-injective x y h k e = sym (to-nat x h) ∙ ap pos e ∙ to-nat y k
+
 pub cast-ok : (z : ℤ) → pos 0 ≤ℤ z → SFits w64 z → T (nonNeg z) × Fits w64 (natAbs z)
 cast-ok (pos n) h f = (tt, record { fits = omega (arith, f .sfits) })
 cast-ok (negsuc n) h f = absurd (omega zarith)

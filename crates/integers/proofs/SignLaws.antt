@@ -37,6 +37,11 @@ means-unique s t x y h k = cc (means-sign s x y h, means-sign t x y k)
 pub sign-self : (x : ℤ) → sign x x ≡ equal
 sign-self x = means-sign equal x x refl
 
+pub turned-turned : (s : Sign) → turned (turned s) ≡ s
+turned-turned less = refl
+turned-turned equal = refl
+turned-turned greater = refl
+
 pub sign-turned : (x y : ℤ) → sign y x ≡ turned (sign x y)
 sign-turned x y = means-sign (turned (sign x y)) y x (go (sign x y) (sign-means x y))
   where

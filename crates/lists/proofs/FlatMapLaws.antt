@@ -1,7 +1,7 @@
 -- Laws of `flatMap`, mathlib's, which joins the parts that a function makes of a list's elements.
 -- In order: members; equations; length; `All`, `Distinct`, `Ordered`, `Precedes`.
 use mathlib.Core.Path.{_≡_, refl, sym, ap, ap₂, _∙_, subst}
-use mathlib.Core.Logic.{_⊎_, inl, inr, ⊎-elim}
+use mathlib.Core.Logic.{_⊎_, inl, inr, ⊎-elim, _↔_}
 use mathlib.Core.List.{List, [], _∷_, _++_, map, foldr, flatMap, append-assoc, append-nil, map-append, List·Memᴰ·head, List·Memᴰ·tail, List·Memᴰ·append-cases, List·Memᴰ·not-nil, Memᴰ·append-left, Memᴰ·append-right, Memᴰ·cast}
 use Prim.Native.Nat.{ℕ, _+_, _*_}
 use native.Mathlib.Nat.{add-comm, suc-mul, zero-mul}
@@ -52,6 +52,11 @@ unfolding flatMap
 flatMap-single f [] = refl
 flatMap-single f (x ∷ l) = ap (f x ∷_) (flatMap-single f l)
 
+pub flatMap-alone : {A : Type 0} (l : List A) → flatMap (λ x. x ∷ []) l ≡ l
+unfolding flatMap
+flatMap-alone [] = refl
+flatMap-alone (x ∷ l) = ap (x ∷_) (flatMap-alone l)
+
 module _ {A B C : Type 0} where
   pub flatMap-flatMap : (g : B → List C) (f : A → List B) (l : List A) → flatMap g (flatMap f l) ≡ flatMap (λ x. flatMap g (f x)) l
   unfolding flatMap
@@ -88,6 +93,9 @@ module _ {A B : Type 0} (f : A → List B) where
 
   pub all-flatMap : (P : B → Type 0) (l : List A) → ((x : A) → Mem x l → All P (f x)) → All P (flatMap f l)
   all-flatMap P l h y m = let r = flatMap-mem f l m in h (r .0) (r .1) y (r .2)
+
+  pub flatMap-iff : (P : B → Type 0) (l : List A) → All P (flatMap f l) ↔ ((x : A) → Mem x l → All P (f x))
+  flatMap-iff P l = (λ a x m y i. a y (mem-flatMap f l m i), all-flatMap P l)
 
   pub distinct-flatMap : (l : List A) → Distinct l → ((x : A) → Mem x l → Distinct (f x)) → ((x y : A) → Mem x l → Mem y l → (u : B) → Mem u (f x) → Mem u (f y) → x ≡ y) → Distinct (flatMap f l)
   unfolding flatMap

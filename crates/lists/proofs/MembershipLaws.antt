@@ -1,13 +1,13 @@
 -- Laws of what a list holds. In order: a member cuts the list; one element more in the midst; members by number; parts;
--- `All`, and functions equal on all members; `SameMembers`; `Distinct`.
+-- `All`, and functions equal on all members; `SameMembers`; `Distinct`; two laws of lengths.
 -- Not here: membership in `map` and `_++_` (`mathlib.Core.List`), in `flatMap` (`FlatMapLaws`), and tests of it (`TestLaws`).
 use mathlib.Core.Path.{_≡_, refl, sym, ap, subst}
 use mathlib.Core.Logic.{_⊎_, inl, inr, ⊎-elim, _↔_}
-use mathlib.Core.List.{List, [], _∷_, _++_, map, List·Memᴰ·head, List·Memᴰ·tail, List·Memᴰ·cases-cons, List·Memᴰ·append-cases, List·Memᴰ·not-nil, Memᴰ·append-left, Memᴰ·append-right, Memᴰ·cast, Memᴰ·map, Memᴰ·of-map}
+use mathlib.Core.List.{List, [], _∷_, _++_, map, zipWith, List·Memᴰ·head, List·Memᴰ·tail, List·Memᴰ·cases-cons, List·Memᴰ·append-cases, List·Memᴰ·not-nil, Memᴰ·append-left, Memᴰ·append-right, Memᴰ·cast, Memᴰ·map, Memᴰ·of-map}
 use Prim.Native.Nat.{ℕ, zero, suc, _≤_, _<_}
 use native.Mathlib.Nat.{le-antisymm}
 use native.Mathlib.Omega.{arith}
-use lib.ListN.{length, getD, take, drop, length-append, take-append-drop}
+use lib.ListN.{length, getD, take, drop, set, length-append, take-append-drop}
 use Rattle.lists.specs.Membership.{Mem, All, Distinct, SameMembers}
 
 -- ---- a member cuts the list in two
@@ -75,6 +75,9 @@ module _ {A : Type 0} (P : A → Type 0) where
   pub all-right : (l m : List A) → All P (l ++ m) → All P m
   all-right l m a x i = a x (Memᴰ·append-right l i)
 
+  pub append-iff : (l m : List A) → All P (l ++ m) ↔ (All P l × All P m)
+  append-iff l m = (λ a. (all-left l m a, all-right l m a), λ a. all-append l m (a .0) (a .1))
+
   pub all-take : (n : ℕ) (l : List A) → All P l → All P (take n l)
   all-take n l a x i = a x (take-mem n l i)
 
@@ -94,10 +97,28 @@ all-map f P Q l h = (
   λ a x m. h x m .1 (a (f x) (Memᴰ·map f m)),
 )
 
+pub map-all : {A B : Type 0} (f : A → B) (P : A → Type 0) (Q : B → Type 0) (l : List A) → ((x : A) → P x → Q (f x)) → All P l → All Q (map f l)
+map-all f P Q l h a y m = let r = Memᴰ·of-map f l m in subst Q (r .2) (h (r .0) (a (r .0) (r .1)))
+
 -- functions that are equal on the members
 pub map-same : {A B : Type 0} (f g : A → B) (l : List A) → ((x : A) → Mem x l → f x ≡ g x) → map f l ≡ map g l
 map-same f g [] h = refl
 map-same f g (x ∷ l) h = rw (h x (List·Memᴰ·head refl), map-same f g l (λ y m. h y (List·Memᴰ·tail m)))
+
+pub all-set : {A : Type 0} (P : A → Type 0) (l : List A) (i : ℕ) (a : A) → P a → All P l → All P (set l i a)
+all-set P [] i a h k = all-nil P
+all-set P (x ∷ l) zero a h k = all-cons P h (λ y m. k y (List·Memᴰ·tail m))
+all-set P (x ∷ l) (suc i) a h k = all-cons P (k x (List·Memᴰ·head refl)) (all-set P l i a h (λ y m. k y (List·Memᴰ·tail m)))
+
+pub all-getD-default : {A : Type 0} (P : A → Type 0) (l : List A) (i : ℕ) (d : A) → P d → All P l → P (getD l i d)
+all-getD-default P [] i d h k = h
+all-getD-default P (x ∷ l) zero d h k = k x (List·Memᴰ·head refl)
+all-getD-default P (x ∷ l) (suc i) d h k = all-getD-default P l i d h (λ y m. k y (List·Memᴰ·tail m))
+
+-- a list without members is empty
+pub no-members : {A : Type 0} (l : List A) → ((x : A) → Mem x l → ⊥) → l ≡ []
+no-members [] h = refl
+no-members (x ∷ l) h = absurd (h x (List·Memᴰ·head refl))
 
 -- ---- the same members
 
@@ -141,3 +162,18 @@ distinct-map f (x ∷ l) h d = (
   λ m. let r = Memᴰ·of-map f l m in d .0 (Memᴰ·cast (h x (r .0) (List·Memᴰ·head refl) (List·Memᴰ·tail (r .1)) (sym (r .2))) (r .1)),
   distinct-map f l (λ y z m n. h y z (List·Memᴰ·tail m) (List·Memᴰ·tail n)) (d .1),
 )
+
+-- ---- lengths
+
+-- a list of one element
+pub length-one : {A : Type 0} (l : List A) → length l ≡ 1 → (x : A) × (l ≡ x ∷ [])
+length-one [] e = absurd (omega arith)
+length-one (x ∷ []) e = (x, refl)
+length-one (x ∷ y ∷ l) e = absurd (omega arith)
+
+pub length-zipWith : {A B C : Type 0} (f : A → B → C) (xs : List A) (ys : List B) → length xs ≡ length ys → length (zipWith f xs ys) ≡ length ys
+unfolding zipWith
+length-zipWith f [] [] e = refl
+length-zipWith f [] (y ∷ ys) e = e
+length-zipWith f (x ∷ xs) [] e = absurd (omega arith)
+length-zipWith f (x ∷ xs) (y ∷ ys) e = ap suc (length-zipWith f xs ys (omega arith))

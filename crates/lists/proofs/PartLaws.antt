@@ -6,6 +6,7 @@ use mathlib.Core.List.{List, [], _∷_, _++_, map, flatMap, append-assoc, List·
 use Prim.Native.Nat.{ℕ, zero, suc, _+_, _*_, _-_, _≤_, _<_}
 use native.Mathlib.Nat.{add-zero, zero-add, suc-add, add-comm, add-assoc, zero-mul, suc-mul, mul-le-mul-right}
 use native.Mathlib.Numerals.{add-one}
+use native.Mathlib.Decide.{decLt}
 use native.Mathlib.Omega.{arith}
 use lib.ListN.{length, getD, take, drop, set, length-append, length-drop, take-append-drop, List·getD-append}
 use lib.Seq.{length-take-le, take-nil, take-append-le, take-at, take-take, take-add, take-set-le, drop-at, drop-drop, getD-take, getD-drop, set-split, sets, sets-eq}
@@ -99,6 +100,16 @@ row-next w j = rw (add-one j, suc-mul j w)
 -- a row ends where n rows do, or before
 pub row-fits : (w j n : ℕ) → j < n → j * w + w ≤ n * w
 row-fits w j n h = rw (← (suc-mul j w)) (mul-le-mul-right w h)
+
+-- a row and a place in it are determined
+pub row-unique : (w o p x y : ℕ) → x < w → y < w → o * w + x ≡ p * w + y → (o ≡ p) × (x ≡ y)
+row-unique w o p x y h k e = elim (decLt o p) [
+  | yes l ↦ absurd (omega (arith, row-fits w o p l))
+  | no f ↦ elim (decLt p o) [
+    | yes l ↦ absurd (omega (arith, row-fits w p o l))
+    | no g ↦ let q : o ≡ p = omega arith in (q, omega (arith, ap (λ (t : ℕ). t * w) q))
+  ]
+]
 
 -- ---- rows
 

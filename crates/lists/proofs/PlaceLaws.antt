@@ -1,4 +1,4 @@
--- Laws of a change at a place. In order: `under` by its change; its parts and its elements; a change of one element;
+-- Laws of a change at a place. In order: `under` by its change, with its length; its parts and its elements; a change of one element;
 -- two exchanged; several results (`underEach`).
 use mathlib.Core.Path.{_≡_, refl, sym, ap, _∙_, subst}
 use mathlib.Core.List.{List, [], _∷_, _++_, map, map-id, map-map, List·Memᴰ·head, Memᴰ·map, Memᴰ·of-map}
@@ -54,6 +54,23 @@ module _ {ℓ} {A : Type ℓ} (f g : List A → List A) where
 
   pub under-inverse : ((l : List A) → f (g l) ≡ l) → (n : ℕ) (l : List A) → under n f (under n g l) ≡ l
   under-inverse h n l = under-inverse-at n l (λ _. h (drop n l))
+
+-- of two lists of one length, each with its change
+pub under-lengths : {A B : Type 0} (f : List A → List A) (g : List B → List B) → ((l : List A) (m : List B) → length l ≡ length m → length (f l) ≡ length (g m))
+    → (n : ℕ) (l : List A) (m : List B) → length l ≡ length m → length (under n f l) ≡ length (under n g m)
+unfolding under
+under-lengths f g h zero l m e = h l m e
+under-lengths f g h (suc n) [] [] e = refl
+under-lengths f g h (suc n) [] (y ∷ m) e = absurd (omega arith)
+under-lengths f g h (suc n) (x ∷ l) [] e = absurd (omega arith)
+under-lengths f g h (suc n) (x ∷ l) (y ∷ m) e = ap suc (under-lengths f g h n l m (omega arith))
+
+-- a change that adds one element
+pub under-longer : {A : Type 0} (f : List A → List A) → ((x : A) (l : List A) → length (f (x ∷ l)) ≡ suc (suc (length l))) → (n : ℕ) (l : List A) → n < length l → length (under n f l) ≡ suc (length l)
+unfolding under
+under-longer f h n [] e = absurd (omega arith)
+under-longer f h zero (x ∷ l) e = h x l
+under-longer f h (suc n) (x ∷ l) e = ap suc (under-longer f h n l (omega arith))
 
 -- ---- its parts and its elements
 

@@ -1,17 +1,18 @@
 -- Laws of tests. In order: a test as a type (`T`) and as an equation; tests joined; a choice by a test; `all` and `any`; `select`; equality of
 -- lists (`sameBy`); `without`; by a test that decides equality, membership and `unique`.
--- Not here: negated tests (`T-not`, `not-T` of `lib.Dec`; `not-true`, `not-false` of `borrow.Author.Tests`), tests of numbers (both),
+-- Not here: other laws of negated tests (`T-not`, `not-T` of `lib.Dec`; `not-true`, `not-false` of `borrow.Author.Tests`), tests of numbers (both),
 -- equations of tests (`mathlib.Core.Bool`).
 use mathlib.Core.Path.{_≡_, refl, sym, ap, ap₂, _∙_, subst}
-use mathlib.Core.Bool.{Bool, true, false, cond, _&&_, _||_, and-true, and-false, and-assoc, or-true, or-false, or-assoc}
+use mathlib.Core.Bool.{Bool, true, false, cond, not, _&&_, _||_, and-true, and-false, and-assoc, or-true, or-false, or-assoc}
 use mathlib.Core.Logic.{_⊎_, inl, inr, ⊎-elim}
-use mathlib.Core.List.{List, [], _∷_, _++_, append-nil, List·Memᴰ·head, List·Memᴰ·tail, List·Memᴰ·not-nil, List·Memᴰ·cases-cons, Memᴰ·cast}
+use mathlib.Core.List.{List, [], _∷_, _++_, flatMap, append-nil, List·Memᴰ·head, List·Memᴰ·tail, List·Memᴰ·not-nil, List·Memᴰ·cases-cons, Memᴰ·cast}
 use Prim.Native.Nat.{ℕ, zero, suc, _<_}
 use native.Mathlib.Omega.{arith}
 use lib.Dec.{T}
 use lib.ListN.{length, getD, take}
 use lib.Seq.{take-suc}
 use Rattle.lists.specs.Membership.{Mem, All, Distinct, SameMembers}
+use Rattle.lists.specs.Order.{Ordered}
 use Rattle.lists.specs.Tests.{Decides, all, any, select, sameBy, without, unique}
 use Rattle.lists.proofs.MembershipLaws.{all-nil, all-cons}
 
@@ -39,6 +40,11 @@ pub T-cases : (b : Bool) → T b ⊎ (T b → ⊥)
 T-cases true = inl tt
 T-cases false = inr (λ h. h)
 
+-- a test whose contrary fails
+pub refuted : (t : Bool) → (T (not t) → ⊥) → T t
+refuted true h = tt
+refuted false h = absurd (h tt)
+
 -- ---- tests joined
 
 pub and-both : (a b : Bool) → T (a && b) → T a × T b
@@ -48,6 +54,10 @@ and-both false b h = absurd h
 pub and-intro : (a b : Bool) → T a → T b → T (a && b)
 and-intro true b h k = k
 and-intro false b h k = h
+
+pub and-fails : (a b : Bool) → (T (a && b) → ⊥) → (T a → ⊥) ⊎ (T b → ⊥)
+and-fails true b f = inr f
+and-fails false b f = inl (λ h. h)
 
 pub or-cases : (a b : Bool) → T (a || b) → T a ⊎ T b
 or-cases true b h = inl tt
@@ -79,6 +89,12 @@ module _ {A : Type 0} (t : A → Bool) where
   unfolding all
   holds-all [] h = tt
   holds-all (x ∷ l) h = and-intro (t x) (all t l) (h x (List·Memᴰ·head refl)) (holds-all l (λ y m. h y (List·Memᴰ·tail m)))
+
+  -- an element that fails
+  pub all-fails : (l : List A) → (T (all t l) → ⊥) → (x : A) × Mem x l × (T (t x) → ⊥)
+  unfolding all
+  all-fails [] h = absurd (h tt)
+  all-fails (x ∷ l) h = ⊎-elim (λ a. let r = all-fails l (λ b. h (and-intro (t x) (all t l) a b)) in (r .0, List·Memᴰ·tail (r .1), r .2)) (λ n. (x, List·Memᴰ·head refl, n)) (T-cases (t x))
 
   pub any-some : (l : List A) → T (any t l) → (x : A) × Mem x l × T (t x)
   unfolding any
@@ -115,6 +131,13 @@ module _ {A : Type 0} (t : A → Bool) where
   unfolding any
   any-take-suc l j d h = rw (take-suc l j d h, any-join (take j l) (getD l j d ∷ []), or-false (t (getD l j d)))
 
+-- the elements of all parts
+module _ {A B : Type 0} (t : B → Bool) (f : A → List B) (u : A → Bool) (same : (x : A) → u x ≡ all t (f x)) where
+  pub all-parts : (l : List A) → all u l ≡ all t (flatMap f l)
+  unfolding all flatMap
+  all-parts [] = refl
+  all-parts (x ∷ l) = ap₂ _&&_ (same x) (all-parts l) ∙ sym (all-join t (f x) (flatMap f l))
+
 -- ---- the elements that pass
 
 module _ {A : Type 0} (t : A → Bool) where
@@ -136,6 +159,12 @@ module _ {A : Type 0} (t : A → Bool) where
   mem-select {x} (y ∷ l) (List·Memᴰ·head e) h =
       subst (λ b. Mem x (cond b (y ∷ select t l) (select t l))) (sym (T-true (t y) (subst (λ z. T (t z)) e h))) (List·Memᴰ·head e)
   mem-select {x} (y ∷ l) (List·Memᴰ·tail m) h = let r = mem-select l m h in cond-cases (λ k. Mem x k) (t y) (y ∷ select t l) (select t l) (λ _. List·Memᴰ·tail r) (λ _. r)
+
+pub select-ordered : {A : Type 0} (R : A → A → Type 0) (t : A → Bool) (l : List A) → Ordered R l → Ordered R (select t l)
+unfolding select
+select-ordered R t [] o = tt
+select-ordered R t (x ∷ l) o = let later = select-ordered R t l (o .1) in
+    cond-cases (Ordered R) (t x) (x ∷ select t l) (select t l) (λ _. (λ y m. o .0 y ((select-mem t l m) .0), later)) (λ _. later)
 
 -- ---- equal lists
 

@@ -8,7 +8,7 @@ use Rattle.model.specs.Answer.{Answer, accepted, refused, _>>=_}
 use Rattle.model.specs.Words.{bytesOf}
 use Rattle.model.specs.Points.{iterations}
 use Rattle.model.specs.Judge.{judged}
-use Rattle.model.specs.Entries.{Outcome, judge, list, write}
+use Rattle.model.specs.Entries.{Outcome, judge, list, write, runEntry}
 
 pub data Question : Type 0 where
   -- what judge answers
@@ -18,7 +18,9 @@ pub data Question : Type 0 where
   -- the words that write writes, whole, into a buffer of just that size
   writes : List ℤ → Question
   -- the iterations of the new nest
-  runs : List (List ℤ) → Question
+  visits : List (List ℤ) → Question
+  -- what run answers for a store, which a refusal leaves as it was
+  leaves : List ℕ → Answer ℕ → Question
 
 pub record Case : Type 0 where
   pub words : List ℤ
@@ -32,7 +34,8 @@ abbrev pub Answered : List ℕ → Question → Type 0
 Answered ticket (judges a) = judge ticket ≡ a
 Answered ticket (lists text) = list ticket (replicate (length text) 0) ≡ filled text
 Answered ticket (writes ws) = write ticket (replicate (length (bytesOf ws)) 0) ≡ filled (bytesOf ws)
-Answered ticket (runs ps) = (judged ticket >>= (λ j. accepted (iterations (j .new .loops)))) ≡ accepted ps
+Answered ticket (visits ps) = (judged ticket >>= (λ j. accepted (iterations (j .new .loops)))) ≡ accepted ps
+Answered ticket (leaves words a) = runEntry ticket words ≡ record { answer = a; memory = words }
 
 abbrev pub Holds : Case → Type 0
 Holds c = Answered (bytesOf (c .words)) (c .question)
@@ -114,7 +117,7 @@ cases =
     ∷ record { words = case6; question = judges (accepted 4) }
     -- 7. i 0..6, section 4: S 0..1; 4 and 3 iterations
     ∷ record { words = case7; question = writes (pos 2 ∷ pos 1 ∷ pos 4 ∷ negsuc 2 ∷ pos 1 ∷ pos 4 ∷ pos 6 ∷ pos 2 ∷ pos 1 ∷ pos 0 ∷ pos 0 ∷ pos 1 ∷ pos 0 ∷ negsuc 3 ∷ pos 2 ∷ pos 1 ∷ pos 3 ∷ pos 0 ∷ pos 1 ∷ pos 6 ∷ negsuc 3 ∷ pos 1 ∷ pos 1 ∷ pos 7 ∷ pos 1 ∷ pos 1 ∷ pos 1 ∷ pos 1 ∷ pos 0 ∷ pos 4 ∷ pos 1 ∷ pos 0 ∷ pos 0 ∷ []) }
-    ∷ record { words = case7; question = runs ((pos 0 ∷ pos 0 ∷ []) ∷ (pos 0 ∷ pos 1 ∷ []) ∷ (pos 0 ∷ pos 2 ∷ []) ∷ (pos 0 ∷ pos 3 ∷ []) ∷ (pos 1 ∷ pos 0 ∷ []) ∷ (pos 1 ∷ pos 1 ∷ []) ∷ (pos 1 ∷ pos 2 ∷ []) ∷ []) }
+    ∷ record { words = case7; question = visits ((pos 0 ∷ pos 0 ∷ []) ∷ (pos 0 ∷ pos 1 ∷ []) ∷ (pos 0 ∷ pos 2 ∷ []) ∷ (pos 0 ∷ pos 3 ∷ []) ∷ (pos 1 ∷ pos 0 ∷ []) ∷ (pos 1 ∷ pos 1 ∷ []) ∷ (pos 1 ∷ pos 2 ∷ []) ∷ []) }
     -- 8. i 0..−1
     ∷ record { words = case8; question = judges (accepted 0) }
     ∷ []

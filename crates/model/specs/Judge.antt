@@ -10,9 +10,8 @@ use Rattle.lists.specs.Tests.{all}
 use Rattle.model.specs.Answer.{Answer, accepted, require, _>>=_, _>>_}
 use Rattle.model.specs.Ticket.{Limit, Loop, Access, Step, Nest, Ticket}
 use Rattle.model.specs.Grammar.{decode}
-use Rattle.model.specs.Points.{iterations}
 use Rattle.model.specs.Bounds.{admitted, sprawl, accessesOf}
-use Rattle.model.specs.Machine.{accesses, instances}
+use Rattle.model.specs.Machine.{accesses, order}
 use Rattle.model.specs.Directions.{directions}
 use Rattle.model.specs.Steps.{vectorsAfter, somePointsBack}
 use Rattle.model.specs.Limits.{nestAfter}
@@ -48,7 +47,7 @@ judgeSteps k (t ∷ ts) vs N =
 
 -- the directions of a nest
 unfoldable pub directionsOf : Nest → List (List Sign)
-directionsOf N = directions (accesses (N .statements)) (instances (length (N .statements)) (iterations (N .loops)))
+directionsOf N = directions (accesses (N .statements)) (order N)
 
 -- 1 to 9
 unfoldable pub admit : List ℕ → Answer Ticket

@@ -16,6 +16,8 @@ pub mod Quick
 pub mod Store
 pub mod Entries
 pub mod Cases
+pub mod Readings
 -- propositions that the theorems speak of
 pub mod Inside
 pub mod Shape
+pub mod Ranges

@@ -5,10 +5,11 @@ use mathlib.Core.List.{List, [], _∷_, map, flatMap}
 use Prim.Native.Nat.{ℕ, zero, suc}
 use lib.Dec.{eqb}
 use lib.IntN.{ℤ}
-use lib.ListN.{getD}
+use lib.ListN.{length, getD}
 use Rattle.integers.specs.Sign.{eqZ}
 use Rattle.lists.specs.Tests.{any, sameBy}
-use Rattle.model.specs.Ticket.{Access, Statement}
+use Rattle.model.specs.Ticket.{Access, Statement, Nest}
+use Rattle.model.specs.Points.{iterations}
 use Rattle.model.specs.Bounds.{subscriptAt}
 
 -- ---- elements
@@ -56,6 +57,10 @@ body k (suc n) p = record { statement = k; iteration = p } ∷ body (suc k) n p
 -- at each point the n statements in body order
 unfoldable pub instances : ℕ → List (List ℤ) → List Instance
 instances n ps = flatMap (body 0 n) ps
+
+-- the order of a nest: its iterations, at each the statements in body order
+abbrev pub order : Nest → List Instance
+order N = instances (length (N .statements)) (iterations (N .loops))
 
 -- ---- the machine
 

@@ -4,11 +4,10 @@ use mathlib.Core.List.{List, [], _∷_, map}
 use Prim.Native.Nat.{ℕ, zero, suc, _+_, _*_, _%_, _^_}
 use lib.Dec.{eqb, ltb}
 use lib.IntN.{ℤ, pos, natAbs}
-use lib.ListN.{getD, set, length}
+use lib.ListN.{getD, set}
 use Rattle.model.specs.Ticket.{Statement, Nest}
 use Rattle.model.specs.Grammar.{elements, extents}
-use Rattle.model.specs.Points.{iterations}
-use Rattle.model.specs.Machine.{Element, Instance, Rules, accesses, bodyAt, instances, run}
+use Rattle.model.specs.Machine.{Element, Instance, Rules, accesses, bodyAt, order, run}
 
 -- where an array begins
 unfoldable pub base : List (List ℕ) → ℕ → ℕ
@@ -59,7 +58,7 @@ performOn as′ ss i w =
 
 -- the nest in its order
 unfoldable pub runNest : Nest → List ℕ → List ℕ
-runNest N w = run (performOn (N .arrays) (N .statements)) (instances (length (N .statements)) (iterations (N .loops))) w
+runNest N w = run (performOn (N .arrays) (N .statements)) (order N) w
 
 -- the ticket's own rules, as the plain machine is fed them
 unfoldable pub ownRules : List Statement → Rules

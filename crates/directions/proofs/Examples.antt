@@ -1,0 +1,85 @@
+-- Some numbers of vectors, and for each precondition a value that meets it.
+use mathlib.Core.Path.{_≡_, refl}
+use mathlib.Core.Bool.{true, false}
+use mathlib.Core.List.{[], _∷_}
+use Prim.Native.Nat.{_+_, _*_}
+use native.Mathlib.Omega.{arith}
+use lib.ListN.{replicate}
+use Rattle.integers.specs.Sign.{less, equal, greater}
+use Rattle.directions.specs.Numbers.{digitsIn, base3, number, Digits}
+use Rattle.directions.specs.Sets.{ExchangeIn, ReversalIn, SkewIn, SectionIn, AddIn}
+use Rattle.directions.specs.Sources.{SourceIn, JoinedIn, SkewSourceIn, GaveIn, LevelIn}
+use Rattle.directions.specs.Changes.{ComesIn, PulledIn}
+use Rattle.directions.specs.declared.DirectionSet.{DirectionSet}
+use Rattle.directions.specs.declared.Change.the-variants.{Skew, Section}
+use Rattle.directions.proofs.NumberLaws.{vector-digits}
+
+-- ---- numbers
+
+first-number : number (less ∷ less ∷ less ∷ less ∷ less ∷ less ∷ []) ≡ 0
+unfolding number base3 digitsIn
+first-number = refl
+
+last-number : number (greater ∷ greater ∷ greater ∷ greater ∷ greater ∷ greater ∷ []) ≡ 728
+unfolding number base3 digitsIn
+last-number = refl
+
+-- missing loops count as =
+level-number : number (equal ∷ equal ∷ []) ≡ 364
+unfolding number base3 digitsIn
+level-number = refl
+
+-- (<,>) of two loops: 0, 2, 1, 1, 1, 1
+two-number : number (less ∷ greater ∷ []) ≡ 2 * 81 + 27 + 9 + 3 + 1
+unfolding number base3 digitsIn
+two-number = refl
+
+-- ---- preconditions that are met
+
+-- the set of no vectors of two loops
+pair : DirectionSet
+pair = record { marks = replicate 729 false; depth = 2 }
+
+exchange-met : ExchangeIn pair 0
+unfolding pair
+exchange-met = record { few = omega arith; inside = omega arith }
+
+reversal-met : ReversalIn pair 1
+unfolding pair
+reversal-met = record { few = omega arith; inside = omega arith }
+
+skew-met : SkewIn pair 0 1
+unfolding pair
+skew-met = record { few = omega arith; outer = omega arith; inside = omega arith }
+
+section-met : SectionIn pair 1
+unfolding pair
+section-met = record { few = omega arith; inside = omega arith }
+
+add-met : AddIn pair 728
+unfolding pair
+add-met = record { few = omega arith; below = omega arith }
+
+digits-met : Digits (digitsIn 6 (less ∷ []))
+digits-met = vector-digits (less ∷ [])
+
+source-met : SourceIn 728 6
+source-met = record { below = omega arith; few = omega arith }
+
+joined-met : JoinedIn 4 4
+joined-met = record { joint = omega arith; place = omega arith }
+
+skewSource-met : SkewSourceIn 0 5 728
+skewSource-met = record { below = omega arith; outer = omega arith; few = omega arith }
+
+gave-met : GaveIn (digitsIn 6 (less ∷ [])) 5 2 2
+gave-met = record { digits = digits-met; inside = omega arith; added = omega arith; replaced = omega arith }
+
+levelled-met : LevelIn (digitsIn 6 (less ∷ [])) 1
+levelled-met = record { digits = digits-met; few = omega arith }
+
+comes-met : ComesIn (Skew 0 5 true) 728
+comes-met = record { below = omega arith; few = omega arith; outer = omega arith }
+
+pulled-met : PulledIn (Section 4) 6
+pulled-met = record { few = omega arith; inside = omega arith; outer = tt }

@@ -1,0 +1,72 @@
+-- What a set of marks stands for, and what the functions on sets ask and give. Loops are counted from 0.
+use mathlib.Core.Path.{_≡_}
+use mathlib.Core.Bool.{Bool, false}
+use mathlib.Core.List.{List, [], _∷_, _++_}
+use Prim.Native.Nat.{ℕ, suc, _≤_, _<_}
+use lib.ListN.{getD, length}
+use Rattle.integers.specs.Sign.{Sign}
+use Rattle.lists.specs.Membership.{SameMembers}
+use Rattle.lists.specs.Tests.{select}
+use Rattle.model.specs.Ticket.{Step}
+use Rattle.model.specs.Grammar.{depthAfter}
+use Rattle.model.specs.Directions.{signVectors}
+use Rattle.model.specs.Steps.{vectorsAfter}
+use Rattle.directions.specs.Numbers.{number}
+use Rattle.directions.specs.declared.DirectionSet.{DirectionSet}
+
+abbrev pub marked : List Bool → List Sign → Bool
+marked marks v = getD marks (number v) false
+
+-- the vectors of d signs that are marked
+unfoldable pub vectorsIn : List Bool → ℕ → List (List Sign)
+vectorsIn marks d = select (marked marks) (signVectors d)
+
+abbrev pub vectorsOf : DirectionSet → List (List Sign)
+vectorsOf s = vectorsIn (s .marks) (s .depth)
+
+-- ---- what the steps ask: a nest of at most six loops that has the loops named
+
+pub record ExchangeIn (s : DirectionSet) (a : ℕ) : Type 0 where
+  pub few : s .depth ≤ 6
+  pub inside : suc a < s .depth
+
+pub record ReversalIn (s : DirectionSet) (a : ℕ) : Type 0 where
+  pub few : s .depth ≤ 6
+  pub inside : a < s .depth
+
+pub record SkewIn (s : DirectionSet) (a b : ℕ) : Type 0 where
+  pub few : s .depth ≤ 6
+  pub outer : a < b
+  pub inside : b < s .depth
+
+-- a seventh loop must not arise
+pub record SectionIn (s : DirectionSet) (a : ℕ) : Type 0 where
+  pub few : s .depth < 6
+  pub inside : a < s .depth
+
+-- ---- and what they give
+
+-- r is the set after step t of s
+pub record After (t : Step) (s r : DirectionSet) : Type 0 where
+  pub depth : r .depth ≡ depthAfter t (s .depth)
+  pub vectors : SameMembers (vectorsOf r) (vectorsAfter t (vectorsOf s))
+
+-- ---- how a set is made
+
+pub record Empty (d : ℕ) (r : DirectionSet) : Type 0 where
+  pub depth : r .depth ≡ d
+  pub vectors : vectorsOf r ≡ []
+
+pub record AddIn (s : DirectionSet) (n : ℕ) : Type 0 where
+  pub few : s .depth ≤ 6
+  pub below : n < 729
+
+-- the vector with number n added
+pub record Added (n : ℕ) (s r : DirectionSet) : Type 0 where
+  pub depth : r .depth ≡ s .depth
+  pub vectors : (v : List Sign) → length v ≡ s .depth → number v ≡ n → SameMembers (vectorsOf r) (v ∷ vectorsOf s)
+
+-- the vectors of other marks added
+pub record Merged (row : List Bool) (s r : DirectionSet) : Type 0 where
+  pub depth : r .depth ≡ s .depth
+  pub vectors : SameMembers (vectorsOf r) (vectorsOf s ++ vectorsIn row (s .depth))

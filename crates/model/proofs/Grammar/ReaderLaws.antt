@@ -1,0 +1,197 @@
+-- Laws of readers. `Meets r P`: wherever r stands, it accepts with P of the value and of the words read, or refuses with what `Explained` says of
+-- it. Closed under `_>>=_`, so that each reader of the grammar is read through once, for its values, its words and its refusals alike.
+-- In order: the notion; `done` and `_>>=_`; tests; single words; lists. What an accepted reader gives at any place, as equations, is in `AcceptedLaws`.
+use mathlib.Core.Path.{_≡_, refl, sym, ap, ap₂, _∙_, subst}
+use mathlib.Core.Bool.{Bool}
+use mathlib.Core.List.{List, [], _∷_, _++_, flatMap, append-nil}
+use Prim.Native.Nat.{ℕ, zero, suc, _+_, _*_, _-_, _≤_}
+use native.Mathlib.Omega.{arith}
+use lib.Dec.{T, leb→le}
+use lib.IntN.{ℤ, pos, negsuc, natAbs}
+use lib.Signed.{leZ}
+use lib.ListN.{length, length-append}
+use Rattle.lists.specs.Membership.{All}
+use Rattle.lists.proofs.MembershipLaws.{all-nil, all-cons}
+use Rattle.lists.proofs.TestLaws.{and-both, true-T, false-not-T, cond-cases}
+use Rattle.model.specs.Answer as Answer
+use Rattle.model.specs.Answer.{Answer, accepted, refused, require}
+use Rattle.model.specs.Words.{wordAt}
+use Rattle.model.specs.Grammar.{Read, Reader, _>>=_, _>>_, done, word, must, mustAt, between, count, within, natural, number, times}
+use Rattle.model.specs.Encode.{counted}
+use Rattle.model.specs.Ranges.{InRange, Small, Spells, CountRange, WordRange, WordIs, Explained, torn, badCount, badWord}
+use Rattle.model.proofs.Answers.AnswerLaws.{Leads, leads-map, leads-bind}
+use Rattle.model.proofs.Grammar.WordLaws.{Reaches, Torn, word-there, spells-append, spells-reach}
+
+-- ---- the notion
+
+-- what was read from word k on
+pub record Met {A : Type 0} (P : A → List ℤ → Type 0) (b : List ℕ) (k : ℕ) (r : Read A) : Type 0 where
+  pub words : List ℤ
+  pub spelled : Spells b k words
+  pub next : r .next ≡ k + length words
+  pub holds : P (r .value) words
+
+pub record MeetsAt {A : Type 0} (b : List ℕ) (k : ℕ) (r : Reader A) (P : A → List ℤ → Type 0) : Type 0 where
+  pub leads : Leads (Met P b k) (Explained b) (r b k)
+
+pub record Meets {A : Type 0} (r : Reader A) (P : A → List ℤ → Type 0) : Type 0 where
+  pub from : (b : List ℕ) (k : ℕ) → Reaches b k → MeetsAt b k r P
+
+-- the value is in Q, and f gives its words
+pub record As {A : Type 0} (Q : A → Type 0) (f : A → List ℤ) (a : A) (ws : List ℤ) : Type 0 where
+  pub holds : Q a
+  pub words : ws ≡ f a
+
+-- ---- readers joined
+
+module _ {A : Type 0} {P : A → List ℤ → Type 0} where
+  pub done-at : {b : List ℕ} {k : ℕ} (a : A) → P a [] → MeetsAt b k (done a) P
+  unfolding done
+  done-at a h = record { leads = record { words = []; spelled = tt; next = omega arith; holds = h } }
+
+  pub done-meets : (a : A) → P a [] → Meets (done a) P
+  done-meets a h = record { from = λ b k r. done-at a h }
+
+module _ {A B : Type 0} {P : A → Type 0} {f : A → List ℤ} {Q : B → List ℤ → Type 0} where
+  -- the rest knows the words of the first value
+  pub bind-at : {b : List ℕ} {k : ℕ} {m : Reader A} {g : A → Reader B}
+      → MeetsAt b k m (As P f) → ((a : A) → P a → Spells b k (f a) → MeetsAt b (k + length (f a)) (g a) (λ c vs. Q c (f a ++ vs))) → MeetsAt b k (m >>= g) Q
+  unfolding _>>=_
+  bind-at {b} {k} {m} {g} h rest = record {
+    leads = leads-bind (Met (As P f) b k) (Explained b) (Met Q b k) (m b k) (λ r. g (r .value) b (r .next)) (h .leads) (λ r e t.
+        let v = r .value in
+        let n : k + length (f v) ≡ r .next = sym (t .next ∙ ap (λ ws. k + length ws) (t .holds .words)) in
+        let s : Spells b k (f v) = subst (Spells b k) (t .holds .words) (t .spelled) in
+        leads-map (Met (λ c vs. Q c (f v ++ vs)) b (k + length (f v))) (Explained b) (g v b (r .next)) (joined v s)
+        (subst (λ j. Leads (Met (λ c vs. Q c (f v ++ vs)) b (k + length (f v))) (Explained b) (g v b j)) n (rest v (t .holds .holds) s .leads)));
+  }
+    where
+      joined : (v : A) → Spells b k (f v) → (r : Read B) → Met (λ c vs. Q c (f v ++ vs)) b (k + length (f v)) r → Met Q b k r
+      joined v s r u = record {
+        words = f v ++ u .words;
+        spelled = spells-append b k (f v) (u .words) s (u .spelled);
+        next = let n = u .next in let l = length-append (f v) (u .words) in omega arith;
+        holds = u .holds;
+      }
+
+  pub bind : {m : Reader A} {g : A → Reader B} → Meets m (As P f) → ((a : A) → P a → Meets (g a) (λ c vs. Q c (f a ++ vs))) → Meets (m >>= g) Q
+  bind h rest = record { from = λ b k r. bind-at (h .from b k r) (λ a t s. rest a t .from b (k + length (f a)) (spells-reach b k (f a) r s)) }
+
+module _ {A : Type 0} {r : Reader A} {P Q : A → List ℤ → Type 0} where
+  pub meets-at-map : {b : List ℕ} {k : ℕ} → ((a : A) (ws : List ℤ) → P a ws → Q a ws) → MeetsAt b k r P → MeetsAt b k r Q
+  meets-at-map {b} {k} f h = record {
+    leads = leads-map (Met P b k) (Explained b) (r b k)
+        (λ x u. record { words = u .words; spelled = u .spelled; next = u .next; holds = f (x .value) (u .words) (u .holds) }) (h .leads);
+  }
+
+  pub meets-map : ((a : A) (ws : List ℤ) → P a ws → Q a ws) → Meets r P → Meets r Q
+  meets-map f h = record { from = λ b k t. meets-at-map f (h .from b k t) }
+
+-- ---- tests
+
+module _ {A : Type 0} {b : List ℕ} {k : ℕ} (t : Bool) (n : ℕ) {r : Reader A} {P : A → List ℤ → Type 0} where
+  pub mustAt-at : {p : ℕ} → ((T t → ⊥) → Explained b n p) → (T t → MeetsAt b k r P) → MeetsAt b k (mustAt t n p >> r) P
+  unfolding mustAt require _>>_ _>>=_ Answer._>>=_
+  mustAt-at {p} fails passes = record {
+    leads =
+        cond-cases (λ (x : Answer (Unit {0})). Leads (Met P b k) (Explained b) (Answer._>>=_ (Answer._>>=_ {B = Read (Unit {0})} x (λ u. accepted (record { value = u; next = k }))) (λ s. r b (s .next))))
+        t (accepted tt) (refused n p) (λ e. passes (true-T t e) .leads) (λ e. fails (false-not-T t e));
+  }
+
+  pub must-at : ((T t → ⊥) → Explained b n (k - 1)) → (T t → MeetsAt b k r P) → MeetsAt b k (must t n >> r) P
+  unfolding must mustAt _>>_ _>>=_
+  must-at fails passes = record { leads = mustAt-at fails passes .leads }
+
+-- ---- single words
+
+-- a word by itself
+abbrev pub alone : ℤ → List ℤ
+alone w = w ∷ []
+
+abbrev pub one : ℕ → List ℤ
+one n = pos n ∷ []
+
+pub word-meets : Meets word (As (λ _. Unit {0}) alone)
+unfolding word
+word-meets = record {
+  from = λ b k r. record {
+    leads =
+        leads-bind (λ _. k * 2 ≤ length b) (Explained b) (Met (As (λ _. Unit {0}) alone) b k) (wordAt b k) (λ w. accepted (record { value = w; next = suc k }))
+        (torn-word b k r (wordAt b k) (word-there b k r))
+        (λ w e h. record { words = w ∷ []; spelled = (e, tt); next = omega arith; holds = record { holds = tt; words = refl } });
+  };
+}
+  where
+    torn-word : (b : List ℕ) (k : ℕ) → Reaches b k → (x : Answer ℤ) → Leads (λ _. k * 2 ≤ length b) (Torn b k) x → Leads (λ _. k * 2 ≤ length b) (Explained b) x
+    torn-word b k r (accepted w) h = h
+    torn-word b k r (refused n p) h = subst (λ i. Explained b i p) (sym (h .number)) (subst (Explained b 1) (sym (h .place)) (torn (r .first) (r .there) (h .short)))
+
+-- a word that must pass a test, and a value made of it
+pub checked-meets : {A : Type 0} (t : ℤ → Bool) (n : ℕ) (v : ℤ → A) (P : A → List ℤ → Type 0)
+    → ((b : List ℕ) (p : ℕ) (w : ℤ) → WordIs b p w → (T (t w) → ⊥) → Explained b n p)
+    → ((w : ℤ) → T (t w) → P (v w) (w ∷ []))
+    → Meets (word >>= (λ w. must (t w) n >> done (v w))) P
+checked-meets t n v P fails passes = record {
+  from = λ b k r. bind-at (word-meets .from b k r) (λ w _ s.
+      must-at (t w) n (λ f. let p : k + 1 - 1 ≡ k = omega arith in subst (Explained b n) (sym p) (fails b k w (record { counted = r .first; read = s .0 }) f)) (λ h. done-at (v w) (passes w h)));
+}
+
+-- ---- counts and numbers
+
+pub between-natural : (lo hi : ℕ) (w : ℤ) → T (between (pos lo) (pos hi) w) → InRange lo hi (natAbs w) × (w ≡ pos (natAbs w))
+unfolding between
+between-natural lo hi (pos n) h = let r = and-both (leZ (pos lo) (pos n)) (leZ (pos n) (pos hi)) h in (record { low = leb→le lo n (r .0); high = leb→le n hi (r .1) }, refl)
+between-natural lo hi (negsuc n) h = absurd h
+
+pub between-small : (w : ℤ) → T (between (negsuc 32766) (pos 32767) w) → Small w
+unfolding between
+between-small (pos n) h = let r = and-both (leZ (negsuc 32766) (pos n)) (leZ (pos n) (pos 32767)) h in leb→le n 32767 (r .1)
+between-small (negsuc n) h = let r = and-both (leZ (negsuc 32766) (negsuc n)) (leZ (negsuc n) (pos 32767)) h in let g = leb→le n 32766 (r .0) in omega arith
+
+pub count-meets : {lo hi : ℕ} → CountRange lo hi → Meets (count lo hi) (As (InRange lo hi) one)
+unfolding count
+count-meets {lo} {hi} c = checked-meets (between (pos lo) (pos hi)) 3 natAbs (As (InRange lo hi) one) (λ b p w e f. badCount c e f)
+    (λ w h. let r = between-natural lo hi w h in record { holds = r .0; words = ap alone (r .1) })
+
+pub within-meets : {lo hi : ℤ} → WordRange lo hi → Meets (within lo hi) (As (λ w. T (between lo hi w)) alone)
+unfolding within
+within-meets {lo} {hi} c = checked-meets (between lo hi) 4 (λ w. w) (As (λ w. T (between lo hi w)) alone) (λ b p w e f. badWord c e f)
+    (λ w h. record { holds = h; words = refl })
+
+pub natural-meets : {lo hi : ℕ} → WordRange (pos lo) (pos hi) → Meets (natural lo hi) (As (InRange lo hi) one)
+unfolding natural
+natural-meets {lo} {hi} c = bind (within-meets c) (λ w h. let r = between-natural lo hi w h in done-meets (natAbs w) (record { holds = r .0; words = ap alone (r .1) }))
+
+pub number-meets : Meets number (As Small alone)
+unfolding number
+number-meets = meets-map (λ w ws h. record { holds = between-small w (h .holds); words = h .words }) (within-meets WordRange.number)
+
+-- ---- lists
+
+-- of length n
+pub record Long {A : Type 0} (n : ℕ) (Q : List A → Type 0) (l : List A) : Type 0 where
+  pub number : length l ≡ n
+  pub holds : Q l
+
+-- of a length in a range
+pub record Few {A : Type 0} (lo hi : ℕ) (Q : List A → Type 0) (l : List A) : Type 0 where
+  pub few : InRange lo hi (length l)
+  pub holds : Q l
+
+pub times-meets : {A : Type 0} {r : Reader A} {Q : A → Type 0} {f : A → List ℤ} (n : ℕ) → Meets r (As Q f) → Meets (times n r) (As (Long n (All Q)) (flatMap f))
+unfolding times flatMap
+times-meets {Q = Q} zero h = done-meets [] (record { holds = record { number = refl; holds = all-nil Q }; words = refl })
+times-meets {Q = Q} {f = f} (suc n) h = bind h (λ a q. bind (times-meets n h) (λ l e.
+    done-meets (a ∷ l) (record { holds = record { number = ap suc (e .number); holds = all-cons Q q (e .holds) }; words = ap (f a ++_) (append-nil (flatMap f l)) })))
+
+-- after its count
+pub counted-from : {A : Type 0} {Q : List A → Type 0} (f : A → List ℤ) {lo hi n : ℕ} → InRange lo hi n → (l : List A) (ws : List ℤ) → As (Long n Q) (flatMap f) l ws → As (Few lo hi Q) (counted f) l (pos n ∷ ws)
+unfolding counted
+counted-from f {lo} {hi} r l ws h = record {
+  holds = record { few = subst (InRange lo hi) (sym (h .holds .number)) r; holds = h .holds .holds };
+  words = ap₂ (λ i vs. pos i ∷ vs) (sym (h .holds .number)) (h .words);
+}
+
+pub counted-meets : {A : Type 0} {g : ℕ → Reader (List A)} {Q : List A → Type 0} (f : A → List ℤ) {lo hi : ℕ}
+    → CountRange lo hi → ((n : ℕ) → InRange lo hi n → Meets (g n) (As (Long n Q) (flatMap f))) → Meets (count lo hi >>= g) (As (Few lo hi Q) (counted f))
+counted-meets f c h = bind (count-meets c) (λ n r. meets-map (counted-from f r) (h n r))

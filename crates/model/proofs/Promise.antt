@@ -1,0 +1,6 @@
+-- What is promised of accepted tickets.
+pub mod TradeLaws
+pub mod KeptLaws
+pub mod WrittenLaws
+pub mod PromiseLaws
+pub mod ReasonLaws

@@ -1,0 +1,3 @@
+-- The quick test is sound.
+pub mod QuickRangeLaws
+pub mod QuickLaws

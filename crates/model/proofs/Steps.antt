@@ -1,0 +1,19 @@
+-- Steps: what each makes of signs, points, limits and subscripts, and that every step keeps the points.
+pub mod VectorLaws
+pub mod LengthLaws
+pub mod SubscriptLaws
+pub mod InsideLaws
+pub mod ReversalLaws
+pub mod TidyLaws
+pub mod ExchangePartLaws
+pub mod CombineLaws
+pub mod ExchangeLaws
+pub mod SkewLaws
+pub mod SectionLaws
+pub mod UndoLaws
+pub mod ShapeLaws
+pub mod RunsLaws
+pub mod StepLaws
+pub mod WellFormedLaws
+pub mod KeepLaws
+pub mod AccessLaws

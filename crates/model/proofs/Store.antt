@@ -1,0 +1,5 @@
+-- The store against the plain machine.
+pub mod PlaceLaws
+pub mod RuleLaws
+pub mod StoreLaws
+pub mod NewStoreLaws

@@ -1,0 +1,132 @@
+-- The entry `run`: refused with 1 to 13, then with 15 at the first opaque statement, then with 16 for a store of the wrong size, and then the
+-- store is as it was; or run in the new order.
+use mathlib.Core.Path.{_≡_, refl, sym, subst}
+use mathlib.Core.Bool.{Bool, not}
+use mathlib.Core.Logic.{_⊎_, inl, inr, ⊎-elim}
+use mathlib.Core.List.{List, [], _∷_}
+use Prim.Native.Nat.{ℕ, suc}
+use lib.Dec.{T, eqb, eqb→eq, eqb-refl}
+use lib.ListN.{length}
+use Rattle.lists.specs.Membership.{All}
+use Rattle.model.specs.Answer.{Answer, accepted, refused, require, _>>_}
+use Rattle.model.specs.Ticket.{Statement, Nest}
+use Rattle.model.specs.Grammar.{total}
+use Rattle.model.specs.Points.{iterations}
+use Rattle.model.specs.Judge.{judged, Judged}
+use Rattle.model.specs.Store.{runNest}
+use Rattle.model.specs.Entries.{transparent, runnable, ran, runEntry}
+use Rattle.model.proofs.Answers.AnswerLaws.{not-both, accepted-same, bind-accepted, bind-refused, then-accepted, then-refused, require-accepted, require-refused}
+use Rattle.model.proofs.Answers.CheckLaws.{FirstBad, firstBad-map, checks-accepted, checks-refused}
+
+-- ---- statements with rule 0
+
+abbrev pub Opaque : Statement → Type 0
+Opaque s = s .rule ≡ 0
+
+abbrev pub Clear : Statement → Type 0
+Clear s = Opaque s → ⊥
+
+abbrev isOpaque : Statement → Bool
+isOpaque s = eqb (s .rule) 0
+
+test-clear : (s : Statement) → (T (isOpaque s) → ⊥) → Clear s
+test-clear s h e = h (subst (λ r. T (eqb r 0)) (sym e) tt)
+
+checks : (k : ℕ) (s : Statement) (ss : List Statement) → transparent k (s ∷ ss) ≡ require (not (isOpaque s)) 15 k >> transparent (suc k) ss
+unfolding transparent
+checks k s ss = refl
+
+ends : (k : ℕ) → transparent k [] ≡ accepted tt
+unfolding transparent
+ends k = refl
+
+pub transparent-accepted : (k : ℕ) (ss : List Statement) → transparent k ss ≡ accepted tt → All Clear ss
+transparent-accepted k ss e s m = test-clear s (checks-accepted 15 isOpaque transparent ends checks k ss e s m)
+
+-- the first statement with rule 0, of those from number k on
+pub transparent-refused : (k : ℕ) (ss : List Statement) {n p : ℕ} → transparent k ss ≡ refused n p → (n ≡ 15) × FirstBad Opaque Clear k ss p
+transparent-refused k ss e = let r = checks-refused 15 isOpaque transparent ends checks k ss e in
+    (r .0, firstBad-map Opaque Clear (λ s h. eqb→eq (s .rule) 0 h) test-clear (r .1))
+
+-- ---- the store's size, then all that is checked
+
+-- a store of another size than all arrays
+pub record WrongStore (N : Nest) (words : List ℕ) (n p : ℕ) : Type 0 where
+  pub sixteen : n ≡ 16
+  pub nowhere : p ≡ 0
+  pub wrong : length words ≡ total (N .arrays) → ⊥
+
+-- what may run: accepted, with no opaque statement and a store of the right size
+pub record MayRun (bytes words : List ℕ) (j : Judged) : Type 0 where
+  pub verdict : judged bytes ≡ accepted j
+  pub clear : All Clear (j .ticket .nest .statements)
+  pub right : length words ≡ total (j .ticket .nest .arrays)
+
+-- 15 before 16
+abbrev pub NotRun : Judged → List ℕ → ℕ → ℕ → Type 0
+NotRun j words n p =
+    ((n ≡ 15) × FirstBad Opaque Clear 1 (j .ticket .nest .statements) p)
+    ⊎ (All Clear (j .ticket .nest .statements) × WrongStore (j .ticket .nest) words n p)
+
+module _ (bytes words : List ℕ) where
+  abbrev clearly : Judged → Answer (Unit {0})
+  clearly j = transparent 1 (j .ticket .nest .statements)
+
+  abbrev rightSize : Judged → Bool
+  rightSize j = eqb (length words) (total (j .ticket .nest .arrays))
+
+  abbrev checked : Judged → Answer Judged
+  checked j = clearly j >> require (rightSize j) 16 0 >> accepted j
+
+  pub runnable-accepted : {j : Judged} → runnable bytes words ≡ accepted j → MayRun bytes words j
+  unfolding runnable
+  runnable-accepted e =
+      let r = bind-accepted (judged bytes) checked e in
+      let j = r .value in
+      let q = then-accepted (clearly j >> require (rightSize j) 16 0) (accepted j) (r .rest) in
+      let s = then-accepted (clearly j) (require (rightSize j) 16 0) (q .first) in
+      subst (MayRun bytes words) (accepted-same (q .rest)) (record {
+        verdict = r .first;
+        clear = transparent-accepted 1 (j .ticket .nest .statements) (s .first);
+        right = eqb→eq (length words) (total (j .ticket .nest .arrays)) (require-accepted (rightSize j) 16 0 (s .rest));
+      })
+
+  pub runnable-refused : {n p : ℕ} → runnable bytes words ≡ refused n p → (judged bytes ≡ refused n p) ⊎ ((j : Judged) × (judged bytes ≡ accepted j) × NotRun j words n p)
+  unfolding runnable
+  runnable-refused {n} {p} e = ⊎-elim inl (λ r. inr (r .value, r .first, why (r .value) (r .rest))) (bind-refused (judged bytes) checked e)
+    where
+      why : (j : Judged) → checked j ≡ refused n p → NotRun j words n p
+      why j f = ⊎-elim
+          (λ g. ⊎-elim (λ h. inl (transparent-refused 1 (j .ticket .nest .statements) h))
+          (λ h. let r = require-refused (rightSize j) 16 0 (h .rest) in inr (
+            transparent-accepted 1 (j .ticket .nest .statements) (h .first),
+            record { sixteen = r .number; nowhere = r .place; wrong = λ q. r .fails (subst (λ m. T (eqb (length words) m)) q (eqb-refl (length words))) },
+          ))
+          (then-refused (clearly j) (require (rightSize j) 16 0) g))
+          (λ g. not-both (g .rest))
+          (then-refused (clearly j >> require (rightSize j) 16 0) (accepted j) f)
+
+-- ---- the entry
+
+ran-refused : (a : Answer Judged) (words : List ℕ) {n p : ℕ} → ran a words .answer ≡ refused n p → (ran a words .memory ≡ words) × (a ≡ refused n p)
+unfolding ran
+ran-refused (refused m q) words e = (refl, cc)
+ran-refused (accepted j) words e = not-both e
+
+ran-accepted : (a : Answer Judged) (words : List ℕ) {c : ℕ} → ran a words .answer ≡ accepted c
+    → (j : Judged) × (a ≡ accepted j) × (c ≡ length (iterations (j .ticket .nest .loops))) × (ran a words .memory ≡ runNest (j .new) words)
+unfolding ran
+ran-accepted (refused m q) words e = not-both (sym e)
+ran-accepted (accepted j) words e = (j, refl, sym (accepted-same e), refl)
+
+module _ (bytes words : List ℕ) where
+  -- a refused run leaves the store as it was
+  pub run-refused : {n p : ℕ} → runEntry bytes words .answer ≡ refused n p
+      → (runEntry bytes words .memory ≡ words) × ((judged bytes ≡ refused n p) ⊎ ((j : Judged) × (judged bytes ≡ accepted j) × NotRun j words n p))
+  unfolding runEntry
+  run-refused e = let r = ran-refused (runnable bytes words) words e in (r .0, runnable-refused bytes words (r .1))
+
+  pub run-accepted : {c : ℕ} → runEntry bytes words .answer ≡ accepted c
+      → (j : Judged) × MayRun bytes words j × (c ≡ length (iterations (j .ticket .nest .loops))) × (runEntry bytes words .memory ≡ runNest (j .new) words)
+  unfolding runEntry
+  run-accepted e = let r = ran-accepted (runnable bytes words) words e in (r .0, runnable-accepted bytes words (r .1), r .2, r .3)
