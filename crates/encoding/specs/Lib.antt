@@ -1,0 +1,3 @@
+-- What writing leaves in the buffer.
+pub mod Writing
+pub mod Encoding
