@@ -10,17 +10,15 @@ use lib.Seq.{length-take-le}
 use Rattle.lists.specs.Membership.{Mem}
 use Rattle.lists.proofs.PartLaws.{row-next}
 use Rattle.model.specs.Encode.{counted, limitWords, loopWords, arrayWords, accessWords, statementWords, nestWords, encode}
-use Rattle.model.proofs.Grammar.WordLaws.{length-bytes}
-use Rattle.nest.specs.Nested.{limitOf, sideOf, loopOf, loopsOf, LimitIn, SideIn}
-use Rattle.nest.specs.declared.Limit.{Limit}
+use Rattle.model.proofs.Grammar.RoundTripLaws.{encode-length}
+use Rattle.nest.specs.Nested.{limitOf, sideOf, loopOf, loopsOf, SideIn}
 use Rattle.nest.specs.declared.Side.{Side}
 use Rattle.nest.specs.declared.Loop.{Loop}
 use Rattle.nest.specs.declared.Nest.{Nest}
 use Rattle.body.specs.Arrays.{shapeOf, arraysOf, ShapeIn}
-use Rattle.body.specs.Statements.{subscriptOf, accessOf, statementOf, statementsOf, SubscriptIn, AccessIn}
+use Rattle.body.specs.Statements.{subscriptOf, accessOf, statementOf, statementsOf, AccessIn}
 use Rattle.body.specs.declared.Shape.{Shape}
 use Rattle.body.specs.declared.Arrays.{Arrays}
-use Rattle.body.specs.declared.Subscript.{Subscript}
 use Rattle.body.specs.declared.Access.{Access}
 use Rattle.body.specs.declared.Statement.{Statement}
 use Rattle.body.specs.declared.Body.{Body}
@@ -102,10 +100,6 @@ nest-length N A B =
     let L = counted loopWords (loopsOf N) in let R = counted arrayWords (arraysOf A) in let S = counted statementWords (statementsOf (N .depth) B) in
     let p = length-append L (R ++ (S ++ (pos 0 ∷ []))) in let q = length-append R (S ++ (pos 0 ∷ [])) in let r = length-append S (pos 0 ∷ []) in omega arith
 
-pub encode-length : (N : Nest) (A : Arrays) (B : Body) → length (encode (nestOf N A B)) ≡ length (nestWords (nestOf N A B)) * 2
-unfolding encode
-encode-length N A B = length-bytes (nestWords (nestOf N A B))
-
 pub length-sum : (N : Nest) (A : Arrays) (B : Body) (a b d : ℕ) → a ≡ length (counted loopWords (loopsOf N)) → b ≡ length (counted arrayWords (arraysOf A))
     → d ≡ length (counted statementWords (statementsOf (N .depth) B)) → (a + b + d + 1) * 2 ≡ length (encode (nestOf N A B))
-length-sum N A B a b d p q r = let s = nest-length N A B in let t = encode-length N A B in omega arith
+length-sum N A B a b d p q r = let s = nest-length N A B in let t = encode-length (nestOf N A B) in omega arith

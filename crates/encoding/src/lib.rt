@@ -1,6 +1,6 @@
 // A nest as a ticket's bytes in a lent buffer. `at` is a place in the buffer, and a writer answers the place behind what it wrote.
 ghost use mathlib.Core.Path.{_≡_};
-ghost use mathlib.Core.List.{[], _∷_, map, flatMap};
+ghost use mathlib.Core.List.{[], _∷_, map};
 ghost use Prim.Native.Nat.{_+_, _≤_, _<_, _%_, _/_};
 ghost use lib.IntN.{pos, natAbs};
 ghost use lib.ListN.{length, take};
@@ -12,9 +12,16 @@ ghost use Rattle.body.specs.Arrays.{shapeOf, arraysOf, ShapeIn, ArraysIn};
 ghost use Rattle.body.specs.Statements.{subscriptOf, accessOf, statementOf, statementsOf, SubscriptIn, AccessIn, AccessesIn, StatementIn, BodyIn};
 ghost use Rattle.encoding.specs.Writing.{Writable, Written};
 ghost use Rattle.encoding.specs.Encoding.{subscriptWords, nestOf, Held, Encodable, Encodes};
-
-use body::{Access, Arrays, Body, Shape, Statement, Subscript};
-use nest::{Limit, Loop, Nest, Side};
+use body::Access;
+use body::Arrays;
+use body::Body;
+use body::Shape;
+use body::Statement;
+use body::Subscript;
+use nest::Limit;
+use nest::Loop;
+use nest::Nest;
+use nest::Side;
 
 // How many bytes were written, or how many there would be.
 pub enum Encoded {

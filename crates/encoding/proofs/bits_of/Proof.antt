@@ -1,7 +1,6 @@
 -- `bits_of`: numbers below 0 are the upper half of the 16-bit numbers.
 use mathlib.Core.Path.{_≡_, refl, sym, ap, _∙_, subst}
-use mathlib.Core.Bool.{true, false}
-use Prim.Native.Nat.{ℕ, _-_, _≤_, _<_}
+use Prim.Native.Nat.{_<_}
 use native.Mathlib.Omega.{arith}
 use lib.IntN.{ℤ, pos, negsuc, natAbs, _+ℤ_}
 use lib.Dec.{T}
@@ -11,7 +10,7 @@ use mir.Val.{toZ, ofZ, SFits, Fits}
 use mir.Facts.{toZ-ofZ}
 use Rattle.integers.proofs.DifferenceLaws.{add-fact}
 use Rattle.integers.proofs.RingLaws.{zarith}
-use Rattle.integers.proofs.RangeLaws.{test-lt, test-lt-no, cast-ok}
+use Rattle.integers.proofs.RangeLaws.{test-lt, test-lt-no}
 use Rattle.model.specs.Words.{bits}
 use Rattle.model.specs.Ranges.{Small}
 use Rattle.encoding.proofs.WritingLaws.{small-fits}

@@ -1,11 +1,9 @@
 -- `put_limit`: the multiplier, the constant, the coefficients.
-use mathlib.Core.Path.{refl}
 use mathlib.Core.List.{[], _∷_}
 use lib.ListN.{take}
 use Rattle.encoding.proofs.WritingLaws.{written-length, kept-room, kept-written, writable-left, writable-right, written-both}
 use Rattle.model.specs.Encode.{limitWords}
 use Rattle.nest.specs.Nested.{limitOf}
-use borrow.Author.Needs.{needs}
 use Rattle.encoding.proofs.put_limit.Statement.{statement}
 use Rattle.encoding.proofs.put_limit.Tie as tie
 

@@ -1,10 +1,8 @@
 -- `put_loop`: the lower side, the upper side.
-use mathlib.Core.Path.{refl}
-use mathlib.Core.List.{[], _∷_}
+use mathlib.Core.List.{[]}
 use Rattle.encoding.proofs.WritingLaws.{written-length, writable-left, writable-right, written-both}
 use Rattle.model.specs.Encode.{counted, limitWords, loopWords}
 use Rattle.nest.specs.Nested.{sideOf, loopOf}
-use borrow.Author.Needs.{needs}
 use Rattle.encoding.proofs.put_loop.Statement.{statement}
 use Rattle.encoding.proofs.put_loop.Tie as tie
 

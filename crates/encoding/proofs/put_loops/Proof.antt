@@ -1,12 +1,9 @@
 -- `put_loops`: k loops are written behind their count.
 use borrow.Author.Needs.{needs}
-use mathlib.Core.Path.{_≡_, refl, sym, subst}
-use mathlib.Core.List.{[], _∷_}
-use Prim.Native.Nat.{_+_, _-_}
+use mathlib.Core.List.{[]}
+use Prim.Native.Nat.{_-_}
 use native.Mathlib.Omega.{arith}
-use lib.IntN.{pos}
-use Rattle.encoding.specs.Writing.{Writable, Written}
-use Rattle.encoding.proofs.WritingLaws.{written-length, Filling, fill-start, fill-next, fill-more, fill-done, head-room, head-start, head-done, all-at}
+use Rattle.encoding.proofs.WritingLaws.{written-length, Filling, fill-next, fill-more, head-room, head-start, head-done, all-at}
 use Rattle.model.specs.Encode.{loopWords}
 use Rattle.nest.specs.Nested.{loopOf, LoopIn}
 use Rattle.encoding.proofs.SectionLaws.{loops-parts}

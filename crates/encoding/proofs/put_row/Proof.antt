@@ -1,13 +1,13 @@
 -- `put_row`: k numbers are written.
 use borrow.Author.Needs.{needs}
-use mathlib.Core.Path.{_≡_, refl, sym, subst}
+use mathlib.Core.Path.{subst}
 use mathlib.Core.List.{[], _∷_}
-use Prim.Native.Nat.{_+_, _-_}
+use Prim.Native.Nat.{_-_}
 use native.Mathlib.Omega.{arith}
 use lib.IntN.{pos}
 use lib.ListN.{getD}
-use Rattle.encoding.specs.Writing.{Writable, Written}
-use Rattle.encoding.proofs.WritingLaws.{kept-room, kept-written, written-length, Filling, fill-start, fill-next, fill-more, fill-done, head-room, head-start, head-done, all-at}
+use Rattle.encoding.specs.Writing.{Writable}
+use Rattle.encoding.proofs.WritingLaws.{kept-room, kept-written, written-length, Filling, fill-start, fill-next, fill-more, fill-done}
 use Rattle.encoding.proofs.SectionLaws.{row-parts, row-written}
 use Rattle.encoding.proofs.put_row.Statement.{statement}
 use Rattle.encoding.proofs.put_row.Tie as tie

@@ -1,12 +1,10 @@
 -- `put_shape`: k extents are written behind their count.
 use borrow.Author.Needs.{needs}
-use mathlib.Core.Path.{_≡_, refl, sym, subst}
 use mathlib.Core.List.{[], _∷_}
-use Prim.Native.Nat.{_+_, _-_}
+use Prim.Native.Nat.{_-_}
 use native.Mathlib.Omega.{arith}
 use lib.IntN.{pos}
-use Rattle.encoding.specs.Writing.{Writable, Written}
-use Rattle.encoding.proofs.WritingLaws.{written-length, Filling, fill-start, fill-next, fill-more, fill-done, head-room, head-start, head-done, all-at}
+use Rattle.encoding.proofs.WritingLaws.{written-length, Filling, fill-next, fill-more, head-room, head-start, head-done}
 use Rattle.encoding.proofs.SectionLaws.{shape-parts}
 use Rattle.encoding.proofs.put_shape.Statement.{statement}
 use Rattle.encoding.proofs.put_shape.Tie as tie

@@ -1,4 +1,4 @@
--- `shape_words`
+-- `shape_words`: the count, and a word for each extent.
 use native.Mathlib.Omega.{arith}
 use Rattle.encoding.proofs.LengthLaws.{shape-length}
 use borrow.Author.Needs.{needs}
