@@ -47,7 +47,6 @@ module _ {o : List ℕ} {at : ℕ} (as′ bs cs ds : List ℤ) (h : Writable o a
 -- ---- a statement
 
 module _ {o : List ℕ} {at : ℕ} (n : ℕ) (s : Statement) (h : Writable o at (statementWords (statementOf n s))) where
-
   split : Writable o at (pos (s .rule) ∷ pos (s .constant) ∷ (accessWords (accessOf n (s .write)) ++ counted accessWords (map (accessOf n) (take (s .reads) (s .read)))))
   split = subst (Writable o at) (statement-parts n s) h
 
