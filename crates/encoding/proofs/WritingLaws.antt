@@ -2,7 +2,7 @@
 -- a loop that writes them (`Filling`); one word.
 use mathlib.Core.Path.{_≡_, refl, sym, ap, _∙_, subst}
 use mathlib.Core.List.{List, [], _∷_, _++_, flatMap, append-assoc, append-nil, List·Memᴰ·head}
-use Prim.Native.Nat.{ℕ, suc, _+_, _*_, _-_, _/_, _%_, _≤_, _<_}
+use Prim.Native.Nat.{ℕ, suc, _+_, _-_, _/_, _%_, _≤_, _<_}
 use native.Mathlib.Numerals.{add-one}
 use native.Mathlib.Omega.{arith}
 use lib.IntN.{ℤ, pos, negsuc}
@@ -46,7 +46,8 @@ module _ {o : List ℕ} {at : ℕ} (us vs : List ℤ) (h : Writable o at (us ++ 
       record {
         same = v .same ∙ ap (λ l. put l r (bytesOf vs)) (w .same) ∙ ap (λ i. put (put o at (bytesOf us)) i (bytesOf vs)) p
             ∙ put-put o at (bytesOf us) (bytesOf vs) (omega arith) ∙ ap (put o at) (sym (bytes-append us vs));
-        next = omega arith }
+        next = omega arith;
+      }
 
 -- ---- the parts of a list
 
@@ -101,7 +102,8 @@ module _ {A : Type 0} {f : ℕ → A → List ℤ} {o : List ℕ} {at n : ℕ} {
       low = omega arith;
       room = r;
       whole = i .whole;
-      written = subst (λ ws. Written o out′ at ws q) (sym (parts-next f l k d (omega arith))) (written-both (parts f 0 (take k l)) (f k (getD l k d)) (both d h) (i .written) v) }
+      written = subst (λ ws. Written o out′ at ws q) (sym (parts-next f l k d (omega arith))) (written-both (parts f 0 (take k l)) (f k (getD l k d)) (both d h) (i .written) v);
+    }
 
     pub fill-done : n ≤ k → Written o out at (parts f 0 (take n l)) next
     fill-done h = let s = i .low in let e : k ≡ n = omega arith in subst (λ m. Written o out at (parts f 0 (take m l)) next) e (i .written)
