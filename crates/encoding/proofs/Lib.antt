@@ -4,3 +4,4 @@ pub mod SectionLaws
 pub mod StatementLaws
 pub mod LengthLaws
 pub mod EncodeLaws
+pub mod Witness

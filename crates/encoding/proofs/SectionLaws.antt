@@ -12,11 +12,10 @@ use Rattle.model.specs.Ticket as Model
 use Rattle.model.specs.Encode.{counted, limitWords, loopWords, arrayWords, accessWords, statementWords}
 use Rattle.nest.specs.Nested.{limitOf, sideOf, loopOf, loopsFrom, loopsOf, SideIn, NestIn}
 use Rattle.nest.specs.declared.Side.{Side}
-use Rattle.nest.specs.declared.Limit.{Limit}
 use Rattle.nest.specs.declared.Loop.{Loop}
 use Rattle.nest.specs.declared.Nest.{Nest}
 use Rattle.body.specs.Arrays.{shapeOf, arraysOf, ShapeIn, ArraysIn}
-use Rattle.body.specs.Statements.{subscriptOf, accessOf, statementOf, statementsOf, AccessIn, AccessesIn, BodyIn}
+use Rattle.body.specs.Statements.{subscriptOf, accessOf, statementOf, statementsOf, AccessesIn, BodyIn}
 use Rattle.body.specs.declared.Shape.{Shape}
 use Rattle.body.specs.declared.Arrays.{Arrays}
 use Rattle.body.specs.declared.Subscript.{Subscript}

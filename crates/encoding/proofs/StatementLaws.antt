@@ -1,19 +1,13 @@
 -- The parts of a statement and the sections of a nest, written one after another.
-use mathlib.Core.Path.{_≡_, sym, subst}
+use mathlib.Core.Path.{sym, subst}
 use mathlib.Core.List.{List, [], _∷_, _++_, map}
 use Prim.Native.Nat.{ℕ}
 use lib.IntN.{ℤ, pos}
 use lib.ListN.{take}
-use Rattle.model.specs.Encode.{counted, loopWords, arrayWords, accessWords, statementWords, nestWords}
-use Rattle.nest.specs.Nested.{loopsOf}
-use Rattle.nest.specs.declared.Nest.{Nest}
-use Rattle.body.specs.Arrays.{arraysOf}
-use Rattle.body.specs.Statements.{accessOf, statementOf, statementsOf}
+use Rattle.model.specs.Encode.{counted, accessWords, statementWords}
+use Rattle.body.specs.Statements.{accessOf, statementOf}
 use Rattle.body.specs.declared.Statement.{Statement}
-use Rattle.body.specs.declared.Arrays.{Arrays}
-use Rattle.body.specs.declared.Body.{Body}
 use Rattle.encoding.specs.Writing.{Writable, Written}
-use Rattle.encoding.specs.Encoding.{nestOf}
 use Rattle.encoding.proofs.WritingLaws.{writable-left, writable-right, written-both}
 use Rattle.encoding.proofs.SectionLaws.{statement-parts}
 
