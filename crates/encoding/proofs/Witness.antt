@@ -51,7 +51,8 @@ held : Held nest arrays body
 held = record {
   nest = record { few = omega arith; room = refl; each = all-cons LoopIn (record { lower = side-in; upper = side-in }) (all-nil LoopIn) };
   arrays = record { few = omega arith; room = refl; each = all-cons ShapeIn (record { few = omega arith; room = refl }) (all-nil ShapeIn) };
-  body = record { few = omega arith; room = refl; each = all-cons StatementIn (record { write = access-in; read = record { few = omega arith; room = refl; each = all-nil AccessIn } }) (all-nil StatementIn) } }
+  body = record { few = omega arith; room = refl; each = all-cons StatementIn (record { write = access-in; read = record { few = omega arith; room = refl; each = all-nil AccessIn } }) (all-nil StatementIn) };
+}
 
 pub encodable : Encodable nest arrays body
 unfolding nestWords nestOf counted flatMap map loopWords limitWords arrayWords accessWords statementWords limitOf sideOf loopOf loopsFrom loopsOf shapeOf arraysOf subscriptOf accessOf statementOf statementsOf
