@@ -1,25 +1,20 @@
 -- A nest that meets the preconditions of writing: one loop from 0 to 0, one array of one element, and one statement that stores 0 in it.
 use mathlib.Core.Path.{refl}
-use mathlib.Core.List.{List, [], _∷_, map, flatMap}
-use Prim.Native.Nat.{ℕ}
+use mathlib.Core.List.{[], map, flatMap}
 use native.Mathlib.Omega.{arith}
 use lib.IntN.{pos}
 use lib.ListN.{replicate}
 use Rattle.lists.proofs.MembershipLaws.{all-nil, all-cons}
 use Rattle.model.specs.Encode.{counted, limitWords, loopWords, arrayWords, accessWords, statementWords, nestWords}
 use Rattle.model.specs.Ranges.{Small}
-use Rattle.nest.specs.Nested.{limitOf, sideOf, loopOf, loopsFrom, loopsOf, LimitIn, SideIn, LoopIn, NestIn}
+use Rattle.nest.specs.Nested.{limitOf, sideOf, loopOf, loopsFrom, loopsOf, LimitIn, SideIn, LoopIn}
 use Rattle.nest.specs.declared.Limit.{Limit}
 use Rattle.nest.specs.declared.Side.{Side}
-use Rattle.nest.specs.declared.Loop.{Loop}
 use Rattle.nest.specs.declared.Nest.{Nest}
-use Rattle.body.specs.Arrays.{shapeOf, arraysOf, ShapeIn, ArraysIn}
-use Rattle.body.specs.Statements.{subscriptOf, accessOf, statementOf, statementsOf, SubscriptIn, AccessIn, AccessesIn, StatementIn, BodyIn}
-use Rattle.body.specs.declared.Shape.{Shape}
+use Rattle.body.specs.Arrays.{shapeOf, arraysOf, ShapeIn}
+use Rattle.body.specs.Statements.{subscriptOf, accessOf, statementOf, statementsOf, SubscriptIn, AccessIn, StatementIn}
 use Rattle.body.specs.declared.Arrays.{Arrays}
-use Rattle.body.specs.declared.Subscript.{Subscript}
 use Rattle.body.specs.declared.Access.{Access}
-use Rattle.body.specs.declared.Statement.{Statement}
 use Rattle.body.specs.declared.Body.{Body}
 use Rattle.encoding.specs.Encoding.{nestOf, Held, Encodable}
 
