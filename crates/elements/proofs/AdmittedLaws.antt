@@ -12,7 +12,6 @@ use lib.ListN.{length}
 use Rattle.lists.specs.Membership.{Mem, All}
 use Rattle.lists.specs.Tests.{any}
 use Rattle.lists.proofs.TestLaws.{some-any, none-any, not-T-false}
-use Rattle.integers.proofs.AffineLaws.{within-more}
 use Rattle.model.specs.Answer.{Answer, accepted, refused}
 use Rattle.model.specs.Ticket.{Access, Statement}
 use Rattle.model.specs.Bounds.{strays, accessesOf, inArrays}
@@ -28,7 +27,7 @@ listed-rows s c depth o e r p g = record {
   few = p .nest .shallow;
   bound = g .few;
   room = listed-room s c depth o e r p g .1;
-  near = λ x m. within-more x (listed-near s c depth (length o) o e r p g x m) (omega arith);
+  near = listed-near s c depth (length o) o e r p g;
 }
 
 -- ---- refusal 9 was not given

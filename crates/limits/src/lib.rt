@@ -69,7 +69,7 @@ pub fn mix(n: usize, u: i64, xs: [i64; 6], v: i64, ys: [i64; 6]) -> [i64; 6]
 }
 
 // The coefficient at place a changes sign.
-fn turned(cs: [i64; 6], n: usize, a: usize) -> [i64; 6]
+pub fn turned(cs: [i64; 6], n: usize, a: usize) -> [i64; 6]
     requires { ⌜ (a < n) × (n ≤ 6) × Within 32767 (take n cs) ⌝ }
     ensures { λ r. ⌜ RowIs n r (under a (onHead negℤ) (take n cs)) ⌝ }
 {
@@ -80,7 +80,7 @@ fn turned(cs: [i64; 6], n: usize, a: usize) -> [i64; 6]
 }
 
 // The coefficients at a and a + 1 trade places.
-fn swapped(cs: [i64; 6], n: usize, a: usize) -> [i64; 6]
+pub fn swapped(cs: [i64; 6], n: usize, a: usize) -> [i64; 6]
     requires { ⌜ (a + 1 < n) × (n ≤ 6) ⌝ }
     ensures { λ r. ⌜ RowIs n r (under a swapped (take n cs)) ⌝ }
 {
@@ -94,7 +94,7 @@ fn swapped(cs: [i64; 6], n: usize, a: usize) -> [i64; 6]
 }
 
 // The loop d + 1 places inside loop a is skewed: what its coefficient takes from that of a.
-fn skewed(cs: [i64; 6], n: usize, a: usize, d: usize, positive: bool) -> [i64; 6]
+pub fn skewed(cs: [i64; 6], n: usize, a: usize, d: usize, positive: bool) -> [i64; 6]
     requires { ⌜ (a + 1 + d < n) × (n ≤ 6) × Within 32767 (take n cs) ⌝ }
     ensures { λ r. ⌜ RowIs n r (under a (skewCoefficients d positive) (take n cs)) ⌝ }
 {
@@ -108,7 +108,7 @@ fn skewed(cs: [i64; 6], n: usize, a: usize, d: usize, positive: bool) -> [i64; 6
 }
 
 // Coefficient a becomes w times itself, and itself.
-fn split(cs: [i64; 6], n: usize, a: usize, w: u64) -> [i64; 6]
+pub fn split(cs: [i64; 6], n: usize, a: usize, w: u64) -> [i64; 6]
     requires { ⌜ (a < n) × (n < 6) × (w ≤ 32767) × Within 32767 (take n cs) ⌝ }
     ensures { λ r. ⌜ RowIs (n + 1) r (under a (splitCoefficients w) (take n cs)) ⌝ }
 {

@@ -23,6 +23,22 @@ use Rattle.space.specs.Stored.{joined, CollectIn, Collected, PointsIn, L
 use Rattle.space.proofs.ThroughLaws.{through-none, loops-length}
 use Rattle.space.proofs.SurveyLaws.{survey-passes, survey-near}
 
+-- ---- a nest that keeps the bounds of 7 and 8
+
+near-more : {m n : ℕ} (N : List Loop) (outer : List ℤ) → m ≤ n → Near m N outer → Near n N outer
+near-more [] outer h p = tt
+near-more (L ∷ N) outer h p = λ i k. let q = p i k in let s = q .0 in (omega arith, near-more N (outer ++ (i ∷ [])) h (q .1))
+
+pub admitted-near : (N : List Loop) → space N ≡ accepted tt → Near 100000 N []
+unfolding space
+admitted-near N e = near-more N [] (omega arith) (survey-near 7 8 32767 4096 N e)
+
+pub admitted-few : (N : List Loop) → 1 ≤ length N → space N ≡ accepted tt → length (iterations N) ≤ 4096
+unfolding space iterations partialPoints
+admitted-few N h e =
+    let q = survey-passes 7 8 32767 4096 N 1 (length N) e (length N) (omega arith) (omega arith) in
+    subst (λ (M : List Loop). length (points M []) ≤ 4096) (take-length N) (q .few)
+
 -- ---- points have an index for each loop
 
 pub points-length : (N : List Loop) (outer : List ℤ) → All (λ y. length y ≡ length N) (points N outer)
@@ -32,10 +48,6 @@ points-length (L ∷ N) outer y m =
     let q = flatMap-mem (λ i. map (λ z. i ∷ z) (points N (outer ++ (i ∷ [])))) (indices L outer) m in
     let t = Memᴰ·of-map (λ z. q .0 ∷ z) (points N (outer ++ (q .0 ∷ []))) (q .2) in
     ap length (sym (t .2)) ∙ ap suc (points-length N (outer ++ (q .0 ∷ [])) (t .0) (t .1))
-
-near-more : {m n : ℕ} (N : List Loop) (outer : List ℤ) → m ≤ n → Near m N outer → Near n N outer
-near-more [] outer h p = tt
-near-more (L ∷ N) outer h p = λ i k. let q = p i k in let s = q .0 in (omega arith, near-more N (outer ++ (i ∷ [])) h (q .1))
 
 map-same-all : (l : List (List ℤ)) → map (λ p. p) l ≡ l
 map-same-all [] = refl
@@ -53,30 +65,19 @@ module _ (s : List ℤ) (c : List ℕ) (depth : ℕ) where
   unfolding iterations
   all-points = through-none (loopsFrom s c 0 depth)
 
-  -- ---- a nest that was admitted
+  -- ---- a nest that was surveyed
 
   module _ (room : ℕ) (p : PointsIn s c depth room) where
-    accepted-survey : survey 7 8 32767 4096 (loopsFrom s c 0 depth) 1 (length (loopsFrom s c 0 depth)) ≡ accepted tt
-    unfolding space
-    accepted-survey = p .admitted
-
-    few : length (iterations (loopsFrom s c 0 depth)) ≤ 4096
-    unfolding iterations partialPoints
-    few =
-        let l = loops-length s c 0 depth in let h = p .some in
-        let q = survey-passes 7 8 32767 4096 (loopsFrom s c 0 depth) 1 (length (loopsFrom s c 0 depth)) accepted-survey (length (loopsFrom s c 0 depth)) (omega arith) (omega arith) in
-        subst (λ (N : List Loop). length (points N []) ≤ 4096) (take-length (loopsFrom s c 0 depth)) (q .few)
-
     pub list-in : (point : List ℤ) → CollectIn s c 0 depth point room 0
     list-in point = record {
       nest = rw (zero-add depth) (p .nest);
       small = tt;
-      near = near-more (loopsFrom s c 0 depth) [] (omega arith) (survey-near 7 8 32767 4096 (loopsFrom s c 0 depth) accepted-survey);
-      fits = rw all-points (let w = words in let f = p .fits in omega (arith, mul-le-mul-right depth few));
+      near = p .near;
+      fits = rw all-points (let w = words in let f = p .fits in omega (arith, mul-le-mul-right depth (p .few)));
     }
 
     pub list-out : (point o e : List ℤ) (r : ℕ) → Collected s c 0 depth point o e 0 r → Listed s c depth o e (r / depth)
-    list-out point o e r g = record { count = how-many; few = rw how-many few; points = rw (how-many, written, put-all o (joined (iterations (loopsFrom s c 0 depth)))) rows-are; wrote = written }
+    list-out point o e r g = record { count = how-many; few = rw how-many (p .few); points = rw (how-many, written, put-all o (joined (iterations (loopsFrom s c 0 depth)))) rows-are; wrote = written }
       where
         place : r ≡ length (iterations (loopsFrom s c 0 depth)) * depth
         place = g .place ∙ zero-add (length (joined (through (loopsFrom s c 0 depth) []))) ∙ ap (λ (ps : List (List ℤ)). length (joined ps)) all-points ∙ words
@@ -104,10 +105,9 @@ points-near m (L ∷ N) outer h y k =
     let g = h (q .0) (q .1) in
     subst (Within m) (t .2) (g .0, points-near m N (outer ++ (q .0 ∷ [])) (g .1) (t .0) (t .1))
 
-pub listed-near : (s : List ℤ) (c : List ℕ) (depth room : ℕ) (o e : List ℤ) (r : ℕ) → PointsIn s c depth room → Listed s c depth o e r → All (Within 32767) (rows depth r e)
-unfolding space iterations
-listed-near s c depth room o e r p g = subst (All (Within 32767)) (sym (g .points))
-    (points-near 32767 (loopsFrom s c 0 depth) [] (survey-near 7 8 32767 4096 (loopsFrom s c 0 depth) (p .admitted)))
+pub listed-near : (s : List ℤ) (c : List ℕ) (depth room : ℕ) (o e : List ℤ) (r : ℕ) → PointsIn s c depth room → Listed s c depth o e r → All (Within 100000) (rows depth r e)
+unfolding iterations
+listed-near s c depth room o e r p g = subst (All (Within 100000)) (sym (g .points)) (points-near 100000 (loopsFrom s c 0 depth) [] (p .near))
 
 pub listed-room : (s : List ℤ) (c : List ℕ) (depth : ℕ) (o e : List ℤ) (r : ℕ) → PointsIn s c depth (length o) → Listed s c depth o e r → (length e ≡ length o) × (r * depth ≤ length e)
 listed-room s c depth o e r p g =

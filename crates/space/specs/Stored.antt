@@ -1,14 +1,12 @@
 -- Points stored row by row: what the functions that store them ask and give.
 use mathlib.Core.Path.{_≡_}
-use mathlib.Core.List.{List, flatMap}
+use mathlib.Core.List.{List, [], flatMap}
 use Prim.Native.Nat.{ℕ, _+_, _*_, _≤_}
 use lib.IntN.{ℤ}
 use lib.ListN.{length, take}
 use Rattle.lists.specs.Parts.{rows, put}
 use Rattle.integers.specs.Affine.{Within}
-use Rattle.model.specs.Answer.{accepted}
 use Rattle.model.specs.Points.{iterations}
-use Rattle.model.specs.Bounds.{space}
 use Rattle.space.specs.Flat.{NestOk, loopsFrom}
 use Rattle.space.specs.Tallies.{through, Near}
 
@@ -27,11 +25,12 @@ pub record Collected (s : List ℤ) (c : List ℕ) (k left : ℕ) (point o e : L
   pub place : r ≡ at + length (joined (through (loopsFrom s c k left) (take k point)))
   pub wrote : e ≡ put o at (joined (through (loopsFrom s c k left) (take k point)))
 
--- a nest that keeps the bounds of 7 and 8, and room for 4096 points
+-- a nest that was surveyed, with at most 4096 points, and room for them
 pub record PointsIn (s : List ℤ) (c : List ℕ) (depth room : ℕ) : Type 0 where
   pub nest : NestOk s c depth
   pub some : 1 ≤ depth
-  pub admitted : space (loopsFrom s c 0 depth) ≡ accepted tt
+  pub near : Near 100000 (loopsFrom s c 0 depth) []
+  pub few : length (iterations (loopsFrom s c 0 depth)) ≤ 4096
   pub fits : 4096 * depth ≤ room
 
 pub record Listed (s : List ℤ) (c : List ℕ) (depth : ℕ) (o e : List ℤ) (r : ℕ) : Type 0 where

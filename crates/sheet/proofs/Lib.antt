@@ -1,0 +1,1 @@
+-- Laws that the crate's contracts need.

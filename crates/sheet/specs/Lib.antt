@@ -1,0 +1,2 @@
+-- What the crate's contracts speak of: a sheet and the model's nest that it stands for, then what each function asks and gives.
+pub mod Sheets

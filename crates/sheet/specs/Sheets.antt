@@ -1,0 +1,67 @@
+-- The nest that a sheet stands for. Its slices are laid out as `space` (specs/Flat) and `elements` (specs/Layout) say; a statement has a size
+-- (the number of its accesses, the written one first), a rule and a constant.
+use mathlib.Core.Path.{_≡_}
+use mathlib.Core.List.{List, [], _∷_}
+use Prim.Native.Nat.{ℕ, suc, _+_, _*_, _-_, _≤_}
+use lib.IntN.{ℤ}
+use lib.ListN.{length, take, getD}
+use Rattle.lists.specs.Membership.{All}
+use Rattle.model.specs.Ticket.{Statement, Nest}
+use Rattle.model.specs.Grammar.{total}
+use Rattle.model.specs.Store.{sum}
+use Rattle.space.specs.Flat.{loopsFrom, NestOk}
+use Rattle.elements.specs.Layout.{arraysOf, accessAt, accessesFrom, AccessesOk}
+use Rattle.sheet.specs.declared.Sheet.{Sheet}
+
+-- ---- the parts of its arrays that are in use
+
+abbrev pub extentsIn : Sheet → List ℕ
+extentsIn P = take (P .arrays * 4) (P .extents)
+
+abbrev pub sizesIn : Sheet → List ℕ
+sizesIn P = take (P .statements) (P .sizes)
+
+abbrev pub ownersIn : Sheet → List ℕ
+ownersIn P = take (P .accesses) (P .owners)
+
+abbrev pub wordsIn : Sheet → List ℤ
+wordsIn P = take (P .accesses * 24) (P .words)
+
+-- ---- the nest
+
+-- the statements of these sizes, from access k and statement i on
+unfoldable pub statementsFrom : Sheet → ℕ → ℕ → List ℕ → List Statement
+statementsFrom P k i [] = []
+statementsFrom P k i (m ∷ ms) =
+    record {
+      rule = getD (P .rules) i 0;
+      constant = getD (P .constants) i 0;
+      writes = accessAt (wordsIn P) (ownersIn P) (extentsIn P) (P .depth) k ∷ [];
+      reads = accessesFrom (wordsIn P) (ownersIn P) (extentsIn P) (P .depth) (suc k) (m - 1);
+    }
+    ∷ statementsFrom P (k + m) (suc i) ms
+
+unfoldable pub nestOf : Sheet → Nest
+nestOf P = record {
+  loops = loopsFrom (P .limits) (P .counts) 0 (P .depth);
+  arrays = arraysOf (extentsIn P);
+  statements = statementsFrom P 0 0 (sizesIn P);
+}
+
+-- what every sheet of a nest has that was judged, before or after its steps
+pub record SheetIn (P : Sheet) : Type 0 where
+  pub nest : NestOk (P .limits) (P .counts) (P .depth)
+  pub some : 1 ≤ P .depth
+  pub accesses-ok : AccessesOk (wordsIn P) (ownersIn P) (extentsIn P) (P .depth)
+  pub fits : total (arraysOf (extentsIn P)) ≤ 16384
+  pub all-accesses : sum (sizesIn P) ≡ P .accesses
+  pub each : All (λ m. 1 ≤ m) (sizesIn P)
+  pub few-arrays : P .arrays ≤ 4
+  pub few-statements : P .statements ≤ 4
+  pub few-accesses : P .accesses ≤ 20
+  pub extents-length : length (P .extents) ≡ 16
+  pub sizes-length : length (P .sizes) ≡ 4
+  pub owners-length : length (P .owners) ≡ 20
+  pub words-length : length (P .words) ≡ 480
+  pub rules-length : length (P .rules) ≡ 4
+  pub constants-length : length (P .constants) ≡ 4
