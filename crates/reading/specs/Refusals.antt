@@ -6,11 +6,12 @@ use lib.ListN.{length}
 use Rattle.model.specs.Answer.{Answer, accepted, refused}
 use Rattle.model.specs.Grammar.{Read}
 use Rattle.reading.specs.declared.Refusal.{Refusal}
-use Rattle.reading.specs.declared.Refusal.the-variants.{Truncated, TrailingBytes, CountOutOfRange, WordOutOfRange, TooManyElements, LoopOutOfNest}
+use Rattle.reading.specs.declared.Refusal.the-variants.{Truncated, TrailingBytes, CountOutOfRange, WordOutOfRange, TooManyElements, LoopOutOfNest, IndexOutOfRange, TooManyPoints, SubscriptOutOfBounds, DependenceReversed, TooManyLimits, NumberOutOfRange, NewNestTooLarge, BufferTooShort, OpaqueRule, WrongStoreLength}
 use Rattle.reading.specs.declared.Status.{Status}
 use Rattle.reading.specs.declared.Status.the-variants as Status
 
--- torn, overhang, bad count, bad word, overfull, off the nest
+-- torn, overhang, bad count, bad word, overfull, off the nest; far index, crowded, off the array; out of order, limits full, big number; sprawl;
+-- short buffer, opaque, wrong store
 abbrev pub numberOf : Refusal → ℕ
 numberOf (Truncated p) = 1
 numberOf (TrailingBytes p) = 2
@@ -18,6 +19,16 @@ numberOf (CountOutOfRange p) = 3
 numberOf (WordOutOfRange p) = 4
 numberOf (TooManyElements p) = 5
 numberOf (LoopOutOfNest p) = 6
+numberOf (IndexOutOfRange p) = 7
+numberOf (TooManyPoints p) = 8
+numberOf (SubscriptOutOfBounds p) = 9
+numberOf (DependenceReversed p) = 10
+numberOf (TooManyLimits p) = 11
+numberOf (NumberOutOfRange p) = 12
+numberOf (NewNestTooLarge p) = 13
+numberOf BufferTooShort = 14
+numberOf (OpaqueRule p) = 15
+numberOf WrongStoreLength = 16
 
 abbrev pub placeOf : Refusal → ℕ
 placeOf (Truncated p) = p
@@ -26,6 +37,16 @@ placeOf (CountOutOfRange p) = p
 placeOf (WordOutOfRange p) = p
 placeOf (TooManyElements p) = p
 placeOf (LoopOutOfNest p) = p
+placeOf (IndexOutOfRange p) = p
+placeOf (TooManyPoints p) = p
+placeOf (SubscriptOutOfBounds p) = p
+placeOf (DependenceReversed p) = p
+placeOf (TooManyLimits p) = p
+placeOf (NumberOutOfRange p) = p
+placeOf (NewNestTooLarge p) = p
+placeOf BufferTooShort = 0
+placeOf (OpaqueRule p) = p
+placeOf WrongStoreLength = 0
 
 abbrev pub refusal : {A : Type 0} → Refusal → Answer A
 refusal r = refused (numberOf r) (placeOf r)

@@ -1,1 +1,3 @@
 -- Laws that the crate's contracts need.
+pub mod SheetLaws
+pub mod StageLaws

@@ -1,2 +1,3 @@
 -- What the crate's contracts speak of: a sheet and the model's nest that it stands for, then what each function asks and gives.
 pub mod Sheets
+pub mod Stages

@@ -9,21 +9,10 @@ fn print_number(n: usize) {
     io::print_decimal(1, n as u64);
 }
 
-fn print_refused(number: usize, place: usize) {
-    io::write_all(1, b"refused");
-    print_number(number);
-    print_number(place);
-}
-
 fn print_refusal(r: Refusal) {
-    match r {
-        Refusal::Truncated(p) => print_refused(1, p),
-        Refusal::TrailingBytes(p) => print_refused(2, p),
-        Refusal::CountOutOfRange(p) => print_refused(3, p),
-        Refusal::WordOutOfRange(p) => print_refused(4, p),
-        Refusal::TooManyElements(p) => print_refused(5, p),
-        Refusal::LoopOutOfNest(p) => print_refused(6, p),
-    }
+    io::write_all(1, b"refused");
+    print_number(reading::number_of(r));
+    print_number(reading::place_of(r));
 }
 
 fn print_answer(bytes: &[u8]) {

@@ -1,0 +1,56 @@
+-- `number_accesses`: `elements` on the parts of the sheet that are in use.
+use mathlib.Core.Path.{refl, sym}
+use Rattle.sheet.proofs.SheetLaws.{words-count, owners-count, extents-count}
+use Rattle.sheet.proofs.StageLaws.{number-in, number-out}
+use borrow.Author.Needs.{needs}
+use Rattle.sheet.proofs.number_accesses.Statement.{statement}
+use Rattle.sheet.proofs.number_accesses.Tie as tie
+
+mul-words : tie.Need-mul-words
+mul-words c = search needs
+
+array-share-prefix-words : tie.Need-array-share-prefix-words
+array-share-prefix-words c = search needs
+
+slice-aggregate-number-accesses : tie.Need-slice-aggregate-number-accesses
+slice-aggregate-number-accesses c = let s = c .before .before .before .before .before in sym (words-count (s .args .sheet) (s .pre .stray .sheet))
+
+array-share-prefix-owners : tie.Need-array-share-prefix-owners
+array-share-prefix-owners c = search needs
+
+slice-aggregate-number-accesses-2 : tie.Need-slice-aggregate-number-accesses-2
+slice-aggregate-number-accesses-2 c = let s = c .before .before .before .before .before .before in sym (owners-count (s .args .sheet) (s .pre .stray .sheet))
+
+mul-extents : tie.Need-mul-extents
+mul-extents c = search needs
+
+array-share-prefix-extents : tie.Need-array-share-prefix-extents
+array-share-prefix-extents c = search needs
+
+slice-aggregate-number-accesses-3 : tie.Need-slice-aggregate-number-accesses-3
+slice-aggregate-number-accesses-3 c = let s = c .before .before .before .before .before .before .before .before in sym (extents-count (s .args .sheet) (s .pre .stray .sheet))
+
+number-accesses-requires : tie.Need-number-accesses-requires
+number-accesses-requires c κs = let s = c .before .before .before .before .before .before .before .before .before in number-in (s .args .sheet) _ _ _ (s .pre)
+
+same-length : tie.Need-same-length
+same-length c = search needs
+
+returns : tie.Need-returns
+returns c = let s = c .before .before .before .before .before .before .before .before .before .before .before .before in number-out (s .args .sheet) (s .args .points .now) (s .args .count) _ (s .pre) (s .args .numbers .now) _ refl (c .before .before .number-accesses .ensures)
+
+pub number-accesses-spec : {M : Type 1} → statement M
+number-accesses-spec =
+    tie.close
+    (tie.spec
+    mul-words
+    array-share-prefix-words
+    slice-aggregate-number-accesses
+    array-share-prefix-owners
+    slice-aggregate-number-accesses-2
+    mul-extents
+    array-share-prefix-extents
+    slice-aggregate-number-accesses-3
+    number-accesses-requires
+    same-length
+    returns)

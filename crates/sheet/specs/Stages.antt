@@ -1,0 +1,72 @@
+-- What the stages find on a sheet, in terms of the nest that it stands for.
+use mathlib.Core.Path.{_≡_}
+use mathlib.Core.List.{List, []}
+use Prim.Native.Nat.{ℕ, _+_, _*_, _≤_, _<_}
+use lib.IntN.{ℤ}
+use lib.ListN.{length, getD}
+use Rattle.lists.specs.Parts.{rows}
+use Rattle.model.specs.Answer.{accepted}
+use Rattle.model.specs.Ticket.{Access, Nest}
+use Rattle.model.specs.Points.{iterations}
+use Rattle.model.specs.Bounds.{survey, inArrays}
+use Rattle.model.specs.Machine.{element}
+use Rattle.model.specs.Store.{placeOf}
+use Rattle.model.specs.Entries.{allAccesses}
+use Rattle.model.specs.Shape.{WellFormed}
+use Rattle.space.specs.Tallies.{Near}
+use Rattle.space.specs.Surveys as Space
+use Rattle.space.specs.declared.Verdict.{Verdict}
+use Rattle.elements.specs.Search as Elements
+use Rattle.elements.specs.Search.{RowsIn}
+use Rattle.sheet.specs.declared.Sheet.{Sheet}
+use Rattle.sheet.specs.Sheets.{nestOf, SheetIn}
+
+-- 7 and 8, or 13 and 13, with these bounds
+abbrev pub Surveyed : Sheet → ℕ → ℕ → Verdict → Type 0
+Surveyed P bound most r = (far crowded : ℕ) → Space.answerOf far crowded r ≡ survey far crowded bound most (nestOf P .loops) 1 (length (nestOf P .loops))
+
+-- the points of the nest can be listed
+pub record ListIn (P : Sheet) (room : ℕ) : Type 0 where
+  pub sheet : SheetIn P
+  pub near : Near 100000 (nestOf P .loops) []
+  pub few : length (iterations (nestOf P .loops)) ≤ 4096
+  pub fits : 4096 * P .depth ≤ room
+
+-- n points stand in the slice row by row
+pub record PointsAre (P : Sheet) (points : List ℤ) (n : ℕ) : Type 0 where
+  pub count : n ≡ length (iterations (nestOf P .loops))
+  pub are : rows (P .depth) n points ≡ iterations (nestOf P .loops)
+  pub stored : RowsIn points (P .depth) n
+
+pub record StrayIn (P : Sheet) (points : List ℤ) (n : ℕ) : Type 0 where
+  pub sheet : SheetIn P
+  pub points-are : PointsAre P points n
+
+-- 9
+abbrev pub Searched : Sheet → ℕ → Type 0
+Searched P r = Elements.answerOf r ≡ inArrays (nestOf P .arrays) (iterations (nestOf P .loops)) 1 (nestOf P .statements)
+
+pub record NumberIn (P : Sheet) (points : List ℤ) (n room : ℕ) : Type 0 where
+  pub stray : StrayIn P points n
+  pub formed : WellFormed (nestOf P)
+  pub inside : inArrays (nestOf P .arrays) (iterations (nestOf P .loops)) 1 (nestOf P .statements) ≡ accepted tt
+  pub fits : P .accesses * 4096 ≤ room
+
+abbrev pub noAccess : Access
+noAccess = record { array = 0; subscripts = [] }
+
+-- access k of all, from 0
+abbrev pub accessOf : Nest → ℕ → Access
+accessOf N k = getD (allAccesses N) k noAccess
+
+-- the number of access k at point x stands at 4096 k + x
+pub record NumbersAre (P : Sheet) (numbers : List ℕ) : Type 0 where
+  pub room : P .accesses * 4096 ≤ length numbers
+  pub are : (k x : ℕ) → k < P .accesses → x < length (iterations (nestOf P .loops))
+      → getD numbers (k * 4096 + x) 0 ≡ placeOf (nestOf P .arrays) (element (getD (iterations (nestOf P .loops)) x []) (accessOf (nestOf P) k))
+  pub small : (k x : ℕ) → k < P .accesses → x < length (iterations (nestOf P .loops)) → getD numbers (k * 4096 + x) 0 < 16384
+
+pub record TestIn (P : Sheet) (u v : ℕ) : Type 0 where
+  pub sheet : SheetIn P
+  pub first : u < P .accesses
+  pub second : v < P .accesses
