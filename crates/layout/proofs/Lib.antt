@@ -11,3 +11,5 @@ pub mod Witness
 pub mod RowLaws
 pub mod AccessWrites
 pub mod StatementWrites
+pub mod ShapeWrites
+pub mod BodyWrites
