@@ -13,3 +13,6 @@ pub mod AccessWrites
 pub mod StatementWrites
 pub mod ShapeWrites
 pub mod BodyWrites
+pub mod ArrayBack
+pub mod AccessBack
+pub mod StatementBack
