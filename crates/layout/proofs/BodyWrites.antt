@@ -132,10 +132,11 @@ module _ (room rows depth : ℕ) (B : Body) (p : LayBodyIn room rows depth B) wh
           let t = next-size in
           (omega arith, omega arith)
 
-  pub body-laid : (i k : ℕ) (o w : List ℤ) (b c : List ℕ) → i ≤ B .count → B .count ≤ i → k ≡ length (firstBodies depth (B .statements) i)
+  pub body-laid : (i k : ℕ) (o w : List ℤ) (b c : List ℕ) → i ≤ B .count → B .count ≤ i → k ≤ i * 5 → k ≡ length (firstBodies depth (B .statements) i)
       → w ≡ layAccesses o 0 (firstBodies depth (B .statements) i) → c ≡ put b 0 (arrayNumbers (firstBodies depth (B .statements) i)) → BodyLaid depth B k o w b c
   unfolding statementsOf
-  body-laid i k o w b c g h z e f =
+  body-laid i k o w b c g h l z e f =
+      let m = p .within .few in
       let n : i ≡ B .count = omega arith in
       let F = firstBodies depth (B .statements) in
-      record { words = e ∙ ap (λ t. layAccesses o 0 (F t)) n; named = f ∙ ap (λ t. put b 0 (arrayNumbers (F t))) n; count = z ∙ ap (λ t. length (F t)) n }
+      record { words = e ∙ ap (λ t. layAccesses o 0 (F t)) n; named = f ∙ ap (λ t. put b 0 (arrayNumbers (F t))) n; count = z ∙ ap (λ t. length (F t)) n; few = omega arith }

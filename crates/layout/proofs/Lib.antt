@@ -16,3 +16,4 @@ pub mod BodyWrites
 pub mod ArrayBack
 pub mod AccessBack
 pub mod StatementBack
+pub mod SheetLaws

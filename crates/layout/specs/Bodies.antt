@@ -61,3 +61,4 @@ pub record BodyLaid (depth : ℕ) (B : Body) (r : ℕ) (w w′ : List ℤ) (o o�
   pub words : w′ ≡ layAccesses w 0 (accessesIn (statementsOf depth B))
   pub named : o′ ≡ put o 0 (arrayNumbers (accessesIn (statementsOf depth B)))
   pub count : r ≡ length (accessesIn (statementsOf depth B))
+  pub few : r ≤ 20

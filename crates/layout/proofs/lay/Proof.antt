@@ -1,3 +1,7 @@
+-- `lay`: each part is laid over zeros, and together they stand for the nest.
+use mathlib.Core.Path.{_∙_}
+use lib.ListN.{length-replicate}
+use Rattle.layout.proofs.SheetLaws.{nest-in, body-in, laid}
 use borrow.Author.Needs.{needs}
 use Rattle.layout.proofs.lay.Statement.{statement}
 use Rattle.layout.proofs.lay.Tie as tie
@@ -18,7 +22,7 @@ slice-aggregate-lay-nest-2 c = search needs
 
 -- src/lib.rt:219:5
 lay-nest-requires : tie.Need-lay-nest-requires
-lay-nest-requires c κs = ?
+lay-nest-requires c κs = let s = c .before .before in nest-in (s .args .nest) (s .args .arrays) (s .args .body) (s .pre)
 
 -- src/lib.rt:221:16
 slice-aggregate-lay-arrays : tie.Need-slice-aggregate-lay-arrays
@@ -54,11 +58,11 @@ slice-aggregate-lay-body-2 c = search needs
 
 -- src/lib.rt:228:9
 lay-body-requires : tie.Need-lay-body-requires
-lay-body-requires c κs = ?
+lay-body-requires c κs = let s = c .before .before .before .before .before .before .before .before .before .before .before .before .before .before .before .before .before in body-in (s .args .nest) (s .args .arrays) (s .args .body) (s .pre)
 
 -- src/lib.rt:212:1
 returns : tie.Need-returns
-returns c = ?
+returns c = let s = c .before .before .before .before .before .before .before .before .before .before .before .before .before .before .before .before .before .before .before .before in let q = c .before .before .before .before .before .before .before .before .before .before .before .before .before .before .before .before .before .lay-nest in let e = c .before .before .before .before .before .before .before .before .before .before .before .before .before .lay-arrays in let h = c .before .before .before .before .before .before .before .before .lay-heads in let b = c .before .before .lay-body in laid (s .args .nest) (s .args .arrays) (s .args .body) (s .pre) _ _ _ _ _ _ _ _ _ (q .ensures) (e .ensures) (h .ensures) (b .ensures) (h .kept .0) (h .kept .1 .0) (h .kept .1 .1 .0) (b .kept .1 .0)
 
 pub lay-spec : {M : Type 1} → statement M
 lay-spec =

@@ -62,7 +62,7 @@ same-length-2 c = c .before .loop .inv .4
 
 -- src/lib.rt:148:1
 returns : tie.Need-returns Inv-loop μ-loop
-returns c = let s = c .before .before .before .before in let l = c .before .loop in body-laid (length (s .args .words .now)) (length (s .args .owners .now)) (s .args .depth) (s .args .body) (s .pre) (l .i) (l .k) _ (l .words) _ (l .owners) (l .inv .0) (c .loop-test .left) (l .inv .2) (l .inv .5) (l .inv .6)
+returns c = let s = c .before .before .before .before in let l = c .before .loop in body-laid (length (s .args .words .now)) (length (s .args .owners .now)) (s .args .depth) (s .args .body) (s .pre) (l .i) (l .k) _ (l .words) _ (l .owners) (l .inv .0) (c .loop-test .left) (l .inv .1) (l .inv .2) (l .inv .5) (l .inv .6)
 
 pub lay-body-spec : {M : Type 1} → statement M
 lay-body-spec =
