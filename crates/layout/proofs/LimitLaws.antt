@@ -134,7 +134,7 @@ positive-front m s t j n e h p i g = subst (λ (z : ℤ). pos 0 <ℤ z) (sym (ge
 
 -- ---- sizes
 
-small-within : (l : List ℤ) → All Small l → Within 32767 l
+pub small-within : (l : List ℤ) → All Small l → Within 32767 l
 small-within [] a = tt
 small-within (x ∷ l) a = (omega (arith, a x (List·Memᴰ·head refl), size-natAbs x), small-within l (λ y m. a y (List·Memᴰ·tail m)))
 

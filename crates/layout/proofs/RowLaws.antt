@@ -1,19 +1,23 @@
--- Rows laid over a list (`layRows`), each shorter than the place that it has. In order: one more; what stays; a row read back; a property
--- of every element.
+-- Rows laid over a list (`layRows`), each shorter than the place that it has. In order: a property of every element; parts; one more; what
+-- stays; a row read back.
 use mathlib.Core.Path.{_≡_, refl, sym, ap, _∙_, subst}
 use mathlib.Core.List.{List, [], _∷_, _++_, List·Memᴰ·head, List·Memᴰ·tail}
-use Prim.Native.Nat.{ℕ, suc, _+_, _*_, _-_, _≤_}
+use Prim.Native.Nat.{ℕ, zero, suc, _+_, _*_, _-_, _≤_, _<_}
 use native.Mathlib.Omega.{arith}
 use native.Mathlib.Nat.{add-zero, suc-mul}
-use lib.ListN.{length, getD, take, drop}
+use lib.ListN.{length, getD, take, drop, replicate}
 use lib.Seq.{take-take, drop-drop, getD-drop, getD-take}
 use Rattle.lists.specs.Membership.{All}
 use Rattle.lists.specs.Parts.{put}
-use Rattle.lists.proofs.MembershipLaws.{all-append, all-take, all-drop}
+use Rattle.lists.proofs.MembershipLaws.{all-nil, all-cons, all-append, all-take, all-drop}
 use Rattle.lists.proofs.PartLaws.{drop-take, take-put, put-written, length-put, row-fits}
 use Rattle.layout.specs.Accesses.{layRows}
 
 -- ---- a property of every element
+
+pub all-replicate : {A : Type 0} (P : A → Type 0) (n : ℕ) (x : A) → P x → All P (replicate n x)
+all-replicate P zero x h = all-nil P
+all-replicate P (suc n) x h = all-cons P h (all-replicate P n x h)
 
 pub all-put : {A : Type 0} (P : A → Type 0) (o : List A) (p : ℕ) (xs : List A) → All P o → All P xs → All P (put o p xs)
 unfolding put
@@ -83,8 +87,7 @@ module _ {A : Type 0} (w : ℕ) where
       let n = suc-mul j w in
       rows-front (put s (j * w) x) (suc j) xs m (omega arith) (λ y i. a y (List·Memᴰ·tail i)) (omega arith) ∙ row-front s j x (a x (List·Memᴰ·head refl)) p m g
 
-  -- the first row; the others are by `rows-length` those of a list that is as long
-  pub row-back : (s : List A) (j : ℕ) (x : List A) (xs : List (List A)) → All (λ y. length y ≤ w) (x ∷ xs) → (j + suc (length xs)) * w ≤ length s
+  row-back : (s : List A) (j : ℕ) (x : List A) (xs : List (List A)) → All (λ y. length y ≤ w) (x ∷ xs) → (j + suc (length xs)) * w ≤ length s
       → take (length x) (drop (j * w) (layRows w s j (x ∷ xs))) ≡ x
   unfolding layRows
   row-back s j x xs a h =
@@ -96,3 +99,16 @@ module _ {A : Type 0} (w : ℕ) where
       part-front (suc j * w) (layRows w (put s (j * w) x) (suc j) xs) (put s (j * w) x) (j * w) (length x)
       (rows-front (put s (j * w) x) (suc j) xs (suc j * w) (omega arith) (λ y i. a y (List·Memᴰ·tail i)) (omega arith)) (omega arith)
       ∙ put-written s (j * w) x (omega arith)
+
+  -- row i, also of a front that holds them all
+  pub rows-at : (s : List A) (j : ℕ) (xs : List (List A)) → All (λ y. length y ≤ w) xs → (j + length xs) * w ≤ length s → (i : ℕ) (d : List A) → i < length xs
+      → take (length (getD xs i d)) (drop ((j + i) * w) (layRows w s j xs)) ≡ getD xs i d
+  unfolding layRows
+  rows-at s j [] a h i d g = absurd (omega arith)
+  rows-at s j (x ∷ xs) a h zero d g = ap (λ n. take (length x) (drop (n * w) (layRows w s j (x ∷ xs)))) (add-zero j) ∙ row-back s j x xs a h
+  rows-at s j (x ∷ xs) a h (suc i) d g =
+      let e = row-length s j x (a x (List·Memᴰ·head refl)) (first-fits s j (length xs) h) in
+      let f = next-fits s j (length xs) h in
+      let n : j + suc i ≡ suc j + i = omega arith in
+      ap (λ m. take (length (getD xs i d)) (drop (m * w) (layRows w (put s (j * w) x) (suc j) xs))) n
+      ∙ rows-at (put s (j * w) x) (suc j) xs (λ y m. a y (List·Memᴰ·tail m)) (omega arith) i d (omega arith)

@@ -14,10 +14,7 @@ use Rattle.nest.specs.declared.Side.{Side}
 use Rattle.nest.specs.declared.Loop.{Loop}
 use Rattle.nest.specs.declared.Nest.{Nest}
 use Rattle.layout.specs.Limits.{LayNestIn}
-
-all-replicate : {A : Type 0} (P : A → Type 0) (n : ℕ) (x : A) → P x → All P (replicate n x)
-all-replicate P zero x h = all-nil P
-all-replicate P (suc n) x h = all-cons P h (all-replicate P n x h)
+use Rattle.layout.proofs.RowLaws.{all-replicate}
 
 one-limit : Limit
 one-limit = record { multiplier = 1; constant = pos 1; coefficients = replicate 6 (pos 1) }

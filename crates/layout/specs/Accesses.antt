@@ -35,9 +35,6 @@ layAccesses s k (a ∷ as′) = layAccesses (layAccess s k a) (suc k) as′
 abbrev pub arrayNumbers : List Model.Access → List ℕ
 arrayNumbers as′ = map (λ (a : Model.Access). a .array) as′
 
-unfoldable pub shapeWords : List ℕ → List ℕ
-shapeWords a = length a ∷ a
-
 -- ---- what each function asks: `room` words, `rows` owners
 
 pub record LaySubscriptIn (room j depth : ℕ) (s : Subscript) : Type 0 where

@@ -6,16 +6,24 @@ ghost use Rattle.lists.specs.Parts.{put};
 ghost use Rattle.integers.specs.Affine.{Within};
 ghost use Rattle.model.specs.Encode.{limitWords};
 ghost use Rattle.nest.specs.Nested.{limitOf, sideOf, loopOf};
+ghost use mathlib.Core.List.{map};
+ghost use Rattle.body.specs.Arrays.{shapeOf, arraysOf};
 ghost use Rattle.body.specs.Statements.{subscriptOf, accessOf};
-ghost use Rattle.layout.specs.Accesses.{subscriptWords, layAccess, LaySubscriptIn, LayAccessIn, LayStatementIn, StatementLaid};
+ghost use Rattle.layout.specs.Accesses.{layRows, subscriptWords, layAccess, LaySubscriptIn, LayAccessIn, LayStatementIn, StatementLaid};
+ghost use Rattle.layout.specs.Bodies.{shapeWords, LayShapeIn, LayArraysIn, LayHeadsIn, HeadsLaid, LayBodyIn, BodyLaid};
+ghost use Rattle.layout.specs.Sheets.{LayIn, Laid};
 ghost use Rattle.layout.specs.Limits.{layLimits, layLoop, layCount, LayLimitIn, LaySideIn, LayLoopIn, LayNestIn, NestLaid};
 use body::Access;
+use body::Arrays;
+use body::Body;
+use body::Shape;
 use body::Statement;
 use body::Subscript;
 use nest::Limit;
 use nest::Loop;
 use nest::Nest;
 use nest::Side;
+use sheet::Sheet;
 
 // Limit j of all, of a loop with `outer` loops outside.
 fn lay_limit(words: &mut [i64], j: usize, limit: Limit, outer: usize)
@@ -134,4 +142,102 @@ fn lay_statement(
         i += 1;
     }
     k + 1 + reads
+}
+
+// The accesses of all statements, in ticket order; returns how many.
+fn lay_body(words: &mut [i64], owners: &mut [usize], body: Body, depth: usize) -> usize
+    requires { ⌜ LayBodyIn (length (now words)) (length (now owners)) depth body ⌝ }
+    ensures { λ r. ⌜ BodyLaid depth body r (now (words .entry)) (now (words .exit)) (now (owners .entry)) (now (owners .exit)) ⌝ }
+{
+    let count = body.count;
+    let statements = body.statements;
+    let mut k = 0;
+    let mut i = 0;
+    while i < count {
+        let statement = statements[i];
+        k = lay_statement(words, owners, k, statement, depth);
+        i += 1;
+    }
+    k
+}
+
+// For each statement the number of its accesses, its rule and its constant.
+fn lay_heads(sizes: &mut [usize], rules: &mut [usize], constants: &mut [usize], body: Body)
+    requires { ⌜ LayHeadsIn (length (now sizes)) (length (now rules)) (length (now constants)) body ⌝ }
+    ensures { λ _. ⌜ HeadsLaid body (now (sizes .exit)) (now (rules .exit)) (now (constants .exit)) ⌝ }
+{
+    let count = body.count;
+    let statements = body.statements;
+    let mut i = 0;
+    while i < count {
+        let statement = statements[i];
+        sizes[i] = statement.reads + 1;
+        rules[i] = statement.rule;
+        constants[i] = statement.constant;
+        i += 1;
+    }
+}
+
+// Array i of all.
+fn lay_shape(extents: &mut [usize], i: usize, shape: Shape)
+    requires { ⌜ LayShapeIn (length (now extents)) i shape ⌝ }
+    ensures { λ _. ⌜ now (extents .exit) ≡ put (now (extents .entry)) (i * 4) (shapeWords (shapeOf shape)) ⌝ }
+{
+    let at = i * 4;
+    let dimensions = shape.dimensions;
+    let row = shape.extents;
+    extents[at] = dimensions;
+    let mut d = 0;
+    while d < dimensions {
+        extents[at + 1 + d] = row[d];
+        d += 1;
+    }
+}
+
+fn lay_arrays(extents: &mut [usize], arrays: Arrays)
+    requires { ⌜ LayArraysIn (length (now extents)) arrays ⌝ }
+    ensures { λ _. ⌜ now (extents .exit) ≡ layRows 4 (now (extents .entry)) 0 (map shapeWords (arraysOf arrays)) ⌝ }
+{
+    let count = arrays.count;
+    let shapes = arrays.shapes;
+    let mut i = 0;
+    while i < count {
+        let shape = shapes[i];
+        lay_shape(extents, i, shape);
+        i += 1;
+    }
+}
+
+// A nest, its arrays and its statements on one sheet.
+pub fn lay(nest: Nest, arrays: Arrays, body: Body) -> Sheet
+    requires { ⌜ LayIn nest arrays body ⌝ }
+    ensures { λ r. ⌜ Laid nest arrays body r ⌝ }
+{
+    let depth = nest.depth;
+    let mut limits = [0i64; 1536];
+    let mut counts = [0usize; 12];
+    lay_nest(&mut limits, &mut counts, nest);
+    let mut extents = [0usize; 16];
+    lay_arrays(&mut extents, arrays);
+    let mut sizes = [0usize; 4];
+    let mut rules = [0usize; 4];
+    let mut constants = [0usize; 4];
+    lay_heads(&mut sizes, &mut rules, &mut constants, body);
+    let mut owners = [0usize; 20];
+    let mut words = [0i64; 480];
+    let accesses = lay_body(&mut words, &mut owners, body, depth);
+    Sheet {
+        depth,
+        limits,
+        counts,
+        arrays: arrays.count,
+        extents,
+        statements: body.count,
+        sizes,
+        rules,
+        constants,
+        accesses,
+        owners,
+        words,
+    }
 }
