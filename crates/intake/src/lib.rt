@@ -1,0 +1,75 @@
+// From any bytes to a ticket that is admitted, laid out on a sheet, with its points stored; or the first refusal of 1 to 9.
+ghost use mathlib.Core.Path.{_≡_};
+ghost use Prim.Native.Nat.{_≤_};
+ghost use lib.ListN.{length};
+ghost use Rattle.reading.specs.declared.Status.the-variants.{Refused};
+ghost use Rattle.intake.specs.Intake.{Admits};
+use admission::Enumerated;
+use reading::Refusal;
+use reading::Status;
+use sheet::Sheet;
+use ticket::Ticket;
+
+// The ticket, its sheet and the number of its points where the status is Fine.
+pub struct Intake {
+    pub status: Status,
+    pub ticket: Ticket,
+    pub sheet: Sheet,
+    pub count: usize,
+}
+
+fn blank() -> Sheet {
+    Sheet {
+        depth: 0,
+        limits: [0i64; 1536],
+        counts: [0usize; 12],
+        arrays: 0,
+        extents: [0usize; 16],
+        statements: 0,
+        sizes: [0usize; 4],
+        rules: [0usize; 4],
+        constants: [0usize; 4],
+        accesses: 0,
+        owners: [0usize; 20],
+        words: [0i64; 480],
+    }
+}
+
+fn refused(r: Refusal, ticket: Ticket) -> Intake
+    ensures { λ q. ⌜ q .status ≡ Refused r ⌝ }
+{
+    let sheet = blank();
+    Intake {
+        status: Status::Refused(r),
+        ticket: ticket,
+        sheet: sheet,
+        count: 0,
+    }
+}
+
+// A ticket has at most four loops, so that 16384 indices are room for 4096 points.
+pub fn admit(bytes: &[u8], points: &mut [i64]) -> Intake
+    requires { ⌜ 16384 ≤ length (now points) ⌝ }
+    ensures { λ r. ⌜ Admits (now (bytes .entry)) (now (points .entry)) (now (points .exit)) r ⌝ }
+{
+    let d = ticket::decode(bytes);
+    let t = d.ticket;
+    let status = d.status;
+    match status {
+        Status::Fine => {}
+        Status::Refused(r) => return refused(r, t),
+    }
+    let nest = t.nest;
+    let arrays = t.arrays;
+    let body = t.body;
+    let sheet = layout::lay(nest, arrays, body);
+    match admission::enumerate(sheet, points) {
+        Enumerated::Points(n) => Intake {
+            status: Status::Fine,
+            ticket: t,
+            sheet: sheet,
+            count: n,
+        },
+        Enumerated::Refused(r) => refused(r, t),
+    }
+}
