@@ -13,13 +13,12 @@ use Rattle.integers.specs.Difference.{size}
 use Rattle.integers.proofs.RangeLaws.{size-natAbs}
 use Rattle.lists.specs.Tests.{all}
 use Rattle.lists.proofs.TestLaws.{and-both}
-use Rattle.model.specs.Ticket as Model
 use Rattle.model.specs.Bounds.{accessesOf}
 use Rattle.model.specs.Grammar.{depthAfter}
 use Rattle.model.specs.Ranges.{StepThere}
 use Rattle.model.specs.Limits.{coefficientsAfter, subscriptAfter, accessAfter, statementAfter}
 use Rattle.model.specs.Judge.{small, smallAccess}
-use Rattle.body.specs.Statements.{subscriptOf, accessOf, statementOf, AccessIn, SubscriptIn}
+use Rattle.body.specs.Statements.{subscriptOf, accessOf, statementOf}
 use Rattle.body.specs.declared.Subscript.{Subscript}
 use Rattle.body.specs.declared.Access.{Access}
 use Rattle.body.specs.declared.Statement.{Statement}

@@ -20,7 +20,7 @@ use steps::Step;
 
 // ---- after a step
 
-pub fn row_after(cs: [i64; 6], n: usize, step: Step) -> [i64; 6]
+fn row_after(cs: [i64; 6], n: usize, step: Step) -> [i64; 6]
     requires { ⌜ StepFits n step × Within 32767 (take n cs) ⌝ }
     ensures { λ r. ⌜ RowIs (depthAfter (stepOf step) n) r (coefficientsAfter (stepOf step) (take n cs)) ⌝ }
 {

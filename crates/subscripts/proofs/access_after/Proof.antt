@@ -11,9 +11,6 @@ use Rattle.subscripts.proofs.FrontLaws.{Changed, changed-none, changed-
 use Rattle.subscripts.proofs.SubscriptLaws.{access-is}
 use Rattle.subscripts.proofs.access_after.Statement.{statement}
 use Rattle.subscripts.proofs.access_after.Tie as tie
-use Rattle.subscripts.proofs.access_after.Reads as reads
-use Rattle.subscripts.proofs.access_after.Lts as lts
-use Rattle.subscripts.proofs.subscript_after.Reads as subscript-after-reads
 
 abbrev Inv-loop : tie.InvT-loop
 Inv-loop access n step count from to₀ k₀ to k = Changed SubscriptIn (subscriptOf (depthAfter (stepOf step) n)) (subscriptOf n) (subscriptAfter (stepOf step)) count 3 from to k
@@ -21,48 +18,41 @@ Inv-loop access n step count from to₀ k₀ to k = Changed SubscriptIn (subscri
 abbrev μ-loop : tie.MeasureT-loop
 μ-loop access n step count from to₀ k₀ to k = count - k
 
--- src/lib.rt:71:5
 loop-holds : tie.Need-loop-holds Inv-loop μ-loop
 loop-holds c = let s = c .before in changed-none SubscriptIn _ _ _ (s .args .access .dimensions) 3 (s .args .access .subscripts) (s .pre .within .room)
 
--- src/lib.rt:72:17
 mul-s : tie.Need-mul-s Inv-loop μ-loop
 mul-s c = search needs
 
--- src/lib.rt:72:17
 array-copy-out-s : tie.Need-array-copy-out-s Inv-loop μ-loop
 array-copy-out-s c = search needs
 
--- src/lib.rt:73:13
 subscript-after-requires : tie.Need-subscript-after-requires Inv-loop μ-loop
 unfolding smallAccess accessOf
-subscript-after-requires c κs = let s = c .before .before .before .before in let f = s .pre .within .few in let r = s .pre .within .room in
+subscript-after-requires c κs =
+    let s = c .before .before .before .before in let f = s .pre .within .few in let r = s .pre .within .room in
     record { step = s .pre .step; small = tested-at smallSubscript (subscriptOf (s .args .n)) (s .args .access .subscripts) (c .before .before .loop .k) (s .args .access .dimensions) _ (omega arith) (omega arith) (s .pre .small) }
 
--- src/lib.rt:74:9
 mul-to : tie.Need-mul-to Inv-loop μ-loop
 mul-to c = search needs
 
--- src/lib.rt:74:9
 array-set-from-to : tie.Need-array-set-from-to Inv-loop μ-loop
 array-set-from-to c = search needs
 
--- src/lib.rt:75:9
 add-k : tie.Need-add-k Inv-loop μ-loop
 add-k c = search needs
 
--- src/lib.rt:71:5
 loop-less : tie.Need-loop-less Inv-loop μ-loop
 loop-less c = search needs
 
--- src/lib.rt:71:5
 loop-again : tie.Need-loop-again Inv-loop μ-loop
-loop-again c = let b = c .before .before .before in let s = b .before .before in
+loop-again c =
+    let b = c .before .before .before in let s = b .before .before in
     changed-more SubscriptIn _ _ _ (s .args .access .dimensions) 3 (s .args .access .subscripts) (s .pre .within .room) (b .loop .to) (b .loop .k) _ (c .subscript-after .result) (s .pre .within .few) (c .before .before .loop-test .taken) (b .loop .inv) (c .subscript-after .ensures .within) (c .subscript-after .ensures .is)
 
--- src/lib.rt:63:1
 returns : tie.Need-returns Inv-loop μ-loop
-returns c = let b = c .before in
+returns c =
+    let b = c .before in
     let s = b .before .before in
     let a = s .args .access in
     let i = b .loop .inv in record {

@@ -10,9 +10,6 @@ use Rattle.limits.proofs.SideLaws.{all-front}
 use Rattle.subscripts.proofs.FrontLaws.{Changed, changed-none, changed-more, changed-all, changed-each, tested-at}
 use Rattle.subscripts.proofs.accesses_after.Statement.{statement}
 use Rattle.subscripts.proofs.accesses_after.Tie as tie
-use Rattle.subscripts.proofs.accesses_after.Reads as reads
-use Rattle.subscripts.proofs.accesses_after.Lts as lts
-use Rattle.subscripts.proofs.access_after.Reads as access-after-reads
 
 abbrev Inv-loop : tie.InvT-loop
 Inv-loop count n step from to₀ k₀ to k = Changed AccessIn (accessOf (depthAfter (stepOf step) n)) (accessOf n) (accessAfter (stepOf step)) count 4 from to k
@@ -20,50 +17,42 @@ Inv-loop count n step from to₀ k₀ to k = Changed AccessIn (accessOf (depthAf
 abbrev μ-loop : tie.MeasureT-loop
 μ-loop count n step from to₀ k₀ to k = count - k
 
--- src/lib.rt:91:5
 loop-holds : tie.Need-loop-holds Inv-loop μ-loop
 loop-holds c = changed-none AccessIn _ _ _ (c .args .count) 4 (c .args .t1) (c .pre .within .room)
 
--- src/lib.rt:92:17
 mul-a : tie.Need-mul-a Inv-loop μ-loop
 mul-a c = search needs
 
--- src/lib.rt:92:17
 array-copy-out-a : tie.Need-array-copy-out-a Inv-loop μ-loop
 array-copy-out-a c = search needs
 
--- src/lib.rt:93:13
 access-after-requires : tie.Need-access-after-requires Inv-loop μ-loop
 access-after-requires c κs = let s = c .before .before .before in let f = s .pre .within .few in let r = s .pre .within .room in record {
-      step = s .pre .step;
-      within = all-front AccessIn _ (c .before .before .loop .k) (s .args .count) (s .args .t1) (omega arith) (omega arith) (s .pre .within .each);
-      small = tested-at smallAccess (accessOf (s .args .n)) (s .args .t1) (c .before .before .loop .k) (s .args .count) _ (omega arith) (omega arith) (s .pre .small);
-    }
+  step = s .pre .step;
+  within = all-front AccessIn _ (c .before .before .loop .k) (s .args .count) (s .args .t1) (omega arith) (omega arith) (s .pre .within .each);
+  small = tested-at smallAccess (accessOf (s .args .n)) (s .args .t1) (c .before .before .loop .k) (s .args .count) _ (omega arith) (omega arith) (s .pre .small);
+}
 
--- src/lib.rt:94:9
 mul-to : tie.Need-mul-to Inv-loop μ-loop
 mul-to c = search needs
 
--- src/lib.rt:94:9
 array-set-from-to : tie.Need-array-set-from-to Inv-loop μ-loop
 array-set-from-to c = search needs
 
--- src/lib.rt:95:9
 add-k : tie.Need-add-k Inv-loop μ-loop
 add-k c = search needs
 
--- src/lib.rt:91:5
 loop-less : tie.Need-loop-less Inv-loop μ-loop
 loop-less c = search needs
 
--- src/lib.rt:91:5
 loop-again : tie.Need-loop-again Inv-loop μ-loop
-loop-again c = let b = c .before .before .before in let s = b .before in
+loop-again c =
+    let b = c .before .before .before in let s = b .before in
     changed-more AccessIn _ _ _ (s .args .count) 4 (s .args .t1) (s .pre .within .room) (b .loop .to) (b .loop .k) _ (c .access-after .result) (s .pre .within .few) (c .before .before .loop-test .taken) (b .loop .inv) (c .access-after .ensures .within) (c .access-after .ensures .is)
 
--- src/lib.rt:85:1
 returns : tie.Need-returns Inv-loop μ-loop
-returns c = let b = c .before in
+returns c =
+    let b = c .before in
     let s = b .before in
     let i = b .loop .inv in record {
       is = changed-all AccessIn _ _ _ (s .args .count) 4 (s .args .t1) (s .pre .within .room) (b .loop .to) (b .loop .k) (c .loop-test .left) i;

@@ -13,9 +13,6 @@ use Rattle.subscripts.specs.After.{smallSubscript}
 use Rattle.subscripts.proofs.FrontLaws.{tested-none, tested-next, tested-all, tested-broken}
 use Rattle.subscripts.proofs.small_access.Statement.{statement}
 use Rattle.subscripts.proofs.small_access.Tie as tie
-use Rattle.subscripts.proofs.small_access.Reads as reads
-use Rattle.subscripts.proofs.small_access.Lts as lts
-use Rattle.subscripts.proofs.small_subscript.Reads as small-subscript-reads
 
 abbrev Inv-loop : tie.InvT-loop
 Inv-loop n count subscripts k₀ k = (k ≤ count) × (all smallSubscript (map (subscriptOf n) (take k subscripts)) ≡ true)
@@ -23,51 +20,47 @@ Inv-loop n count subscripts k₀ k = (k ≤ count) × (all smallSubscript (map (
 abbrev μ-loop : tie.MeasureT-loop
 μ-loop n count subscripts k₀ k = count - k
 
--- src/lib.rt:171:5
 loop-holds : tie.Need-loop-holds Inv-loop μ-loop
 loop-holds c = let s = c .before in (omega arith, tested-none smallSubscript (subscriptOf (s .args .n)) (s .args .access .subscripts))
 
--- src/lib.rt:172:17
 mul-s : tie.Need-mul-s Inv-loop μ-loop
 mul-s c = search needs
 
--- src/lib.rt:172:17
 array-copy-out-s : tie.Need-array-copy-out-s Inv-loop μ-loop
 array-copy-out-s c = search needs
 
--- src/lib.rt:173:13
 small-subscript-requires : tie.Need-small-subscript-requires Inv-loop μ-loop
 small-subscript-requires c κs = search needs
 
--- src/lib.rt:174:13
 returns : tie.Need-returns Inv-loop μ-loop
 unfolding smallAccess accessOf
-returns c = let d = c .before .before .before .before in
+returns c =
+    let d = c .before .before .before .before in
     let s = d .before .before in
     let f = s .pre .1 .few in let r = s .pre .1 .room in
     sym (tested-broken smallSubscript (subscriptOf (s .args .n)) (s .args .access .subscripts) (d .loop .k) (s .args .access .dimensions) _ (omega arith) (omega arith)
     (sym (c .before .small-subscript .ensures) ∙ not-true (c .before .small-subscript .result) (c .if1 .taken)))
 
--- src/lib.rt:176:9
 add-k : tie.Need-add-k Inv-loop μ-loop
 add-k c = search needs
 
--- src/lib.rt:171:5
 loop-less : tie.Need-loop-less Inv-loop μ-loop
 loop-less c = search needs
 
--- src/lib.rt:171:5
 loop-again : tie.Need-loop-again Inv-loop μ-loop
-loop-again c = let d = c .before .before .before .before in
+loop-again c =
+    let d = c .before .before .before .before in
     let s = d .before .before in
-    let f = s .pre .1 .few in let r = s .pre .1 .room in
-    (omega arith, tested-next smallSubscript (subscriptOf (s .args .n)) (s .args .access .subscripts) (d .loop .k) _ (omega arith) (d .loop .inv .1)
-    (sym (c .before .small-subscript .ensures) ∙ not-false (c .before .small-subscript .result) (c .if1 .left)))
+    let f = s .pre .1 .few in let r = s .pre .1 .room in (
+      omega arith,
+      tested-next smallSubscript (subscriptOf (s .args .n)) (s .args .access .subscripts) (d .loop .k) _ (omega arith) (d .loop .inv .1)
+          (sym (c .before .small-subscript .ensures) ∙ not-false (c .before .small-subscript .result) (c .if1 .left)),
+    )
 
--- src/lib.rt:164:1
 returns-2 : tie.Need-returns-2 Inv-loop μ-loop
 unfolding smallAccess accessOf
-returns-2 c = let d = c .before in
+returns-2 c =
+    let d = c .before in
     let s = d .before .before in
     sym (tested-all smallSubscript (subscriptOf (s .args .n)) (s .args .access .subscripts) (d .loop .k) (s .args .access .dimensions) (d .loop .inv .0) (c .loop-test .left) (d .loop .inv .1))
 

@@ -3,18 +3,13 @@ use Rattle.integers.proofs.RangeLaws.{back, test-lt, test-lt-no}
 use Rattle.restructure.proofs.SmallLaws.{above-fails, below-fails, between-passes}
 use Rattle.subscripts.proofs.small_number.Statement.{statement}
 use Rattle.subscripts.proofs.small_number.Tie as tie
-use Rattle.subscripts.proofs.small_number.Reads as reads
-use Rattle.subscripts.proofs.small_number.Lts as lts
 
--- src/lib.rt:144:9
 returns : tie.Need-returns
 returns c = let s = c .before in sym (above-fails (s .args .x) (test-lt (rw (back (s .fits .x)) at (c .if1 .taken))))
 
--- src/lib.rt:147:9
 returns-2 : tie.Need-returns-2
 returns-2 c = let s = c .before .before in sym (below-fails (s .args .x) (test-lt (rw (back (s .fits .x)) at (c .if2 .taken))))
 
--- src/lib.rt:140:1
 returns-3 : tie.Need-returns-3
 returns-3 c = let s = c .before .before in sym (between-passes (s .args .x) (test-lt-no (rw (back (s .fits .x)) at (c .before .if1 .left))) (test-lt-no (rw (back (s .fits .x)) at (c .if2 .left))))
 

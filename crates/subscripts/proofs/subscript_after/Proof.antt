@@ -5,17 +5,13 @@ use borrow.Author.Needs.{needs}
 use Rattle.subscripts.proofs.SubscriptLaws.{coefficients-small, subscript-is}
 use Rattle.subscripts.proofs.subscript_after.Statement.{statement}
 use Rattle.subscripts.proofs.subscript_after.Tie as tie
-use Rattle.subscripts.proofs.subscript_after.Reads as reads
-use Rattle.subscripts.proofs.subscript_after.Lts as lts
-use Rattle.subscripts.proofs.row_after.Reads as row-after-reads
 
--- src/lib.rt:56:9
 row-after-requires : tie.Need-row-after-requires
 row-after-requires c κs = let s = c .before .before in (s .pre .step, coefficients-small (s .args .n) (s .args .s) (s .pre .small))
 
--- src/lib.rt:50:1
 returns : tie.Need-returns
-returns c = let s = c .before .before .before in
+returns c =
+    let s = c .before .before .before in
     let x : toZ w64 (ofZ w64 (s .args .s .constant)) ≡ s .args .s .constant = search needs in
     subscript-is (s .args .n) (s .args .step) (s .args .s) (toZ w64 (ofZ w64 (s .args .s .constant))) (c .row-after .result) x (c .row-after .ensures)
 
