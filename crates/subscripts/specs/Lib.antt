@@ -1,0 +1,2 @@
+-- What the contracts on subscripts speak of.
+pub mod After
