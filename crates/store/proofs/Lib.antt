@@ -2,3 +2,5 @@
 pub mod RuleLaws
 pub mod BodyLaws
 pub mod NestLaws
+pub mod AdmittedLaws
+pub mod Witness

@@ -78,16 +78,17 @@ unfolding statementsFrom
 statements-length P k i [] = refl
 statements-length P k i (n ∷ ns) = ap suc (statements-length P (k + n) (suc i) ns)
 
-module _ {P : Sheet} {count : ℕ} {numbers : List ℕ} {room : ℕ} (r : RunIn P count numbers room) where
+module _ {P : Sheet} (s : SheetIn P) where
   pub sizes-length : length (sizesIn P) ≡ P .statements
-  sizes-length = let l = r .sheet .sizes-length in let f = r .sheet .few-statements in length-take-le (P .statements) (P .sizes) (omega arith)
+  sizes-length = let l = s .sizes-length in let f = s .few-statements in length-take-le (P .statements) (P .sizes) (omega arith)
 
   pub owners-length : length (ownersIn P) ≡ P .accesses
-  owners-length = let l = r .sheet .owners-length in let f = r .sheet .few-accesses in length-take-le (P .accesses) (P .owners) (omega arith)
+  owners-length = let l = s .owners-length in let f = s .few-accesses in length-take-le (P .accesses) (P .owners) (omega arith)
 
   pub extents-length : length (extentsIn P) ≡ P .arrays * 4
-  extents-length = let l = r .sheet .extents-length in let f = r .sheet .few-arrays in length-take-le (P .arrays * 4) (P .extents) (omega arith)
+  extents-length = let l = s .extents-length in let f = s .few-arrays in length-take-le (P .arrays * 4) (P .extents) (omega arith)
 
+module _ {P : Sheet} {count : ℕ} {numbers : List ℕ} {room : ℕ} (r : RunIn P count numbers room) where
   points-are : (n x : ℕ) (w : List ℕ) → x + n ≡ length (pointsOf P)
       → pointsFrom (P .rules) (P .constants) (sizesIn P) numbers x n w ≡ run (performOn (arraysOf (extentsIn P)) (statementsFrom P 0 0 (sizesIn P))) (instances (length (sizesIn P)) (drop x (pointsOf P))) w
   unfolding pointsFrom run instances flatMap nestOf
@@ -113,7 +114,7 @@ module _ {P : Sheet} {count : ℕ} {numbers : List ℕ} {room : ℕ} (r : RunIn 
 
   module _ (k : ℕ) (h : k < P .accesses) where
     there : getD (ownersIn P) k 0 < length (extentsIn P) / 4
-    there = let l = owners-length in r .sheet .accesses-ok .there k (omega arith)
+    there = let l = owners-length (r .sheet) in r .sheet .accesses-ok .there k (omega arith)
 
     base-in : BaseIn (extentsIn P) (getD (ownersIn P) k 0)
     base-in = record { array = array-in (wordsIn P) (ownersIn P) (extentsIn P) (P .depth) (getD (ownersIn P) k 0) (r .sheet .accesses-ok) there; fits = r .sheet .fits }
@@ -125,7 +126,7 @@ module _ {P : Sheet} {count : ℕ} {numbers : List ℕ} {room : ℕ} (r : RunIn 
         fits : Fits (arraysOf (extentsIn P)) (P .depth) (accessOf P k)
         fits =
             let l = arrays-length (extentsIn P) in let t = there in let i = getD (ownersIn P) k 0 in let q = base-in .array in let ok = r .sheet .accesses-ok in
-            let d = q .dimensions i t in let v = ok .words in let o = owners-length in
+            let d = q .dimensions i t in let v = ok .words in let o = owners-length (r .sheet) in
             record {
               there = omega arith;
               dimensions = forms-length (wordsIn P) (P .depth) (k * 3) (getD (extentsIn P) (i * 4) 0) ∙ sym (ap length (extents-are (extentsIn P) i q) ∙ dimensions-are (extentsIn P) i q);
@@ -144,7 +145,7 @@ module _ {P : Sheet} {count : ℕ} {numbers : List ℕ} {room : ℕ} (r : RunIn 
 
   pub point-in : (x : ℕ) → x < count → PointIn (ownersIn P) (extentsIn P) numbers room x
   unfolding nestOf
-  point-in x l = let o = owners-length in let c = r .few in let s = r .space in let f = r .sheet .few-accesses in let e = r .whole in record {
+  point-in x l = let o = owners-length (r .sheet) in let c = r .few in let s = r .space in let f = r .sheet .few-accesses in let e = r .whole in record {
     few = omega arith;
     point = omega arith;
     numbered = omega arith;
@@ -154,7 +155,7 @@ module _ {P : Sheet} {count : ℕ} {numbers : List ℕ} {room : ℕ} (r : RunIn 
   }
 
   pub body-in : BodyIn (ownersIn P) (sizesIn P) (P .rules) (P .constants)
-  body-in = let o = owners-length in let s = sizes-length in let a = r .sheet .all-accesses in let f = r .sheet .few-statements in let u = r .sheet .rules-length in let v = r .sheet .constants-length in record {
+  body-in = let o = owners-length (r .sheet) in let s = sizes-length (r .sheet) in let a = r .sheet .all-accesses in let f = r .sheet .few-statements in let u = r .sheet .rules-length in let v = r .sheet .constants-length in record {
     all-accesses = omega arith;
     each = λ i h. all-getD (λ (n : ℕ). 1 ≤ n) (sizesIn P) i 0 (r .sheet .each) h;
     few = omega arith;

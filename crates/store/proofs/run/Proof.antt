@@ -12,19 +12,19 @@ array-share-prefix-owners : tie.Need-array-share-prefix-owners
 array-share-prefix-owners c = search needs
 
 slice-aggregate-run-points : tie.Need-slice-aggregate-run-points
-slice-aggregate-run-points c = sym (owners-length (c .before .before .before .before .before .before .before .before .before .pre))
+slice-aggregate-run-points c = sym (owners-length (c .before .before .before .before .before .before .before .before .before .pre .sheet))
 
 array-share-prefix-extents : tie.Need-array-share-prefix-extents
 array-share-prefix-extents c = search needs
 
 slice-aggregate-run-points-2 : tie.Need-slice-aggregate-run-points-2
-slice-aggregate-run-points-2 c = sym (extents-length (c .before .before .before .before .before .before .before .before .before .before .pre))
+slice-aggregate-run-points-2 c = sym (extents-length (c .before .before .before .before .before .before .before .before .before .before .pre .sheet))
 
 array-share-prefix-sizes : tie.Need-array-share-prefix-sizes
 array-share-prefix-sizes c = search needs
 
 slice-aggregate-run-points-3 : tie.Need-slice-aggregate-run-points-3
-slice-aggregate-run-points-3 c = sym (sizes-length (c .before .before .before .before .before .before .before .before .before .before .before .pre))
+slice-aggregate-run-points-3 c = sym (sizes-length (c .before .before .before .before .before .before .before .before .before .before .before .pre .sheet))
 
 slice-aggregate-run-points-4 : tie.Need-slice-aggregate-run-points-4
 slice-aggregate-run-points-4 c = search needs
