@@ -5,14 +5,13 @@ use mathlib.Core.List.{List, [], _∷_, map, flatMap, List·Memᴰ·head, List·
 use Prim.Native.Nat.{ℕ, zero, suc, _+_, _*_, _-_, _/_, _≤_, _<_}
 use native.Mathlib.Omega.{arith}
 use native.Mathlib.Nat.{zero-add, add-zero, add-suc, suc-add}
-use lib.Dec.{T}
 use lib.IntN.{ℤ}
-use lib.ListN.{length, getD, set, take, drop, length-drop}
-use lib.Seq.{drop-cons, drop-length, length-take-le, getD-take}
+use lib.ListN.{length, getD, set, drop, length-drop}
+use lib.Seq.{drop-cons, drop-length, length-take-le}
 use Rattle.lists.specs.Membership.{All}
 use Rattle.lists.proofs.MembershipLaws.{all-nil, all-cons, all-getD}
 use Rattle.lists.proofs.TestLaws.{false-not-T}
-use Rattle.model.specs.Ticket.{Subscript, Access, Statement}
+use Rattle.model.specs.Ticket.{Subscript, Statement}
 use Rattle.model.specs.Grammar.{total, extents}
 use Rattle.model.specs.Bounds.{strays}
 use Rattle.model.specs.Machine.{element, bodyAt, accesses, body, instances, run}
@@ -20,7 +19,7 @@ use Rattle.model.specs.Shape.{Fits}
 use Rattle.model.specs.Store.{base, placeOf, sum, make, storeWords, performOn, runNest}
 use Rattle.model.proofs.Machine.ReorderLaws.{run-append}
 use Rattle.model.proofs.Store.PlaceLaws.{Valid, element-valid, place-below}
-use Rattle.elements.specs.Layout.{arraysOf, formAt, formsFrom, accessAt, accessesFrom, AccessesOk}
+use Rattle.elements.specs.Layout.{arraysOf, formAt, formsFrom, accessAt, accessesFrom}
 use Rattle.elements.specs.Places.{BaseIn}
 use Rattle.elements.proofs.LayoutLaws.{array-in, extents-are, forms-length}
 use Rattle.elements.proofs.LayoutLaws.{extents-length as dimensions-are}

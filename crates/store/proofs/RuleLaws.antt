@@ -5,8 +5,8 @@ use mathlib.Core.List.{List, [], _∷_, _++_}
 use Prim.Native.Nat.{ℕ, zero, suc, _+_, _*_, _%_, _^_, _≤_, _<_}
 use native.Mathlib.Omega.{arith}
 use native.Mathlib.Numerals.{add-one}
-use native.Mathlib.Nat.{mod-add-mod, mod-eq-of-lt, add-zero, add-suc, suc-add, add-assoc}
-use lib.Dec.{eqb, ltb}
+use native.Mathlib.Nat.{mod-add-mod, add-zero, add-suc, suc-add, add-assoc}
+use lib.Dec.{ltb}
 use borrow.Author.Tests.{eq-eqb, ne-eqb, lt-ltb, le-ltb}
 use lib.ListN.{length, getD}
 use Rattle.model.specs.Store.{sum, most, firstOf, make}

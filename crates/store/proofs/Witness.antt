@@ -1,11 +1,11 @@
 -- A real sheet meets what `run` asks: one loop with the one index 1, an array of one element, and a statement that adds 1 to it.
 use mathlib.Core.Path.{_≡_, refl, sym, _∙_, ap, subst}
 use mathlib.Core.Bool.{false}
-use mathlib.Core.List.{List, [], _∷_, map, flatMap, List·Memᴰ·head, List·Memᴰ·tail}
-use Prim.Native.Nat.{ℕ, zero, suc, _+_, _*_, _/_, _^_, _≤_, _<_}
+use mathlib.Core.List.{List, [], _∷_, flatMap}
+use Prim.Native.Nat.{ℕ, zero, suc, _+_, _*_, _≤_, _<_}
 use native.Mathlib.Omega.{arith}
 use lib.IntN.{ℤ, pos}
-use lib.ListN.{length, getD, take, replicate, length-replicate, getD-replicate}
+use lib.ListN.{length, getD, replicate, length-replicate, getD-replicate}
 use Rattle.lists.specs.Membership.{All}
 use Rattle.lists.proofs.MembershipLaws.{all-nil, all-cons}
 use Rattle.integers.specs.Affine.{Within, affine, dot}
@@ -20,8 +20,7 @@ use Rattle.space.proofs.DepthLaws.{nest-part}
 use Rattle.space.proofs.Witness.{ones-ok}
 use Rattle.elements.specs.Layout.{extentsAt, arraysFrom, arraysOf, formAt, formsFrom, accessAt, AccessesOk}
 use Rattle.sheet.specs.declared.Sheet.{Sheet}
-use Rattle.sheet.specs.Sheets.{nestOf, extentsIn, sizesIn, ownersIn, wordsIn, SheetIn}
-use Rattle.store.specs.Flat.{numberAt}
+use Rattle.sheet.specs.Sheets.{nestOf, extentsIn, ownersIn, wordsIn, SheetIn}
 use Rattle.store.specs.Runs.{pointsOf, accessOf, RunIn}
 
 abbrev pub counter : Sheet

@@ -25,14 +25,7 @@ fn word_at(numbers: &[u16], store: &[u32], k: usize, x: usize) -> u32
 }
 
 // Rule 1: the sum modulo 2^32 of the constant and the n reads from access k on.
-fn summed(
-    constant: u32,
-    numbers: &[u16],
-    store: &[u32],
-    k: usize,
-    n: usize,
-    x: usize,
-) -> u32
+fn summed(constant: u32, numbers: &[u16], store: &[u32], k: usize, n: usize, x: usize) -> u32
     requires { ⌜ FetchIn (now numbers) (length (now store)) x k n ⌝ }
     ensures { λ r. ⌜ r ≡ (constant + sum (fetched (now (numbers .entry)) x (now (store .entry)) k n)) % 2 ^ 32 ⌝ }
 {
@@ -46,14 +39,7 @@ fn summed(
 }
 
 // Rule 2: the largest of them.
-fn largest(
-    constant: u32,
-    numbers: &[u16],
-    store: &[u32],
-    k: usize,
-    n: usize,
-    x: usize,
-) -> u32
+fn largest(constant: u32, numbers: &[u16], store: &[u32], k: usize, n: usize, x: usize) -> u32
     requires { ⌜ FetchIn (now numbers) (length (now store)) x k n ⌝ }
     ensures { λ r. ⌜ r ≡ most constant (fetched (now (numbers .entry)) x (now (store .entry)) k n) ⌝ }
 {
@@ -148,7 +134,17 @@ fn perform_all(
     let mut i = 0;
     while i < sizes.len() {
         let m = sizes[i];
-        perform(owners, arrays, numbers, rules[i], constants[i] as u32, k, m - 1, x, store);
+        perform(
+            owners,
+            arrays,
+            numbers,
+            rules[i],
+            constants[i] as u32,
+            k,
+            m - 1,
+            x,
+            store,
+        );
         k += m;
         i += 1;
     }

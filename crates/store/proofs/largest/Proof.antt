@@ -31,10 +31,12 @@ loop-less : tie.Need-loop-less Inv-loop μ-loop
 loop-less c = let t = c .before .before .loop-test .taken in omega arith
 
 loop-again : tie.Need-loop-again Inv-loop μ-loop
-loop-again c = let s = c .before .before .before .before .before .before in let l = c .before .before .before .loop in let t = c .before .before .loop-test .taken in let v = c .before .word-at in (omega arith,
-    ⊎-elim (λ w. w .1 ∙ most-new (s .args .numbers .now) (s .args .x) (s .args .store .now) (s .args .k) (s .args .constant) (l .i) (l .r) (v .result) (l .inv .1) (v .ensures) (w .0 .taken))
-    (λ w. w .1 ∙ most-old (s .args .numbers .now) (s .args .x) (s .args .store .now) (s .args .k) (s .args .constant) (l .i) (l .r) (v .result) (l .inv .1) (v .ensures) (w .0 .left))
-    (c .if1 .came))
+loop-again c = let s = c .before .before .before .before .before .before in let l = c .before .before .before .loop in let t = c .before .before .loop-test .taken in let v = c .before .word-at in (
+  omega arith,
+  ⊎-elim (λ w. w .1 ∙ most-new (s .args .numbers .now) (s .args .x) (s .args .store .now) (s .args .k) (s .args .constant) (l .i) (l .r) (v .result) (l .inv .1) (v .ensures) (w .0 .taken))
+      (λ w. w .1 ∙ most-old (s .args .numbers .now) (s .args .x) (s .args .store .now) (s .args .k) (s .args .constant) (l .i) (l .r) (v .result) (l .inv .1) (v .ensures) (w .0 .left))
+      (c .if1 .came),
+)
 
 returns : tie.Need-returns Inv-loop μ-loop
 returns c = let s = c .before .before .before .before in let l = c .before .loop in let e : l .i ≡ s .args .n = omega (arith, l .inv .0, c .loop-test .left) in l .inv .1 ∙ ap (λ (j : ℕ). most (s .args .constant) (fetched (s .args .numbers .now) (s .args .x) (s .args .store .now) (s .args .k) j)) e
