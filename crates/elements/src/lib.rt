@@ -113,7 +113,7 @@ fn elements_of(arrays: &[usize], i: usize) -> usize
 }
 
 // Where array i begins in the store.
-fn base_of(arrays: &[usize], i: usize) -> usize
+pub fn base_of(arrays: &[usize], i: usize) -> usize
     requires { ⌜ BaseIn (now arrays) i ⌝ }
     ensures { λ r. ⌜ r ≡ base (arraysOf (now (arrays .entry))) i ⌝ }
 {

@@ -1,0 +1,69 @@
+-- `perform`: a store through the part that begins at the array is a store at the place in the whole.
+use native.Mathlib.Omega.{arith}
+use borrow.Author.Needs.{needs}
+use Rattle.store.proofs.BodyLaws.{reads-in, write-inside, through-part}
+use Rattle.store.proofs.perform.Statement.{statement}
+use Rattle.store.proofs.perform.Tie as tie
+
+add-value : tie.Need-add-value
+add-value c = search needs
+
+value-requires : tie.Need-value-requires
+value-requires c κs = let s = c .before .before .before .before .before in reads-in (s .pre .0) (s .args .k) (s .args .n) (s .pre .1)
+
+mul-base-of : tie.Need-mul-base-of
+mul-base-of c = search needs
+
+shared-slice-read-base-of : tie.Need-shared-slice-read-base-of
+shared-slice-read-base-of c = search needs
+
+base-of-requires : tie.Need-base-of-requires
+base-of-requires c κs = let s = c .before .before .before .before .before .before .before in let h = s .pre .1 in s .pre .0 .arrays (s .args .k) (omega arith)
+
+place-of-requires : tie.Need-place-of-requires
+place-of-requires c κs = search needs
+
+sub-at : tie.Need-sub-at
+sub-at c = let s = c .before .before .before .before .before .before .before .before .before in let h = write-inside (s .pre .0) (s .args .k) (s .args .n) (s .pre .1) (c .before .base-of .result) (c .place-of .result) (c .before .base-of .ensures) (c .place-of .ensures) in omega arith
+
+mul-put : tie.Need-mul-put
+mul-put c = let s = c .before .before .before .before .before .before .before .before .before in let h = write-inside (s .pre .0) (s .args .k) (s .args .n) (s .pre .1) (c .before .base-of .result) (c .place-of .result) (c .before .base-of .ensures) (c .place-of .ensures) in search needs
+
+sub-put : tie.Need-sub-put
+sub-put c = let s = c .before .before .before .before .before .before .before .before .before in let h = write-inside (s .pre .0) (s .args .k) (s .args .n) (s .pre .1) (c .before .base-of .result) (c .place-of .result) (c .before .base-of .ensures) (c .place-of .ensures) in search needs
+
+part-put-start : tie.Need-part-put-start
+part-put-start c = let s = c .before .before .before .before .before .before .before .before .before in let h = write-inside (s .pre .0) (s .args .k) (s .args .n) (s .pre .1) (c .before .base-of .result) (c .place-of .result) (c .before .base-of .ensures) (c .place-of .ensures) in search needs
+
+part-put-end : tie.Need-part-put-end
+part-put-end c = search needs
+
+put-requires : tie.Need-put-requires
+put-requires c κs = let s = c .before .before .before .before .before .before .before .before .before .before in let h = write-inside (s .pre .0) (s .args .k) (s .args .n) (s .pre .1) (c .before .before .base-of .result) (c .before .place-of .result) (c .before .before .base-of .ensures) (c .before .place-of .ensures) in search needs
+
+same-length : tie.Need-same-length
+same-length c = search needs
+
+returns : tie.Need-returns
+returns c = let s = c .before .before .before .before .before .before .before .before .before .before .before .before .before in let b = c .before .before .before .before .before .base-of in let r = c .before .before .before .before .place-of in
+    through-part (s .args .numbers .now) (s .args .store .now) (s .args .x) (s .args .rule) (s .args .constant) (s .args .k) (s .args .n) (b .result) (r .result) (c .before .before .before .before .before .before .before .value .result) _
+    (write-inside (s .pre .0) (s .args .k) (s .args .n) (s .pre .1) (b .result) (r .result) (b .ensures) (r .ensures)) (r .ensures) (c .before .before .before .before .before .before .before .value .ensures) (c .before .before .put .ensures)
+
+pub perform-spec : {M : Type 1} → statement M
+perform-spec =
+    tie.close
+    (tie.spec
+    add-value
+    value-requires
+    mul-base-of
+    shared-slice-read-base-of
+    base-of-requires
+    place-of-requires
+    sub-at
+    mul-put
+    sub-put
+    part-put-start
+    part-put-end
+    put-requires
+    same-length
+    returns)

@@ -1,0 +1,197 @@
+// The run of a nest on a store. Its accesses are lent as the numbers of their places: access k at point x at 4096 k + x.
+ghost use mathlib.Core.Path.{_≡_};
+ghost use Prim.Native.Nat.{ℕ, _+_, _*_, _%_, _^_, _≤_, _<_};
+ghost use lib.ListN.{length, getD, set};
+ghost use Rattle.model.specs.Store.{sum, most, firstOf, make, runNest};
+ghost use Rattle.sheet.specs.Sheets.{nestOf};
+ghost use Rattle.store.specs.Flat.{numberAt, fetched, performed, bodyFrom, pointsFrom, FetchIn, PointIn, BodyIn};
+ghost use Rattle.store.specs.Runs.{RunIn};
+use sheet::Sheet;
+
+// The place in the store of access k at point x.
+fn place_of(numbers: &[u16], k: usize, x: usize) -> usize
+    requires { ⌜ (k < 20) × (x < 4096) × (k * 4096 + x < length (now numbers)) ⌝ }
+    ensures { λ r. ⌜ r ≡ numberAt (now (numbers .entry)) k x ⌝ }
+{
+    numbers[k * 4096 + x] as usize
+}
+
+// The word that access k reads at point x.
+fn word_at(numbers: &[u16], store: &[u32], k: usize, x: usize) -> u32
+    requires { ⌜ FetchIn (now numbers) (length (now store)) x k 1 ⌝ }
+    ensures { λ r. ⌜ r ≡ getD (now (store .entry)) (numberAt (now (numbers .entry)) k x) 0 ⌝ }
+{
+    store[place_of(numbers, k, x)]
+}
+
+// Rule 1: the sum modulo 2^32 of the constant and the n reads from access k on.
+fn summed(constant: u32, numbers: &[u16], store: &[u32], k: usize, n: usize, x: usize) -> u32
+    requires { ⌜ FetchIn (now numbers) (length (now store)) x k n ⌝ }
+    ensures { λ r. ⌜ r ≡ (constant + sum (fetched (now (numbers .entry)) x (now (store .entry)) k n)) % 2 ^ 32 ⌝ }
+{
+    let mut r = constant;
+    let mut i = 0;
+    while i < n {
+        r = std::num::wrapping_add_u32(r, word_at(numbers, store, k + i, x));
+        i += 1;
+    }
+    r
+}
+
+// Rule 2: the largest of them.
+fn largest(constant: u32, numbers: &[u16], store: &[u32], k: usize, n: usize, x: usize) -> u32
+    requires { ⌜ FetchIn (now numbers) (length (now store)) x k n ⌝ }
+    ensures { λ r. ⌜ r ≡ most constant (fetched (now (numbers .entry)) x (now (store .entry)) k n) ⌝ }
+{
+    let mut r = constant;
+    let mut i = 0;
+    while i < n {
+        let v = word_at(numbers, store, k + i, x);
+        if r < v {
+            r = v;
+        }
+        i += 1;
+    }
+    r
+}
+
+// Rule 3: the first read.
+fn first(numbers: &[u16], store: &[u32], k: usize, n: usize, x: usize) -> u32
+    requires { ⌜ FetchIn (now numbers) (length (now store)) x k n ⌝ }
+    ensures { λ r. ⌜ r ≡ firstOf (fetched (now (numbers .entry)) x (now (store .entry)) k n) ⌝ }
+{
+    if n == 0 {
+        return 0;
+    }
+    word_at(numbers, store, k, x)
+}
+
+// What a statement stores. Rule 0 is opaque: no nest that has it is run.
+fn value(
+    rule: usize,
+    constant: u32,
+    numbers: &[u16],
+    store: &[u32],
+    k: usize,
+    n: usize,
+    x: usize,
+) -> u32
+    requires { ⌜ FetchIn (now numbers) (length (now store)) x k n ⌝ }
+    ensures { λ r. ⌜ r ≡ make rule constant (fetched (now (numbers .entry)) x (now (store .entry)) k n) ⌝ }
+{
+    match rule {
+        1 => summed(constant, numbers, store, k, n, x),
+        2 => largest(constant, numbers, store, k, n, x),
+        3 => first(numbers, store, k, n, x),
+        _ => 0,
+    }
+}
+
+// Stores v at a place of the part of the store that belongs to an array.
+fn put(part: &mut [u32], at: usize, v: u32)
+    requires { ⌜ at < length (now part) ⌝ }
+    ensures { λ _. ⌜ now (part .exit) ≡ set (now (part .entry)) at v ⌝ }
+{
+    part[at] = v;
+}
+
+// One statement at point x: it writes access k and reads the n after it.
+fn perform(
+    owners: &[usize],
+    arrays: &[usize],
+    numbers: &[u16],
+    rule: usize,
+    constant: u32,
+    k: usize,
+    n: usize,
+    x: usize,
+    store: &mut [u32],
+)
+    requires { ⌜ PointIn (now owners) (now arrays) (now numbers) (length (now store)) x × (k + n < length (now owners)) ⌝ }
+    ensures { λ _. ⌜ now (store .exit) ≡ performed (now (numbers .entry)) x rule constant k n (now (store .entry)) ⌝ }
+{
+    let v = value(rule, constant, numbers, store, k + 1, n, x);
+    let base = elements::base_of(arrays, owners[k]);
+    let at = place_of(numbers, k, x) - base;
+    put(&mut store[base..], at, v);
+}
+
+// The statements at point x, in body order.
+fn perform_all(
+    owners: &[usize],
+    arrays: &[usize],
+    sizes: &[usize],
+    rules: &[usize],
+    constants: &[usize],
+    numbers: &[u16],
+    x: usize,
+    store: &mut [u32],
+)
+    requires { ⌜ PointIn (now owners) (now arrays) (now numbers) (length (now store)) x × BodyIn (now owners) (now sizes) (now rules) (now constants) ⌝ }
+    ensures { λ _. ⌜ now (store .exit) ≡ bodyFrom (now (rules .entry)) (now (constants .entry)) (now (numbers .entry)) x 0 0 (now (sizes .entry)) (now (store .entry)) ⌝ }
+{
+    let mut k = 0;
+    let mut i = 0;
+    while i < sizes.len() {
+        let m = sizes[i];
+        perform(
+            owners,
+            arrays,
+            numbers,
+            rules[i],
+            constants[i] as u32,
+            k,
+            m - 1,
+            x,
+            store,
+        );
+        k += m;
+        i += 1;
+    }
+}
+
+// The points one after the other.
+fn run_points(
+    owners: &[usize],
+    arrays: &[usize],
+    sizes: &[usize],
+    rules: &[usize],
+    constants: &[usize],
+    numbers: &[u16],
+    count: usize,
+    store: &mut [u32],
+)
+    requires { ⌜ (count ≤ 4096) × ((x : ℕ) → x < count → PointIn (now owners) (now arrays) (now numbers) (length (now store)) x) × BodyIn (now owners) (now sizes) (now rules) (now constants) ⌝ }
+    ensures { λ _. ⌜ now (store .exit) ≡ pointsFrom (now (rules .entry)) (now (constants .entry)) (now (sizes .entry)) (now (numbers .entry)) 0 count (now (store .entry)) ⌝ }
+{
+    let mut x = 0;
+    while x < count {
+        perform_all(owners, arrays, sizes, rules, constants, numbers, x, store);
+        x += 1;
+    }
+}
+
+// Runs the nest of a sheet.
+pub fn run(sheet: Sheet, count: usize, numbers: &[u16], store: &mut [u32])
+    requires { ⌜ RunIn sheet count (now numbers) (length (now store)) ⌝ }
+    ensures { λ _. ⌜ now (store .exit) ≡ runNest (nestOf sheet) (now (store .entry)) ⌝ }
+{
+    let arrays = sheet.arrays * 4;
+    let extents = sheet.extents;
+    let statements = sheet.statements;
+    let sizes = sheet.sizes;
+    let rules = sheet.rules;
+    let constants = sheet.constants;
+    let accesses = sheet.accesses;
+    let owners = sheet.owners;
+    run_points(
+        &owners[..accesses],
+        &extents[..arrays],
+        &sizes[..statements],
+        &rules,
+        &constants,
+        numbers,
+        count,
+        store,
+    );
+}
