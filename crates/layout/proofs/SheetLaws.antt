@@ -1,14 +1,13 @@
 -- A nest in structs, laid out on a sheet: what the functions that lay its parts ask, then that the sheet stands for it.
 use mathlib.Core.Path.{_≡_, refl, sym, ap, ap₂, _∙_, subst}
-use mathlib.Core.List.{List, [], _∷_, map, flatMap, List·Memᴰ·head, List·Memᴰ·tail}
-use Prim.Native.Nat.{ℕ, zero, suc, _+_, _*_, _/_, _≤_, _<_}
+use mathlib.Core.List.{List, [], _∷_, map, List·Memᴰ·head, List·Memᴰ·tail}
+use Prim.Native.Nat.{ℕ, suc, _+_, _*_, _/_, _≤_, _<_}
 use native.Mathlib.Omega.{arith}
 use native.Mathlib.Nat.{zero-add}
 use lib.IntN.{ℤ, pos}
 use lib.ListN.{length, getD, take, replicate, length-map, length-replicate, List·getD-map}
 use lib.Seq.{length-take-le}
 use Rattle.lists.specs.Membership.{Mem, All}
-use Rattle.lists.specs.Parts.{put}
 use Rattle.lists.proofs.MembershipLaws.{all-append, all-getD, all-imp, map-all}
 use Rattle.lists.proofs.FlatMapLaws.{all-flatMap}
 use Rattle.lists.proofs.PartLaws.{take-put-end}
@@ -16,8 +15,8 @@ use Rattle.integers.proofs.AffineLaws.{within-take}
 use Rattle.model.specs.Ticket as Model
 use Rattle.model.specs.Grammar.{extents, total}
 use Rattle.model.specs.Bounds.{accessesOf}
-use Rattle.model.specs.Ranges.{Small, ArrayRanges, AccessRanges, StatementRanges}
-use Rattle.model.specs.Shape.{Fits, FitsAll}
+use Rattle.model.specs.Ranges.{Small, ArrayRanges, AccessRanges}
+use Rattle.model.specs.Shape.{Fits}
 use Rattle.model.specs.Store.{sum}
 use Rattle.nest.specs.Nested.{loopsOf}
 use Rattle.nest.specs.declared.Nest.{Nest}
@@ -28,9 +27,9 @@ use Rattle.body.specs.declared.Statement.{Statement}
 use Rattle.body.specs.declared.Body.{Body}
 use Rattle.elements.specs.Layout as Flat
 use Rattle.elements.specs.Layout.{accessAt, AccessesOk}
-use Rattle.sheet.specs.Sheets.{nestOf, statementsFrom, SheetIn}
+use Rattle.sheet.specs.Sheets.{nestOf, statementsFrom}
 use Rattle.sheet.specs.declared.Sheet.{Sheet}
-use Rattle.layout.specs.Accesses.{layRows, layAccesses, arrayNumbers}
+use Rattle.layout.specs.Accesses.{layRows, arrayNumbers}
 use Rattle.layout.specs.Bodies.{shapeWords, accessesIn, sizeOf, HeadsLaid, LayBodyIn, BodyLaid}
 use Rattle.layout.specs.Limits.{LayNestIn, NestLaid}
 use Rattle.layout.specs.Sheets.{modelOf, LayIn, Laid}
@@ -40,7 +39,7 @@ use Rattle.layout.proofs.NestLaws.{can-lay}
 use Rattle.layout.proofs.RowLaws.{all-replicate, part-take}
 use Rattle.layout.proofs.ArrayBack.{laid-length, used-length, used-arrays, arrays-same, dimensions-at, few-dimensions, small-extents}
 use Rattle.layout.proofs.AccessBack.{Wide, wordsAt, access-back, accesses-length, accesses-at, accesses-small}
-use Rattle.layout.proofs.StatementBack.{no-access, Stand, sum-sizes, statements-back}
+use Rattle.layout.proofs.StatementBack.{no-access, sum-sizes, statements-back}
 
 -- a number of each statement, from the structs and from the model
 column : (n : ℕ) (f : Statement → ℕ) (g : Model.Statement → ℕ) (l : List Statement) → ((x : Statement) → Mem x l → f x ≡ g (statementOf n x)) → map f l ≡ map g (map (statementOf n) l)
@@ -62,9 +61,9 @@ module _ (N : Nest) (A : Arrays) (B : Body) (p : LayIn N A B) where
 
   -- ---- what the functions ask
 
-  pub nest-in : LayNestIn 1536 12 N
+  pub nest-in : LayNestIn (replicate 1536 (pos 0)) 12 N
   unfolding modelOf
-  nest-in = record { words = refl; counts = refl; laid = can-lay 6 16 N (modelOf N A B) (omega arith) (p .nest) refl (p .ranges) }
+  nest-in = record { words = length-replicate 1536 (pos 0); small = small-within (replicate 1536 (pos 0)) (all-replicate Small 1536 (pos 0) (omega arith)); counts = refl; laid = can-lay 6 16 N (modelOf N A B) (omega arith) (p .nest) refl (p .ranges) }
 
   all-ranges : All AccessRanges all
   unfolding modelOf accessesIn accessesOf

@@ -1,6 +1,4 @@
 -- `lay`: each part is laid over zeros, and together they stand for the nest.
-use mathlib.Core.Path.{_∙_}
-use lib.ListN.{length-replicate}
 use Rattle.layout.proofs.SheetLaws.{nest-in, body-in, laid}
 use borrow.Author.Needs.{needs}
 use Rattle.layout.proofs.lay.Statement.{statement}

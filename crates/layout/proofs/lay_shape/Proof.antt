@@ -1,8 +1,8 @@
 -- `lay_shape`: the first d extents are laid.
-use mathlib.Core.Path.{_≡_, refl, sym}
-use Prim.Native.Nat.{_+_, _*_, _-_, _≤_}
+use mathlib.Core.Path.{_≡_, sym}
+use Prim.Native.Nat.{_+_, _-_, _≤_}
 use native.Mathlib.Omega.{arith}
-use lib.ListN.{length, take, length-set}
+use lib.ListN.{take}
 use borrow.Author.Needs.{needs}
 use Rattle.lists.specs.Parts.{put}
 use Rattle.lists.proofs.PartLaws.{put-nil}
