@@ -96,13 +96,13 @@ module _ (N : Nest) (A : Arrays) (B : Body) (p : LayIn N A B) where
   unfolding extents
   all-wide = all-imp (Fits (arraysOf A) (length (loopsOf N))) all all-fit
       (λ a m f.
-        let d = f .dimensions in
-        let r = all-getD ArrayRanges (arraysOf A) (a .array) [] array-ranges (f .there) .dimensions .high in
-        record { few = omega arith; wide = subst (λ (n : ℕ). All (λ (s : Model.Subscript). length (s .coefficients) ≡ n) (a .subscripts)) (nest-length N (p .nest)) (f .wide) })
+      let d = f .dimensions in
+      let r = all-getD ArrayRanges (arraysOf A) (a .array) [] array-ranges (f .there) .dimensions .high in
+      record { few = omega arith; wide = subst (λ (n : ℕ). All (λ (s : Model.Subscript). length (s .coefficients) ≡ n) (a .subscripts)) (nest-length N (p .nest)) (f .wide) })
 
   module _ (limits : List ℤ) (counts shapes sizes rules constants : List ℕ) (accesses : ℕ) (owners : List ℕ) (words : List ℤ)
-    (q : NestLaid N limits counts) (e : shapes ≡ layRows 4 (replicate 16 0) 0 (map shapeWords (arraysOf A))) (h : HeadsLaid B sizes rules constants)
-    (b : BodyLaid (N .depth) B accesses (replicate 480 (pos 0)) words (replicate 20 0) owners) where
+      (q : NestLaid N limits counts) (e : shapes ≡ layRows 4 (replicate 16 0) 0 (map shapeWords (arraysOf A))) (h : HeadsLaid B sizes rules constants)
+      (b : BodyLaid (N .depth) B accesses (replicate 480 (pos 0)) words (replicate 20 0) owners) where
     abbrev W : List ℤ
     W = take (accesses * 24) words
 
@@ -140,12 +140,12 @@ module _ (N : Nest) (A : Arrays) (B : Body) (p : LayIn N A B) where
         dimensions-at (arraysOf A) (A .count) array-count (p .arrays .few) array-ranges shapes e (x .array) (f .there) ∙ sym (f .dimensions) in
         access-back W O E (N .depth) i x named dims
         (λ d r.
-          let u = v .few in
-          let t = p .nest .few in
-          let c = b .count in
-          part-take ((i * 3 + d) * 8) (suc (N .depth)) (accesses * 24) words (omega arith)
-          ∙ ap₂ (λ l j. wordsAt l (N .depth) (j * 3 + d)) (b .words) (sym (zero-add i))
-          ∙ accesses-at (N .depth) (p .nest .few) (replicate 480 (pos 0)) 0 all all-wide words-room i no-access g d r)
+        let u = v .few in
+        let t = p .nest .few in
+        let c = b .count in
+        part-take ((i * 3 + d) * 8) (suc (N .depth)) (accesses * 24) words (omega arith)
+        ∙ ap₂ (λ l j. wordsAt l (N .depth) (j * 3 + d)) (b .words) (sym (zero-add i))
+        ∙ accesses-at (N .depth) (p .nest .few) (replicate 480 (pos 0)) 0 all all-wide words-room i no-access g d r)
 
     accesses-sound : AccessesOk W O E (N .depth)
     accesses-sound =
@@ -162,12 +162,12 @@ module _ (N : Nest) (A : Arrays) (B : Body) (p : LayIn N A B) where
           few = omega arith;
           shallow = p .nest .few;
           small = within-take 32767 words (accesses * 24)
-          (small-within words (subst (All Small) (sym (b .words)) (accesses-small (replicate 480 (pos 0)) 0 all (all-replicate Small 480 (pos 0) (omega arith)) all-ranges)));
+              (small-within words (subst (All Small) (sym (b .words)) (accesses-small (replicate 480 (pos 0)) 0 all (all-replicate Small 480 (pos 0) (omega arith)) all-ranges)));
           dimensions = few-dimensions (arraysOf A) (A .count) z (p .arrays .few) array-ranges shapes e;
           extents = small-extents (arraysOf A) (A .count) z (p .arrays .few) array-ranges shapes e;
           there = λ k g. all-getD (λ x. x < length E / 4) O k 0
-          (subst (λ (l : List ℕ). All (λ x. x < length E / 4) l) (sym owners-are)
-          (map-all (λ (x : Model.Access). x .array) (Fits (arraysOf A) (length (loopsOf N))) (λ x. x < length E / 4) all (λ x f. let t = f .there in omega arith) all-fit)) g;
+              (subst (λ (l : List ℕ). All (λ x. x < length E / 4) l) (sym owners-are)
+              (map-all (λ (x : Model.Access). x .array) (Fits (arraysOf A) (length (loopsOf N))) (λ x. x < length E / 4) all (λ x f. let t = f .there in omega arith) all-fit)) g;
         }
 
     -- ---- its statements

@@ -34,7 +34,7 @@ array-copy-out-statement c = search needs
 
 -- src/lib.rt:174:20
 add-sizes : tie.Need-add-sizes Inv-loop μ-loop
-add-sizes c = let s = c .before .before .before .before .before in size-fits (s .args .body) (s .pre .within) (c .before .before .before .loop .i) _ (c .before .before .loop-test .taken)
+add-sizes c = let s = c .before .before .before .before .before in size-fits (s .args .body) (s .pre .within) (c .before .before .before .loop .i) _ (c .before .before .loop-test .taken) _ (omega arith)
 
 -- src/lib.rt:174:9
 mul-sizes : tie.Need-mul-sizes Inv-loop μ-loop
