@@ -1,13 +1,11 @@
 -- Nests that meet `LayIn`: those of tickets, by the model's ranges; and one loop from 0 to 0, an array of one element and a statement that
 -- stores 0 in it.
 use mathlib.Core.Path.{refl, ap}
-use mathlib.Core.List.{[], map}
-use Prim.Native.Nat.{ℕ}
+use mathlib.Core.List.{[]}
 use native.Mathlib.Omega.{arith}
 use lib.IntN.{pos}
 use lib.ListN.{length, replicate}
 use Rattle.lists.proofs.MembershipLaws.{all-nil, all-cons}
-use Rattle.model.specs.Ticket as Model
 use Rattle.model.specs.Grammar.{elements, total, extents}
 use Rattle.model.specs.Ranges.{InRange, Small, LimitRanges, LoopRanges, ArrayRanges, SubscriptRanges, AccessRanges, StatementRanges, NestRanges}
 use Rattle.model.specs.Shape.{Runs, Fits, FitsAll, WellFormed}
