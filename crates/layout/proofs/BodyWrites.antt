@@ -1,5 +1,5 @@
 -- What `lay_heads` and `lay_body` write.
-use mathlib.Core.Path.{_≡_, refl, sym, ap, ap₂, _∙_, subst}
+use mathlib.Core.Path.{_≡_, sym, ap, ap₂, _∙_, subst}
 use mathlib.Core.List.{List, [], _∷_, _++_, map, flatMap, map-append, Memᴰ·map}
 use Prim.Native.Nat.{ℕ, suc, _+_, _*_, _≤_, _<_}
 use native.Mathlib.Omega.{arith}
@@ -32,8 +32,8 @@ held-statement B p i d h =
     let n = length-take-le (B .count) (B .statements) (omega arith) in
     subst StatementIn (getD-take (B .count) (B .statements) i d h) (all-getD StatementIn (take (B .count) (B .statements)) i d (p .each) (omega arith))
 
-pub size-fits : (B : Body) → BodyIn B → (i : ℕ) (d : Statement) → i < B .count → Fits w64 (getD (B .statements) i d .reads + 1)
-size-fits B p i d h = let q = held-statement B p i d h .read .few in omega arith
+pub size-fits : (B : Body) → BodyIn B → (i : ℕ) (d : Statement) → i < B .count → (n : ℕ) → n ≤ 1 → Fits w64 (getD (B .statements) i d .reads + n)
+size-fits B p i d h n g = let q = held-statement B p i d h .read .few in omega arith
 
 -- ---- one number for each statement
 

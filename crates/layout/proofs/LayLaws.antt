@@ -10,7 +10,6 @@ use lib.Seq.{length-take-le, getD-take}
 use Rattle.lists.specs.Membership.{Mem}
 use Rattle.lists.proofs.MembershipLaws.{all-getD}
 use Rattle.integers.specs.Affine.{Within}
-use Rattle.model.specs.Ticket as Model
 use Rattle.model.specs.Ranges.{LoopRanges}
 use Rattle.nest.specs.Nested.{sideOf, loopOf, loopsFrom, loopsOf, LoopIn}
 use Rattle.nest.specs.declared.Loop.{Loop}

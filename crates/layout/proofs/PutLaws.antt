@@ -1,13 +1,11 @@
 -- Words put over a list: they stay small, and the front stays.
-use mathlib.Core.Path.{_≡_, sym, ap, _∙_, subst}
+use mathlib.Core.Path.{_≡_, sym, ap, _∙_}
 use mathlib.Core.List.{List, [], _∷_, _++_}
-use Prim.Native.Nat.{ℕ, _+_, _≤_, _<_}
-use native.Mathlib.Numerals.{add-one}
+use Prim.Native.Nat.{ℕ, _+_, _<_}
 use lib.IntN.{ℤ}
-use lib.ListN.{length, getD, take, drop, set}
-use lib.Seq.{getD-take, take-suc-set, take-all}
+use lib.ListN.{length, getD, take, drop}
+use lib.Seq.{getD-take}
 use Rattle.lists.specs.Parts.{put}
-use Rattle.integers.specs.Difference.{size}
 use Rattle.integers.specs.Affine.{Within}
 use Rattle.integers.proofs.AffineLaws.{within-take}
 use Rattle.space.proofs.LimitLaws.{within-drop}
@@ -24,10 +22,3 @@ within-put n o p xs g h =
 -- lists with one front
 pub getD-front : {A : Type 0} (m : ℕ) (s t : List A) (i : ℕ) (d : A) → take m s ≡ take m t → i < m → getD s i d ≡ getD t i d
 getD-front m s t i d e h = sym (getD-take m s i d h) ∙ ap (λ l. getD l i d) e ∙ getD-take m t i d h
-
--- one more word set to a small one
-pub within-more-set : (n : ℕ) (l : List ℤ) (i : ℕ) (z : ℤ) → i < length l → size z ≤ n → Within n (take i l) → Within n (take (i + 1) (set l i z))
-within-more-set n l i z h s w = subst (Within n) (sym (ap (λ k. take k (set l i z)) (add-one i) ∙ take-suc-set l i z h)) (within-append n (take i l) (z ∷ []) w (s, tt))
-
-pub within-end : (n : ℕ) (l : List ℤ) (i : ℕ) → length l ≤ i → Within n (take i l) → Within n l
-within-end n l i h w = subst (Within n) (take-all i l h) w

@@ -1,14 +1,13 @@
 -- A nest in structs, laid out on a sheet: what the functions that lay its parts ask, then that the sheet stands for it.
 use mathlib.Core.Path.{_≡_, refl, sym, ap, ap₂, _∙_, subst}
-use mathlib.Core.List.{List, [], _∷_, map, flatMap, List·Memᴰ·head, List·Memᴰ·tail}
-use Prim.Native.Nat.{ℕ, zero, suc, _+_, _*_, _/_, _≤_, _<_}
+use mathlib.Core.List.{List, [], _∷_, map, List·Memᴰ·head, List·Memᴰ·tail}
+use Prim.Native.Nat.{ℕ, suc, _+_, _*_, _/_, _≤_, _<_}
 use native.Mathlib.Omega.{arith}
 use native.Mathlib.Nat.{zero-add}
 use lib.IntN.{ℤ, pos}
 use lib.ListN.{length, getD, take, replicate, length-map, length-replicate, List·getD-map}
 use lib.Seq.{length-take-le}
 use Rattle.lists.specs.Membership.{Mem, All}
-use Rattle.lists.specs.Parts.{put}
 use Rattle.lists.proofs.MembershipLaws.{all-append, all-getD, all-imp, map-all}
 use Rattle.lists.proofs.FlatMapLaws.{all-flatMap}
 use Rattle.lists.proofs.PartLaws.{take-put-end}
@@ -16,8 +15,8 @@ use Rattle.integers.proofs.AffineLaws.{within-take}
 use Rattle.model.specs.Ticket as Model
 use Rattle.model.specs.Grammar.{extents, total}
 use Rattle.model.specs.Bounds.{accessesOf}
-use Rattle.model.specs.Ranges.{Small, ArrayRanges, AccessRanges, StatementRanges}
-use Rattle.model.specs.Shape.{Fits, FitsAll}
+use Rattle.model.specs.Ranges.{Small, ArrayRanges, AccessRanges}
+use Rattle.model.specs.Shape.{Fits}
 use Rattle.model.specs.Store.{sum}
 use Rattle.nest.specs.Nested.{loopsOf}
 use Rattle.nest.specs.declared.Nest.{Nest}
@@ -28,9 +27,9 @@ use Rattle.body.specs.declared.Statement.{Statement}
 use Rattle.body.specs.declared.Body.{Body}
 use Rattle.elements.specs.Layout as Flat
 use Rattle.elements.specs.Layout.{accessAt, AccessesOk}
-use Rattle.sheet.specs.Sheets.{nestOf, statementsFrom, SheetIn}
+use Rattle.sheet.specs.Sheets.{nestOf, statementsFrom}
 use Rattle.sheet.specs.declared.Sheet.{Sheet}
-use Rattle.layout.specs.Accesses.{layRows, layAccesses, arrayNumbers}
+use Rattle.layout.specs.Accesses.{layRows, arrayNumbers}
 use Rattle.layout.specs.Bodies.{shapeWords, accessesIn, sizeOf, HeadsLaid, LayBodyIn, BodyLaid}
 use Rattle.layout.specs.Limits.{LayNestIn, NestLaid}
 use Rattle.layout.specs.Sheets.{modelOf, LayIn, Laid}
@@ -40,7 +39,7 @@ use Rattle.layout.proofs.NestLaws.{can-lay}
 use Rattle.layout.proofs.RowLaws.{all-replicate, part-take}
 use Rattle.layout.proofs.ArrayBack.{laid-length, used-length, used-arrays, arrays-same, dimensions-at, few-dimensions, small-extents}
 use Rattle.layout.proofs.AccessBack.{Wide, wordsAt, access-back, accesses-length, accesses-at, accesses-small}
-use Rattle.layout.proofs.StatementBack.{no-access, Stand, sum-sizes, statements-back}
+use Rattle.layout.proofs.StatementBack.{no-access, sum-sizes, statements-back}
 
 -- a number of each statement, from the structs and from the model
 column : (n : ℕ) (f : Statement → ℕ) (g : Model.Statement → ℕ) (l : List Statement) → ((x : Statement) → Mem x l → f x ≡ g (statementOf n x)) → map f l ≡ map g (map (statementOf n) l)
@@ -62,9 +61,9 @@ module _ (N : Nest) (A : Arrays) (B : Body) (p : LayIn N A B) where
 
   -- ---- what the functions ask
 
-  pub nest-in : LayNestIn 1536 12 N
+  pub nest-in : LayNestIn (replicate 1536 (pos 0)) 12 N
   unfolding modelOf
-  nest-in = record { words = refl; counts = refl; laid = can-lay 6 16 N (modelOf N A B) (omega arith) (p .nest) refl (p .ranges) }
+  nest-in = record { words = length-replicate 1536 (pos 0); small = small-within (replicate 1536 (pos 0)) (all-replicate Small 1536 (pos 0) (omega arith)); counts = refl; laid = can-lay 6 16 N (modelOf N A B) (omega arith) (p .nest) refl (p .ranges) }
 
   all-ranges : All AccessRanges all
   unfolding modelOf accessesIn accessesOf
@@ -97,13 +96,13 @@ module _ (N : Nest) (A : Arrays) (B : Body) (p : LayIn N A B) where
   unfolding extents
   all-wide = all-imp (Fits (arraysOf A) (length (loopsOf N))) all all-fit
       (λ a m f.
-        let d = f .dimensions in
-        let r = all-getD ArrayRanges (arraysOf A) (a .array) [] array-ranges (f .there) .dimensions .high in
-        record { few = omega arith; wide = subst (λ (n : ℕ). All (λ (s : Model.Subscript). length (s .coefficients) ≡ n) (a .subscripts)) (nest-length N (p .nest)) (f .wide) })
+      let d = f .dimensions in
+      let r = all-getD ArrayRanges (arraysOf A) (a .array) [] array-ranges (f .there) .dimensions .high in
+      record { few = omega arith; wide = subst (λ (n : ℕ). All (λ (s : Model.Subscript). length (s .coefficients) ≡ n) (a .subscripts)) (nest-length N (p .nest)) (f .wide) })
 
   module _ (limits : List ℤ) (counts shapes sizes rules constants : List ℕ) (accesses : ℕ) (owners : List ℕ) (words : List ℤ)
-    (q : NestLaid N limits counts) (e : shapes ≡ layRows 4 (replicate 16 0) 0 (map shapeWords (arraysOf A))) (h : HeadsLaid B sizes rules constants)
-    (b : BodyLaid (N .depth) B accesses (replicate 480 (pos 0)) words (replicate 20 0) owners) where
+      (q : NestLaid N limits counts) (e : shapes ≡ layRows 4 (replicate 16 0) 0 (map shapeWords (arraysOf A))) (h : HeadsLaid B sizes rules constants)
+      (b : BodyLaid (N .depth) B accesses (replicate 480 (pos 0)) words (replicate 20 0) owners) where
     abbrev W : List ℤ
     W = take (accesses * 24) words
 
@@ -141,12 +140,12 @@ module _ (N : Nest) (A : Arrays) (B : Body) (p : LayIn N A B) where
         dimensions-at (arraysOf A) (A .count) array-count (p .arrays .few) array-ranges shapes e (x .array) (f .there) ∙ sym (f .dimensions) in
         access-back W O E (N .depth) i x named dims
         (λ d r.
-          let u = v .few in
-          let t = p .nest .few in
-          let c = b .count in
-          part-take ((i * 3 + d) * 8) (suc (N .depth)) (accesses * 24) words (omega arith)
-          ∙ ap₂ (λ l j. wordsAt l (N .depth) (j * 3 + d)) (b .words) (sym (zero-add i))
-          ∙ accesses-at (N .depth) (p .nest .few) (replicate 480 (pos 0)) 0 all all-wide words-room i no-access g d r)
+        let u = v .few in
+        let t = p .nest .few in
+        let c = b .count in
+        part-take ((i * 3 + d) * 8) (suc (N .depth)) (accesses * 24) words (omega arith)
+        ∙ ap₂ (λ l j. wordsAt l (N .depth) (j * 3 + d)) (b .words) (sym (zero-add i))
+        ∙ accesses-at (N .depth) (p .nest .few) (replicate 480 (pos 0)) 0 all all-wide words-room i no-access g d r)
 
     accesses-sound : AccessesOk W O E (N .depth)
     accesses-sound =
@@ -163,12 +162,12 @@ module _ (N : Nest) (A : Arrays) (B : Body) (p : LayIn N A B) where
           few = omega arith;
           shallow = p .nest .few;
           small = within-take 32767 words (accesses * 24)
-          (small-within words (subst (All Small) (sym (b .words)) (accesses-small (replicate 480 (pos 0)) 0 all (all-replicate Small 480 (pos 0) (omega arith)) all-ranges)));
+              (small-within words (subst (All Small) (sym (b .words)) (accesses-small (replicate 480 (pos 0)) 0 all (all-replicate Small 480 (pos 0) (omega arith)) all-ranges)));
           dimensions = few-dimensions (arraysOf A) (A .count) z (p .arrays .few) array-ranges shapes e;
           extents = small-extents (arraysOf A) (A .count) z (p .arrays .few) array-ranges shapes e;
           there = λ k g. all-getD (λ x. x < length E / 4) O k 0
-          (subst (λ (l : List ℕ). All (λ x. x < length E / 4) l) (sym owners-are)
-          (map-all (λ (x : Model.Access). x .array) (Fits (arraysOf A) (length (loopsOf N))) (λ x. x < length E / 4) all (λ x f. let t = f .there in omega arith) all-fit)) g;
+              (subst (λ (l : List ℕ). All (λ x. x < length E / 4) l) (sym owners-are)
+              (map-all (λ (x : Model.Access). x .array) (Fits (arraysOf A) (length (loopsOf N))) (λ x. x < length E / 4) all (λ x f. let t = f .there in omega arith) all-fit)) g;
         }
 
     -- ---- its statements

@@ -10,7 +10,6 @@ use Rattle.lists.specs.Parts.{put}
 use Rattle.model.specs.Ticket as Model
 use Rattle.model.specs.Bounds.{accessesOf}
 use Rattle.model.specs.Ranges.{SubscriptRanges, AccessRanges}
-use Rattle.body.specs.Arrays as Struct
 use Rattle.body.specs.Statements.{subscriptOf, accessOf, statementOf, SubscriptIn, AccessIn, StatementIn}
 use Rattle.body.specs.declared.Subscript.{Subscript}
 use Rattle.body.specs.declared.Access.{Access}

@@ -6,6 +6,7 @@ use lib.IntN.{ℤ}
 use lib.ListN.{length, set}
 use Rattle.lists.specs.Membership.{All}
 use Rattle.lists.specs.Parts.{put}
+use Rattle.integers.specs.Affine.{Within}
 use Rattle.model.specs.Ticket as Model
 use Rattle.model.specs.Encode.{limitWords}
 use Rattle.model.specs.Ranges.{LimitRanges, LoopRanges}
@@ -62,8 +63,10 @@ pub record LaidIn (N : Nest) : Type 0 where
   pub within : NestIn N
   pub ranges : All (LoopRanges 16) (loopsOf N)
 
-pub record LayNestIn (room rows : ℕ) (N : Nest) : Type 0 where
-  pub words : room ≡ 1536
+-- over words whose numbers are small, as they stay beyond a count
+pub record LayNestIn (s : List ℤ) (rows : ℕ) (N : Nest) : Type 0 where
+  pub words : length s ≡ 1536
+  pub small : Within 32767 s
   pub counts : rows ≡ 12
   pub laid : LaidIn N
 

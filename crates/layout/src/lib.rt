@@ -1,18 +1,17 @@
-// A decoded ticket laid out in flat slices, which the enumeration of points and the search for conflicts are lent.
+// A decoded ticket's nest laid out flat on a sheet, which the enumeration of points and the search for conflicts are lent.
 ghost use mathlib.Core.Path.{_≡_};
+ghost use mathlib.Core.List.{map};
 ghost use Prim.Native.Nat.{_*_};
 ghost use lib.ListN.{length, set};
 ghost use Rattle.lists.specs.Parts.{put};
-ghost use Rattle.integers.specs.Affine.{Within};
 ghost use Rattle.model.specs.Encode.{limitWords};
 ghost use Rattle.nest.specs.Nested.{limitOf, sideOf, loopOf};
-ghost use mathlib.Core.List.{map};
 ghost use Rattle.body.specs.Arrays.{shapeOf, arraysOf};
 ghost use Rattle.body.specs.Statements.{subscriptOf, accessOf};
 ghost use Rattle.layout.specs.Accesses.{layRows, subscriptWords, layAccess, LaySubscriptIn, LayAccessIn, LayStatementIn, StatementLaid};
 ghost use Rattle.layout.specs.Bodies.{shapeWords, LayShapeIn, LayArraysIn, LayHeadsIn, HeadsLaid, LayBodyIn, BodyLaid};
-ghost use Rattle.layout.specs.Sheets.{LayIn, Laid};
 ghost use Rattle.layout.specs.Limits.{layLimits, layLoop, layCount, LayLimitIn, LaySideIn, LayLoopIn, LayNestIn, NestLaid};
+ghost use Rattle.layout.specs.Sheets.{LayIn, Laid};
 use body::Access;
 use body::Arrays;
 use body::Body;
@@ -66,22 +65,11 @@ fn lay_loop(words: &mut [i64], counts: &mut [usize], k: usize, body: Loop)
     counts[k * 2 + 1] = upper.count;
 }
 
-fn clear(words: &mut [i64])
-    ensures { λ _. ⌜ (length (now (words .exit)) ≡ length (now (words .entry))) × Within 32767 (now (words .exit)) ⌝ }
-{
-    let mut i = 0;
-    while i < words.len() {
-        words[i] = 0;
-        i += 1;
-    }
-}
-
-// A nest, in 1536 words and 12 counts, whatever they held.
-pub fn lay_nest(words: &mut [i64], counts: &mut [usize], nest: Nest)
-    requires { ⌜ LayNestIn (length (now words)) (length (now counts)) nest ⌝ }
+// The loops of a nest, in 1536 words and 12 counts.
+fn lay_nest(words: &mut [i64], counts: &mut [usize], nest: Nest)
+    requires { ⌜ LayNestIn (now words) (length (now counts)) nest ⌝ }
     ensures { λ _. ⌜ NestLaid nest (now (words .exit)) (now (counts .exit)) ⌝ }
 {
-    clear(words);
     let depth = nest.depth;
     let loops = nest.loops;
     let mut k = 0;

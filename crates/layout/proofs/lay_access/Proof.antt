@@ -8,9 +8,6 @@ use Rattle.layout.specs.Accesses.{layRows}
 use Rattle.layout.proofs.AccessWrites.{firstRows, access-room, next-in, access-more, access-done}
 use Rattle.layout.proofs.lay_access.Statement.{statement}
 use Rattle.layout.proofs.lay_access.Tie as tie
-use Rattle.layout.proofs.lay_access.Reads as reads
-use Rattle.layout.proofs.lay_access.Lts as lts
-use Rattle.layout.proofs.lay_subscript.Reads as lay-subscript-reads
 
 abbrev Inv-loop : tie.InvT-loop
 Inv-loop words₀ owners k depth dimensions subscripts d₀ words d = (d ≤ dimensions) × (words ≡ layRows 8 words₀ (k * 3) (firstRows depth subscripts d))
@@ -18,60 +15,46 @@ Inv-loop words₀ owners k depth dimensions subscripts d₀ words d = (d ≤ dim
 abbrev μ-loop : tie.MeasureT-loop
 μ-loop words₀ owners k depth dimensions subscripts d₀ words d = dimensions - d
 
--- src/lib.rt:104:5
 mul-owners : tie.Need-mul-owners Inv-loop μ-loop
 mul-owners c = search needs
 
--- src/lib.rt:104:5
 slice-write-owners : tie.Need-slice-write-owners Inv-loop μ-loop
 slice-write-owners c = search needs
 
--- src/lib.rt:108:5
 loop-holds : tie.Need-loop-holds Inv-loop μ-loop
 unfolding layRows
 loop-holds c = (omega arith, refl)
 
--- src/lib.rt:109:25
 mul-subscript : tie.Need-mul-subscript Inv-loop μ-loop
 mul-subscript c = search needs
 
--- src/lib.rt:109:25
 array-copy-out-subscript : tie.Need-array-copy-out-subscript Inv-loop μ-loop
 array-copy-out-subscript c = search needs
 
--- src/lib.rt:110:30
 mul-lay-subscript : tie.Need-mul-lay-subscript Inv-loop μ-loop
 mul-lay-subscript c = search needs
 
--- src/lib.rt:110:30
 add-lay-subscript : tie.Need-add-lay-subscript Inv-loop μ-loop
 add-lay-subscript c = search needs
 
--- src/lib.rt:110:9
 lay-subscript-requires : tie.Need-lay-subscript-requires Inv-loop μ-loop
 lay-subscript-requires c κs = let s = c .before .before .before .before .before .before in let l = c .before .before .before .loop in next-in (s .args .words .now) (length (s .args .owners .now)) (s .args .k) (s .args .depth) (s .args .access) (s .pre) (l .d) _ (l .words) (c .before .before .loop-test .taken) (l .inv .1)
 
--- src/lib.rt:111:9
 add-d : tie.Need-add-d Inv-loop μ-loop
 add-d c = search needs
 
--- src/lib.rt:108:5
 loop-less : tie.Need-loop-less Inv-loop μ-loop
 loop-less c = search needs
 
--- src/lib.rt:108:5
 loop-again : tie.Need-loop-again Inv-loop μ-loop
 loop-again c = let s = c .before .before .before .before .before .before .before .before in let l = c .before .before .before .before .before .loop in (omega arith, access-more (s .args .words .now) (length (s .args .owners .now)) (s .args .k) (s .args .depth) (s .args .access) (s .pre) (l .d) _ (l .words) (c .before .before .before .before .loop-test .taken) (l .inv .1) _ (c .before .lay-subscript .ensures))
 
--- src/lib.rt:100:1
 same-length : tie.Need-same-length Inv-loop μ-loop
 same-length c = let s = c .before .before .before .before in let l = c .before .loop in access-room (s .args .words .now) (length (s .args .owners .now)) (s .args .k) (s .args .depth) (s .args .access) (s .pre) (l .d) (l .words) (l .inv .0) (l .inv .1)
 
--- src/lib.rt:100:1
 same-length-2 : tie.Need-same-length-2 Inv-loop μ-loop
 same-length-2 c = simp length-set
 
--- src/lib.rt:100:1
 returns : tie.Need-returns Inv-loop μ-loop
 returns c = let s = c .before .before .before .before in let l = c .before .loop in (access-done (s .args .words .now) (length (s .args .owners .now)) (s .args .k) (s .args .depth) (s .args .access) (s .pre) (l .d) (l .words) (l .inv .0) (c .loop-test .left) (l .inv .1), refl)
 

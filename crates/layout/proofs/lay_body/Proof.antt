@@ -12,9 +12,6 @@ use Rattle.layout.specs.Bodies.{accessesIn}
 use Rattle.layout.proofs.BodyWrites.{firstBodies, statement-in, words-more, named-more, count-more, body-laid}
 use Rattle.layout.proofs.lay_body.Statement.{statement}
 use Rattle.layout.proofs.lay_body.Tie as tie
-use Rattle.layout.proofs.lay_body.Reads as reads
-use Rattle.layout.proofs.lay_body.Lts as lts
-use Rattle.layout.proofs.lay_statement.Reads as lay-statement-reads
 
 abbrev Inv-loop : tie.InvT-loop
 Inv-loop words₀ owners₀ depth count statements k₀ i₀ words owners k i =
@@ -23,44 +20,34 @@ Inv-loop words₀ owners₀ depth count statements k₀ i₀ words owners k i =
 abbrev μ-loop : tie.MeasureT-loop
 μ-loop words₀ owners₀ depth count statements k₀ i₀ words owners k i = count - i
 
--- src/lib.rt:156:5
 loop-holds : tie.Need-loop-holds Inv-loop μ-loop
 unfolding layAccesses accessesIn flatMap
 loop-holds c = (omega arith, omega arith, refl, refl, refl, refl, sym (put-nil _ _))
 
--- src/lib.rt:157:25
 mul-statement : tie.Need-mul-statement Inv-loop μ-loop
 mul-statement c = search needs
 
--- src/lib.rt:157:25
 array-copy-out-statement : tie.Need-array-copy-out-statement Inv-loop μ-loop
 array-copy-out-statement c = search needs
 
--- src/lib.rt:158:9
 lay-statement-requires : tie.Need-lay-statement-requires Inv-loop μ-loop
 lay-statement-requires c κs = let s = c .before .before .before .before .before .before .before in let l = c .before .before .before .before .loop in statement-in (length (s .args .words .now)) (length (s .args .owners .now)) (s .args .depth) (s .args .body) (s .pre) (l .i) _ (c .before .before .before .loop-test .taken) (l .k) _ _ (l .inv .1) (l .inv .3) (l .inv .4)
 
--- src/lib.rt:159:9
 add-i : tie.Need-add-i Inv-loop μ-loop
 add-i c = search needs
 
--- src/lib.rt:156:5
 loop-less : tie.Need-loop-less Inv-loop μ-loop
 loop-less c = search needs
 
--- src/lib.rt:156:5
 loop-again : tie.Need-loop-again Inv-loop μ-loop
 loop-again c = let s = c .before .before .before .before .before .before .before .before .before .before .before in let l = c .before .before .before .before .before .before .before .before .loop in let t = c .before .before .before .before .before .before .before .loop-test .taken in let r = c .before .before .before .lay-statement in let q = r .ensures in let n = count-more (length (s .args .words .now)) (length (s .args .owners .now)) (s .args .depth) (s .args .body) (s .pre) (l .i) _ t (l .k) _ (s .args .words .now) _ _ (s .args .owners .now) _ _ q (l .inv .2) (l .inv .1) in let g = s .pre .owners in let f = s .pre .within .few in let u = l .inv .1 in (omega arith, n .1, n .0, r .kept .0 ∙ l .inv .3, r .kept .1 .0 ∙ l .inv .4, words-more (length (s .args .words .now)) (length (s .args .owners .now)) (s .args .depth) (s .args .body) (s .pre) (l .i) _ t (l .k) _ (s .args .words .now) _ _ (s .args .owners .now) _ _ q (l .inv .2) (l .inv .5), named-more (length (s .args .words .now)) (length (s .args .owners .now)) (s .args .depth) (s .args .body) (s .pre) (l .i) _ t (l .k) _ (s .args .words .now) _ _ (s .args .owners .now) _ _ q (l .inv .2) (omega arith) (l .inv .6))
 
--- src/lib.rt:148:1
 same-length : tie.Need-same-length Inv-loop μ-loop
 same-length c = c .before .loop .inv .3
 
--- src/lib.rt:148:1
 same-length-2 : tie.Need-same-length-2 Inv-loop μ-loop
 same-length-2 c = c .before .loop .inv .4
 
--- src/lib.rt:148:1
 returns : tie.Need-returns Inv-loop μ-loop
 returns c = let s = c .before .before .before .before in let l = c .before .loop in body-laid (length (s .args .words .now)) (length (s .args .owners .now)) (s .args .depth) (s .args .body) (s .pre) (l .i) (l .k) _ (l .words) _ (l .owners) (l .inv .0) (c .loop-test .left) (l .inv .1) (l .inv .2) (l .inv .5) (l .inv .6)
 

@@ -1,16 +1,14 @@
 -- `lay_shape`: the first d extents are laid.
-use mathlib.Core.Path.{_≡_, refl, sym}
-use Prim.Native.Nat.{_+_, _*_, _-_, _≤_}
+use mathlib.Core.Path.{_≡_, sym}
+use Prim.Native.Nat.{_+_, _-_, _≤_}
 use native.Mathlib.Omega.{arith}
-use lib.ListN.{length, take, length-set}
+use lib.ListN.{take}
 use borrow.Author.Needs.{needs}
 use Rattle.lists.specs.Parts.{put}
 use Rattle.lists.proofs.PartLaws.{put-nil}
 use Rattle.layout.proofs.ShapeWrites.{shape-room, shape-more, shape-done}
 use Rattle.layout.proofs.lay_shape.Statement.{statement}
 use Rattle.layout.proofs.lay_shape.Tie as tie
-use Rattle.layout.proofs.lay_shape.Reads as reads
-use Rattle.layout.proofs.lay_shape.Lts as lts
 
 abbrev Inv-loop : tie.InvT-loop
 Inv-loop extents₀ i at dimensions row d₀ extents d = (d ≤ dimensions) × (extents ≡ put extents₀ (at + 1) (take d row))
@@ -18,63 +16,48 @@ Inv-loop extents₀ i at dimensions row d₀ extents d = (d ≤ dimensions) × (
 abbrev μ-loop : tie.MeasureT-loop
 μ-loop extents₀ i at dimensions row d₀ extents d = dimensions - d
 
--- src/lib.rt:186:14
 mul-at : tie.Need-mul-at Inv-loop μ-loop
 mul-at c = search needs
 
--- src/lib.rt:189:5
 mul-extents : tie.Need-mul-extents Inv-loop μ-loop
 mul-extents c = search needs
 
--- src/lib.rt:189:5
 slice-write-extents : tie.Need-slice-write-extents Inv-loop μ-loop
 slice-write-extents c = search needs
 
--- src/lib.rt:191:5
 loop-holds : tie.Need-loop-holds Inv-loop μ-loop
 loop-holds c = (omega arith, sym (put-nil _ _))
 
--- src/lib.rt:192:31
 mul-extents-2 : tie.Need-mul-extents-2 Inv-loop μ-loop
 mul-extents-2 c = search needs
 
--- src/lib.rt:192:31
 array-read-extents : tie.Need-array-read-extents Inv-loop μ-loop
 array-read-extents c = search needs
 
--- src/lib.rt:192:17
 add-extents : tie.Need-add-extents Inv-loop μ-loop
 add-extents c = search needs
 
--- src/lib.rt:192:17
 add-extents-2 : tie.Need-add-extents-2 Inv-loop μ-loop
 add-extents-2 c = search needs
 
--- src/lib.rt:192:9
 mul-extents-3 : tie.Need-mul-extents-3 Inv-loop μ-loop
 mul-extents-3 c = search needs
 
--- src/lib.rt:192:9
 slice-write-extents-2 : tie.Need-slice-write-extents-2 Inv-loop μ-loop
 slice-write-extents-2 c = let s = c .before .before .before in let l = c .before .loop in let n = shape-room (s .args .extents .now) (s .args .i) (s .args .shape) (s .pre) (l .d) (l .extents) (l .inv .0) (l .inv .1) in let f = s .pre .fits in let g = s .pre .within .few in omega arith
 
--- src/lib.rt:193:9
 add-d : tie.Need-add-d Inv-loop μ-loop
 add-d c = search needs
 
--- src/lib.rt:191:5
 loop-less : tie.Need-loop-less Inv-loop μ-loop
 loop-less c = search needs
 
--- src/lib.rt:191:5
 loop-again : tie.Need-loop-again Inv-loop μ-loop
 loop-again c = let s = c .before .before .before in let l = c .before .loop in (omega arith, shape-more (s .args .extents .now) (s .args .i) (s .args .shape) (s .pre) (l .d) (l .extents) (c .loop-test .taken) (l .inv .1))
 
--- src/lib.rt:182:1
 same-length : tie.Need-same-length Inv-loop μ-loop
 same-length c = let s = c .before .before .before in let l = c .before .loop in shape-room (s .args .extents .now) (s .args .i) (s .args .shape) (s .pre) (l .d) (l .extents) (l .inv .0) (l .inv .1)
 
--- src/lib.rt:182:1
 returns : tie.Need-returns Inv-loop μ-loop
 returns c = let s = c .before .before .before in let l = c .before .loop in shape-done (s .args .extents .now) (s .args .i) (s .args .shape) (s .pre) (l .d) (l .extents) (l .inv .0) (c .loop-test .left) (l .inv .1)
 

@@ -10,9 +10,6 @@ use Rattle.layout.specs.Accesses.{layAccesses, arrayNumbers}
 use Rattle.layout.proofs.StatementWrites.{firstAccesses, write-in, read-in, words-more, named-more, statement-laid}
 use Rattle.layout.proofs.lay_statement.Statement.{statement}
 use Rattle.layout.proofs.lay_statement.Tie as tie
-use Rattle.layout.proofs.lay_statement.Reads as reads
-use Rattle.layout.proofs.lay_statement.Lts as lts
-use Rattle.layout.proofs.lay_access.Reads as lay-access-reads
 
 abbrev Inv-loop : tie.InvT-loop
 Inv-loop words₀ owners₀ k depth reads read i₀ words owners i =
@@ -21,64 +18,49 @@ Inv-loop words₀ owners₀ k depth reads read i₀ words owners i =
 abbrev μ-loop : tie.MeasureT-loop
 μ-loop words₀ owners₀ k depth reads read i₀ words owners i = reads - i
 
--- src/lib.rt:129:5
 lay-access-requires : tie.Need-lay-access-requires Inv-loop μ-loop
 lay-access-requires c κs = let s = c .before .before .before .before .before in write-in (length (s .args .words .now)) (length (s .args .owners .now)) (s .args .k) (s .args .depth) (s .args .statement) (s .pre)
 
--- src/lib.rt:131:5
 loop-holds : tie.Need-loop-holds Inv-loop μ-loop
 unfolding layAccesses
 loop-holds c = (omega arith, refl, refl, refl, sym (put-nil _ _))
 
--- src/lib.rt:132:22
 mul-access : tie.Need-mul-access Inv-loop μ-loop
 mul-access c = search needs
 
--- src/lib.rt:132:22
 array-copy-out-access : tie.Need-array-copy-out-access Inv-loop μ-loop
 array-copy-out-access c = search needs
 
--- src/lib.rt:133:35
 add-lay-access : tie.Need-add-lay-access Inv-loop μ-loop
 add-lay-access c = search needs
 
--- src/lib.rt:133:35
 add-lay-access-2 : tie.Need-add-lay-access-2 Inv-loop μ-loop
 add-lay-access-2 c = search needs
 
--- src/lib.rt:133:9
 lay-access-requires-2 : tie.Need-lay-access-requires-2 Inv-loop μ-loop
 lay-access-requires-2 c κs = let s = c .before .before .before .before .before .before .before .before .before .before .before .before .before .before in let l = c .before .before .before .before .loop in let q = c .before .before .before .before .before .before .before .before .lay-access in read-in (length (s .args .words .now)) (length (s .args .owners .now)) (s .args .k) (s .args .depth) (s .args .statement) (s .pre) (l .i) _ (c .before .before .before .loop-test .taken) _ _ (l .inv .1 ∙ q .kept .0) (l .inv .2 ∙ q .kept .1 .0)
 
--- src/lib.rt:134:9
 add-i : tie.Need-add-i Inv-loop μ-loop
 add-i c = search needs
 
--- src/lib.rt:131:5
 loop-less : tie.Need-loop-less Inv-loop μ-loop
 loop-less c = search needs
 
--- src/lib.rt:131:5
 loop-again : tie.Need-loop-again Inv-loop μ-loop
 loop-again c = let s = c .before .before .before .before .before .before .before .before .before .before .before .before .before .before .before .before .before .before in let l = c .before .before .before .before .before .before .before .before .loop in let t = c .before .before .before .before .before .before .before .loop-test .taken in let r = c .before .before .before .lay-access2 in let q = c .before .before .before .before .before .before .before .before .before .before .before .before .lay-access in let n = q .kept .1 .0 in let p = s .pre in let f = p .within .read .few in (omega arith, r .kept .0 ∙ l .inv .1, r .kept .1 .0 ∙ l .inv .2, words-more (length (s .args .words .now)) (length (s .args .owners .now)) (s .args .k) (s .args .depth) (s .args .statement) (s .pre) (l .i) _ t _ (l .words) _ (l .inv .3) (r .ensures .0), named-more (length (s .args .words .now)) (length (s .args .owners .now)) (s .args .k) (s .args .depth) (s .args .statement) (s .pre) (l .i) _ t _ (l .owners) _ (omega (arith, n, t, p .owners, f)) (l .inv .4) (r .ensures .1))
 
--- src/lib.rt:136:5
 add-result : tie.Need-add-result Inv-loop μ-loop
 add-result c = search needs
 
--- src/lib.rt:136:5
 add-result-2 : tie.Need-add-result-2 Inv-loop μ-loop
 add-result-2 c = search needs
 
--- src/lib.rt:116:1
 same-length : tie.Need-same-length Inv-loop μ-loop
 same-length c = let l = c .before .loop in l .inv .1 ∙ c .before .before .before .before .before .lay-access .kept .0
 
--- src/lib.rt:116:1
 same-length-2 : tie.Need-same-length-2 Inv-loop μ-loop
 same-length-2 c = let l = c .before .loop in l .inv .2 ∙ c .before .before .before .before .before .lay-access .kept .1 .0
 
--- src/lib.rt:116:1
 returns : tie.Need-returns Inv-loop μ-loop
 returns c = let s = c .before .before .before .before .before .before .before .before .before .before .before in let l = c .before .loop in let q = c .before .before .before .before .before .lay-access in statement-laid (length (s .args .words .now)) (length (s .args .owners .now)) (s .args .k) (s .args .depth) (s .args .statement) (s .pre) (l .i) _ _ (l .words) _ _ (l .owners) (l .inv .0) (c .loop-test .left) (omega (arith, s .pre .owners)) (q .ensures .0) (q .ensures .1) (l .inv .3) (l .inv .4)
 

@@ -6,43 +6,31 @@ use Rattle.layout.proofs.AccessWrites.{row-length, wrote, wrote-length}
 use borrow.Author.Needs.{needs}
 use Rattle.layout.proofs.lay_subscript.Statement.{statement}
 use Rattle.layout.proofs.lay_subscript.Tie as tie
-use Rattle.layout.proofs.lay_subscript.Reads as reads
-use Rattle.layout.proofs.lay_subscript.Lts as lts
-use Rattle.space.proofs.store.Reads as store-reads
 
--- src/lib.rt:92:14
 mul-at : tie.Need-mul-at
 mul-at c = search needs
 
--- src/lib.rt:95:5
 mul-constant : tie.Need-mul-constant
 mul-constant c = search needs
 
--- src/lib.rt:95:5
 slice-set-from-constant : tie.Need-slice-set-from-constant
 slice-set-from-constant c = search needs
 
--- src/lib.rt:96:25
 add-store : tie.Need-add-store
 add-store c = search needs
 
--- src/lib.rt:96:33
 array-share-prefix-coefficients : tie.Need-array-share-prefix-coefficients
 array-share-prefix-coefficients c = search needs
 
--- src/lib.rt:96:33
 slice-aggregate-store : tie.Need-slice-aggregate-store
 slice-aggregate-store c = let s = c .before .before .before .before in sym (row-length (s .args .words .now) (s .args .j) (s .args .depth) (s .args .subscript) (s .pre))
 
--- src/lib.rt:96:5
 store-requires : tie.Need-store-requires
 store-requires c κs = let s = c .before .before .before .before in let n = row-length (s .args .words .now) (s .args .j) (s .args .depth) (s .args .subscript) (s .pre) in let p = s .pre in simp length-set (omega arith)
 
--- src/lib.rt:88:1
 same-length : tie.Need-same-length
 same-length c = let s = c .before .before .before .before .before .before in wrote-length (s .args .words .now) (s .args .j) (s .args .depth) (s .args .subscript) (s .pre) _ (wrote (s .args .words .now) (s .args .j) (s .args .depth) (s .args .subscript) (s .pre) _ (c .before .store .ensures))
 
--- src/lib.rt:88:1
 returns : tie.Need-returns
 returns c = let s = c .before .before .before .before .before .before in wrote (s .args .words .now) (s .args .j) (s .args .depth) (s .args .subscript) (s .pre) _ (c .before .store .ensures)
 
