@@ -1,0 +1,126 @@
+-- The access numbers and the test, in the order of the model's `quick`.
+use mathlib.Core.Path.{_≡_, refl, sym, _∙_, ap, subst}
+use mathlib.Core.Bool.{Bool, true, false, not, cond, _&&_}
+use mathlib.Core.List.{List}
+use Prim.Native.Nat.{ℕ, zero, suc, _-_, _≤_, _<_}
+use native.Mathlib.Omega.{arith}
+use lib.Dec.{T, leb, leb→le, leb·zero, leb·suc-suc}
+use lib.IntN.{ℤ}
+use lib.ListN.{length, getD}
+use Rattle.model.specs.Answer.{accepted, refused, require, _>>_, _>>=_}
+use Rattle.model.specs.Ticket as Model
+use Rattle.model.specs.Ticket.{Access}
+use Rattle.model.specs.Quick.{apart, perhaps, isApart, quickTest}
+use Rattle.model.specs.Entries.{allAccesses, accessNumber, quick}
+use Rattle.reading.specs.declared.Refusal.{Refusal}
+use Rattle.reading.specs.declared.Refusal.the-variants.{WordOutOfRange}
+use Rattle.reading.specs.declared.Status.{Status}
+use Rattle.reading.specs.declared.Status.the-variants as Status
+use Rattle.reading.specs.Refusals.{refusal}
+use Rattle.ticket.specs.Ticket.{ticketOf, decoded}
+use Rattle.sheet.specs.declared.Sheet.{Sheet}
+use Rattle.sheet.specs.Sheets.{nestOf, SheetIn}
+use Rattle.sheet.specs.Stages.{noAccess, accessOf, TestIn}
+use Rattle.sheet.proofs.SheetLaws.{access-count}
+use Rattle.intake.specs.declared.Intake.{Intake}
+use Rattle.intake.specs.Intake.{Admits}
+use Rattle.quick_entry.specs.declared.Tested.{Tested}
+use Rattle.quick_entry.specs.Answers.{answerOf, tested}
+
+both : (a b : Bool) → (a && b) ≡ true → (a ≡ true) × (b ≡ true)
+both true b e = (refl, e)
+both false b e = absurd (subst T (sym e) tt)
+
+not-true : (t : Bool) → not t ≡ true → t ≡ false
+not-true true e = absurd (subst T (sym e) tt)
+not-true false e = refl
+
+not-false : (t : Bool) → not t ≡ false → t ≡ true
+not-false true e = refl
+not-false false e = absurd (subst T e tt)
+
+-- ---- an access number
+
+pub none : (n m : ℕ) → n < 1 → false ≡ (leb 1 n && leb n m)
+none zero m h = refl
+none (suc n) m h = absurd (omega arith)
+
+pub some : (n m : ℕ) → 1 ≤ n → leb n m ≡ (leb 1 n && leb n m)
+some zero m h = absurd (omega arith)
+some (suc n) m h = ap (_&& leb (suc n) m) (sym (leb·suc-suc 0 n ∙ leb·zero n))
+
+number-is : (l : List Access) (n : ℕ) → accessNumber l n ≡ cond (leb 1 n && leb n (length l)) (accepted (getD l (n - 1) noAccess)) (refused 4 0)
+unfolding accessNumber require _>>_ _>>=_
+number-is l n = go (leb 1 n) (leb n (length l))
+  where
+    go : (x y : Bool) → require x 4 0 >> require y 4 0 >> accepted (getD l (n - 1) noAccess) ≡ cond (x && y) (accepted (getD l (n - 1) noAccess)) (refused 4 0)
+    go true true = refl
+    go true false = refl
+    go false y = refl
+
+module _ (P : Sheet) (h : SheetIn P) (n : ℕ) (t : Bool) (e : t ≡ (leb 1 n && leb n (P .accesses))) where
+  tests : accessNumber (allAccesses (nestOf P)) n ≡ cond t (accepted (accessOf (nestOf P) (n - 1))) (refused 4 0)
+  tests = number-is (allAccesses (nestOf P)) n
+      ∙ ap (λ (x : ℕ). cond (leb 1 n && leb n x) (accepted (accessOf (nestOf P) (n - 1))) (refused 4 0)) (access-count P h)
+      ∙ ap (λ (x : Bool). cond x (accepted (accessOf (nestOf P) (n - 1))) (refused 4 0)) (sym e)
+
+  no-access : not t ≡ true → accessNumber (allAccesses (nestOf P)) n ≡ refused 4 0
+  no-access z = tests ∙ ap (λ (x : Bool). cond x (accepted (accessOf (nestOf P) (n - 1))) (refused 4 0)) (not-true t z)
+
+  an-access : not t ≡ false → accessNumber (allAccesses (nestOf P)) n ≡ accepted (accessOf (nestOf P) (n - 1))
+  an-access z = tests ∙ ap (λ (x : Bool). cond x (accepted (accessOf (nestOf P) (n - 1))) (refused 4 0)) (not-false t z)
+
+  pub access-there : not t ≡ false → (1 ≤ n) × (n - 1 < P .accesses)
+  access-there z = let b = both (leb 1 n) (leb n (P .accesses)) (sym e ∙ not-false t z) in
+      let x = leb→le 1 n (subst T (sym (b .0)) tt) in let y = leb→le n (P .accesses) (subst T (sym (b .1)) tt) in (x, omega arith)
+
+-- ---- the test
+
+module _ (P : Sheet) (h : SheetIn P) (u : ℕ) (s : Bool) (e : s ≡ (leb 1 u && leb u (P .accesses))) where
+  pub no-first : not s ≡ true → (v : ℕ) → refusal (WordOutOfRange 0) ≡ tested (nestOf P) u v
+  unfolding tested _>>=_
+  no-first z v = sym (ap (_>>= (λ x. accessNumber (allAccesses (nestOf P)) v >>= (λ y. accepted (quickTest (nestOf P .loops) x y)))) (no-access P h u s e z))
+
+  module _ (z : not s ≡ false) (v : ℕ) (t : Bool) (f : t ≡ (leb 1 v && leb v (P .accesses))) where
+    first-passes : tested (nestOf P) u v ≡ (accessNumber (allAccesses (nestOf P)) v >>= (λ y. accepted (quickTest (nestOf P .loops) (accessOf (nestOf P) (u - 1)) y)))
+    unfolding tested _>>=_
+    first-passes = ap (_>>= (λ x. accessNumber (allAccesses (nestOf P)) v >>= (λ y. accepted (quickTest (nestOf P .loops) x y)))) (an-access P h u s e z)
+
+    pub no-second : not t ≡ true → refusal (WordOutOfRange 0) ≡ tested (nestOf P) u v
+    unfolding _>>=_
+    no-second w = sym (first-passes ∙ ap (_>>= (λ y. accepted (quickTest (nestOf P .loops) (accessOf (nestOf P) (u - 1)) y))) (no-access P h v t f w))
+
+    module _ (w : not t ≡ false) where
+      pub test-in : TestIn P (u - 1) (v - 1)
+      test-in = record { sheet = h; first = access-there P h u s e z .1; second = access-there P h v t f w .1 }
+
+      module _ (r : Bool) (g : r ≡ isApart (nestOf P .loops) (accessOf (nestOf P) (u - 1)) (accessOf (nestOf P) (v - 1))) where
+        both-pass : tested (nestOf P) u v ≡ accepted (cond r apart perhaps)
+        unfolding _>>=_ quickTest
+        both-pass = first-passes ∙ ap (_>>= (λ y. accepted (quickTest (nestOf P .loops) (accessOf (nestOf P) (u - 1)) y))) (an-access P h v t f w)
+            ∙ ap (λ (x : Bool). accepted (cond x apart perhaps)) (sym g)
+
+        pub says-apart : r ≡ true → accepted apart ≡ tested (nestOf P) u v
+        says-apart q = sym (both-pass ∙ ap (λ (x : Bool). accepted (cond x apart perhaps)) q)
+
+        pub says-perhaps : r ≡ false → accepted perhaps ≡ tested (nestOf P) u v
+        says-perhaps q = sym (both-pass ∙ ap (λ (x : Bool). accepted (cond x apart perhaps)) q)
+
+-- ---- the entry
+
+module _ (b : List ℕ) (o e : List ℤ) (q : Intake) (h : Admits b o e q) (u v : ℕ) where
+  whole : (decoded (q .status) (ticketOf (q .ticket)) >>= (λ T. tested (T .nest) u v)) ≡ quick b u v
+  unfolding quick tested
+  whole = ap (_>>= (λ T. tested (T .nest) u v)) (h .same)
+
+  pub not-admitted : (r : Refusal) → q .status ≡ Status.Refused r → refusal r ≡ quick b u v
+  unfolding _>>=_
+  not-admitted r s = sym (ap (λ (x : Status). decoded x (ticketOf (q .ticket)) >>= (λ T. tested (T .nest) u v)) s) ∙ whole
+
+  pub sheet-in : q .status ≡ Status.Fine → SheetIn (q .sheet)
+  sheet-in s = h .taken s .sheet
+
+  pub answered : q .status ≡ Status.Fine → (a : Tested) → answerOf a ≡ tested (nestOf (q .sheet)) u v → answerOf a ≡ quick b u v
+  unfolding _>>=_ ticketOf
+  answered s a g = g ∙ ap (λ (N : Model.Nest). tested N u v) (h .taken s .same)
+      ∙ sym (ap (λ (x : Status). decoded x (ticketOf (q .ticket)) >>= (λ T. tested (T .nest) u v)) s) ∙ whole
