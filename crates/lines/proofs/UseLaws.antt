@@ -203,14 +203,32 @@ module _ (P : Sheet) where
       map-append writesOf (usesOf k i m) (usesFrom (suc i) (statementsFrom P (k + m) (suc i) ms))
       ∙ ap₂ _++_ (one-flag (wordsIn P) (ownersIn P) (extentsIn P) (P .depth) i (suc k) m (h m (List·Memᴰ·head refl))) (flags-of (k + m) (suc i) ms (λ x q. h x (List·Memᴰ·tail q)))
 
-  module _ (h : SheetIn P) where
-    pub size-read : (s : ℕ) → s < P .statements → getD (P .sizes) s 0 ≡ getD (sizesIn P) s 0
-    size-read s l = sym (getD-take (P .statements) (P .sizes) s 0 l)
+  module _ (h : SheetIn P) (o : List ℕ) (w : List Bool) (lo : length o ≡ 20) (lw : length w ≡ 20) (e : List ℕ) (v : List Bool) (first s : ℕ) (g : Entered (sizesIn P) o e w v first s) where
+    within : sum (sizesIn P) ≤ 20
+    within = let a = h .all-accesses in let f = h .few-accesses in omega arith
 
-    pub uses-are : (o e : List ℕ) (w v : List Bool) (first s : ℕ) → length o ≡ 20 → length w ≡ 20 → P .statements ≤ s → Entered (sizesIn P) o e w v first s
-        → UsesAre P (record { statements = e; writes = v })
+    module _ (l : s < P .statements) where
+      abbrev size : ℕ
+      size = getD (P .sizes) s 0
+
+      size-is : size ≡ getD (sizesIn P) s 0
+      size-is = sym (getD-take (P .statements) (P .sizes) s 0 l)
+
+      there : s < length (sizesIn P)
+      there = let c = sizes-count P h in omega arith
+
+      pub use-fits : first + size ≤ 20
+      use-fits = let f = within in let n = next-fits (sizesIn P) o w (omega arith) (omega arith) e v first s size there size-is g in omega arith
+
+      pub use-in : EnterIn e v first size
+      use-in = let f = within in next-in (sizesIn P) o w (omega arith) (omega arith) e v first s size there size-is g
+
+      pub use-next : (e′ : List ℕ) (v′ : List Bool) → (e′ ≡ put e first (replicate size s)) × (v′ ≡ put v first (firstWritten size)) → Entered (sizesIn P) o e′ w v′ (first + size) (s + 1)
+      use-next e′ v′ f = let i = within in entered-next (sizesIn P) o w (omega arith) (omega arith) e v first s size there size-is g e′ v′ f
+
+    pub uses-are : P .statements ≤ s → UsesAre P (record { statements = e; writes = v })
     unfolding nestOf
-    uses-are o e w v first s lo lw l g =
+    uses-are l =
         let c = sizes-count P h in let r = entered-all (sizesIn P) o w e v first s (omega arith) g in let q = h .all-accesses in record {
       statements = ap (λ (i : ℕ). take i e) (sym q) ∙ r .0 ∙ sym (numbers-of 0 0 (sizesIn P) (h .each));
       writes = ap (λ (i : ℕ). take i v) (sym q) ∙ r .1 ∙ sym (flags-of 0 0 (sizesIn P) (h .each));
