@@ -1,2 +1,3 @@
 -- Laws that the crate's contracts need.
 pub mod UseLaws
+pub mod MarkLaws

@@ -4,6 +4,7 @@ ghost use lib.ListN.{length, replicate};
 ghost use Rattle.lists.specs.Parts.{put};
 ghost use Rattle.sheet.specs.Sheets.{SheetIn};
 ghost use Rattle.lines.specs.Uses.{firstWritten, EnterIn, UsesAre};
+ghost use Rattle.lines.specs.Lines.{LinesIn, LinesAre};
 use sheet::Sheet;
 
 // Of each access its statement, counted from 0, and whether it is the one that is written.
@@ -45,4 +46,27 @@ fn uses_of(sheet: Sheet) -> Uses
         statements: statements,
         writes: writes,
     }
+}
+
+// Marks every line of the nest's listing, where the dependence search lays its mark.
+pub fn mark_lines(sheet: Sheet, points: &[i64], count: usize, marks: &mut [bool])
+    requires { ⌜ LinesIn sheet (now points) count (now marks) ⌝ }
+    ensures { λ _. ⌜ LinesAre sheet (now (marks .exit)) × (length (now (marks .exit)) ≡ length (now (marks .entry))) ⌝ }
+{
+    let mut numbers = [0u16; 81920];
+    sheet::number_accesses(sheet, points, count, &mut numbers);
+    let uses = uses_of(sheet);
+    let statements = uses.statements;
+    let writes = uses.writes;
+    let accesses = sheet.accesses;
+    dependence::dependences(
+        points,
+        sheet.depth,
+        count,
+        &numbers,
+        &statements[..accesses],
+        &writes[..accesses],
+        sheet.statements,
+        marks,
+    );
 }
