@@ -2,9 +2,11 @@
 ghost use mathlib.Core.Path.{_≡_};
 ghost use lib.ListN.{length, replicate};
 ghost use Rattle.lists.specs.Parts.{put};
+ghost use Rattle.listing_text.specs.Text.{Marks};
 ghost use Rattle.sheet.specs.Sheets.{SheetIn};
 ghost use Rattle.lines.specs.Uses.{firstWritten, EnterIn, UsesAre};
-ghost use Rattle.lines.specs.Lines.{LinesIn, LinesAre};
+ghost use Rattle.lines.specs.Lines.{LinesIn, LinesAre, Shows};
+use directions::DirectionSet;
 use sheet::Sheet;
 
 // Of each access its statement, counted from 0, and whether it is the one that is written.
@@ -69,4 +71,19 @@ pub fn mark_lines(sheet: Sheet, points: &[i64], count: usize, marks: &mut [bool]
         sheet.statements,
         marks,
     );
+}
+
+// The vectors of the lines that are marked: a row of 729 marks for each source, sink and kind.
+pub fn directions_of(marks: &[bool], n: usize, depth: usize) -> DirectionSet
+    requires { ⌜ Marks (now marks) n depth ⌝ }
+    ensures { λ r. ⌜ Shows (now (marks .entry)) n depth r ⌝ }
+{
+    let blocks = n * n * 3;
+    let mut set = directions::empty(depth);
+    let mut b = 0;
+    while b < blocks {
+        set = directions::merged(set, &marks[b * 729..b * 729 + 729]);
+        b += 1;
+    }
+    set
 }
