@@ -166,9 +166,9 @@ module _ (marks : List Bool) (n d : ℕ) (h : d ≤ 6) where
   pub merge-all : (s : DirectionSet) (b : ℕ) → n * n * 3 ≤ b → Merging marks d (n * n * 3) s b → Shows marks n d s
   merge-all s b l g =
       let q = g .bound in let e : b ≡ n * n * 3 = omega arith in record {
-    depth = g .depth;
-    vectors = members-trans (subst (λ (i : ℕ). SameMembers (vectorsOf s) (flatMap (λ (r : List Bool). vectorsIn r d) (rows 729 i marks))) e (g .vectors)) rows-lines;
-  }
+        depth = g .depth;
+        vectors = members-trans (subst (λ (i : ℕ). SameMembers (vectorsOf s) (flatMap (λ (r : List Bool). vectorsIn r d) (rows 729 i marks))) e (g .vectors)) rows-lines;
+      }
 
 -- ---- the directions of a nest
 

@@ -8,7 +8,7 @@ use native.Mathlib.Omega.{arith}
 use native.Mathlib.Nat.{zero-add}
 use lib.Dec.{T, eqb, eqb→eq, eqb-refl}
 use lib.IntN.{ℤ}
-use lib.ListN.{length, getD, take, length-map, List·getD-map}
+use lib.ListN.{length, getD, take, replicate, length-map, length-replicate, List·getD-map}
 use lib.Seq.{length-take-le}
 use Rattle.lists.specs.Membership.{Mem}
 use Rattle.lists.specs.Order.{Ordered}
@@ -19,7 +19,9 @@ use Rattle.lists.proofs.PartLaws.{rows-getD}
 use Rattle.lists.proofs.TestLaws.{T-same, equal-test}
 use Rattle.model.specs.Ticket.{Access, Statement}
 use Rattle.model.specs.Points.{iterations}
-use Rattle.model.specs.Bounds.{accessesOf}
+use Rattle.model.specs.Answer.{accepted}
+use Rattle.model.specs.Bounds.{accessesOf, admitted}
+use Rattle.model.specs.Shape.{WellFormed}
 use Rattle.model.specs.Machine.{Element, same, element, accesses}
 use Rattle.model.specs.Store.{placeOf}
 use Rattle.model.specs.Entries.{allAccesses}
@@ -28,6 +30,7 @@ use Rattle.model.specs.Directions.{Line, occurs, allLines, lines}
 use Rattle.model.specs.Listing.{linesOf, listing, headText, lineText}
 use Rattle.model.proofs.Machine.ElementLaws.{same-decides}
 use Rattle.model.proofs.Points.PointLaws.{iterations-rise}
+use Rattle.model.proofs.Verdict.VerdictLaws.{admitted-accepted}
 use Rattle.model.proofs.Store.PlaceLaws.{Valid, place-injective}
 use Rattle.dependence.specs.Search.{row}
 use Rattle.dependence.specs.Numbers.{place}
@@ -97,6 +100,24 @@ module _ (P : Sheet) (h : SheetIn P) where
 
   pub writes-count : (r : Uses) → UsesAre P r → length (take (P .accesses) (r .writes)) ≡ P .accesses
   writes-count r u = let l = u .writes-length in let f = h .few-accesses in length-take-le (P .accesses) (r .writes) (omega arith)
+
+-- ---- the points of an admitted nest, and marks as they are made
+
+pub clear-marks : (n j : ℕ) → getD (replicate n false) j false ≡ false
+clear-marks zero j = refl
+clear-marks (suc n) zero = refl
+clear-marks (suc n) (suc j) = clear-marks n j
+
+pub lines-in : (P : Sheet) (points : List ℤ) (n : ℕ) → SheetIn P → PointsAre P points n → WellFormed (nestOf P) → admitted (nestOf P) ≡ accepted tt → LinesIn P points n (replicate 34992 false)
+lines-in P points n h p f a = record {
+  stray = record { sheet = h; points-are = p };
+  formed = f;
+  inside = admitted-accepted (nestOf P) a .1;
+  clear = clear-marks 34992;
+  room = omega (arith, length-replicate {A = Bool} 34992 false);
+}
+
+-- ---- what the search is lent
 
 module _ (P : Sheet) (points : List ℤ) (n : ℕ) (marks : List Bool) (h : LinesIn P points n marks) where
   abbrev sheet-in : SheetIn P

@@ -57,12 +57,12 @@ module _ (o : List ℕ) (w : List Bool) (first size s : ℕ) where
       → Entering o (set e (first + k) s) w (set v (first + k) (eqb k 0)) first size s (k + 1)
   enter-next h e v k l g =
       let a = h .statements in let b = h .writes in let c = length-replicate k s in let d = written-length k in record {
-    bound = omega arith;
-    statements = ap₂ (λ (x : List ℕ) (i : ℕ). set x (first + i) s) (g .statements) (sym c) ∙ set-put o first (replicate k s) s (omega arith) ∙ ap (put o first) (sym (replicate-snoc k s));
-    writes = ap₂ (λ (x : List Bool) (i : ℕ). set x (first + i) (eqb k 0)) (g .writes) (sym d) ∙ set-put w first (firstWritten k) (eqb k 0) (omega arith) ∙ ap (put w first) (sym (written-snoc k));
-    statements-length = length-set e (first + k) s ∙ g .statements-length;
-    writes-length = length-set v (first + k) (eqb k 0) ∙ g .writes-length;
-  }
+        bound = omega arith;
+        statements = ap₂ (λ (x : List ℕ) (i : ℕ). set x (first + i) s) (g .statements) (sym c) ∙ set-put o first (replicate k s) s (omega arith) ∙ ap (put o first) (sym (replicate-snoc k s));
+        writes = ap₂ (λ (x : List Bool) (i : ℕ). set x (first + i) (eqb k 0)) (g .writes) (sym d) ∙ set-put w first (firstWritten k) (eqb k 0) (omega arith) ∙ ap (put w first) (sym (written-snoc k));
+        statements-length = length-set e (first + k) s ∙ g .statements-length;
+        writes-length = length-set v (first + k) (eqb k 0) ∙ g .writes-length;
+      }
 
   pub enter-all : (e : List ℕ) (v : List Bool) (k : ℕ) → size ≤ k → Entering o e w v first size s k → (e ≡ put o first (replicate size s)) × (v ≡ put w first (firstWritten size))
   enter-all e v k l g = let b = g .bound in let q : k ≡ size = omega arith in
@@ -149,8 +149,7 @@ module _ (ms o : List ℕ) (w : List Bool) where
   unfolding sum
   entered-all e v first s l g =
       let r = g .room in let t = take-all s ms l in let z : sum (drop s ms) ≡ 0 = ap sum (drop-of-length-le ms l) in
-      let all-in : first ≡ sum ms = omega arith in
-      (
+      let all-in : first ≡ sum ms = omega arith in (
         ap (take (sum ms)) (g .statements) ∙ front o (statementNumbers 0 (take s ms)) (sum ms) (g .statements-end ∙ all-in) ∙ ap (statementNumbers 0) t,
         ap (take (sum ms)) (g .writes) ∙ front w (writtenIn (take s ms)) (sum ms) (g .writes-end ∙ all-in) ∙ ap writtenIn t,
       )
@@ -230,8 +229,8 @@ module _ (P : Sheet) where
     unfolding nestOf
     uses-are l =
         let c = sizes-count P h in let r = entered-all (sizesIn P) o w e v first s (omega arith) g in let q = h .all-accesses in record {
-      statements = ap (λ (i : ℕ). take i e) (sym q) ∙ r .0 ∙ sym (numbers-of 0 0 (sizesIn P) (h .each));
-      writes = ap (λ (i : ℕ). take i v) (sym q) ∙ r .1 ∙ sym (flags-of 0 0 (sizesIn P) (h .each));
-      statements-length = g .statements-length ∙ lo;
-      writes-length = g .writes-length ∙ lw;
-    }
+          statements = ap (λ (i : ℕ). take i e) (sym q) ∙ r .0 ∙ sym (numbers-of 0 0 (sizesIn P) (h .each));
+          writes = ap (λ (i : ℕ). take i v) (sym q) ∙ r .1 ∙ sym (flags-of 0 0 (sizesIn P) (h .each));
+          statements-length = g .statements-length ∙ lo;
+          writes-length = g .writes-length ∙ lw;
+        }

@@ -7,9 +7,6 @@ use Rattle.sheet.specs.Sheets.{sizesIn}
 use Rattle.lines.proofs.UseLaws.{Entered, entered-none, use-fits, use-in, use-next, uses-are}
 use Rattle.lines.proofs.uses_of.Statement.{statement}
 use Rattle.lines.proofs.uses_of.Tie as tie
-use Rattle.lines.proofs.uses_of.Reads as reads
-use Rattle.lines.proofs.uses_of.Lts as lts
-use Rattle.lines.proofs.enter.Reads as enter-reads
 
 abbrev Inv-loop : tie.InvT-loop
 Inv-loop sheet sizes statements₀ writes₀ first₀ s₀ statements writes first s = Entered (sizesIn sheet) statements₀ statements writes₀ writes first s
@@ -17,47 +14,36 @@ Inv-loop sheet sizes statements₀ writes₀ first₀ s₀ statements writes fir
 abbrev μ-loop : tie.MeasureT-loop
 μ-loop sheet sizes statements₀ writes₀ first₀ s₀ statements writes first s = sheet .statements - s
 
--- src/lib.rt:38:5
 loop-holds : tie.Need-loop-holds Inv-loop μ-loop
 loop-holds c = let P = c .before .args .sheet in entered-none (sizesIn P) _ _
 
--- src/lib.rt:39:20
 mul-size : tie.Need-mul-size Inv-loop μ-loop
 mul-size c = search needs
 
--- src/lib.rt:39:20
 array-read-size : tie.Need-array-read-size Inv-loop μ-loop
 array-read-size c = search needs
 
--- src/lib.rt:40:15
 slice-aggregate-enter : tie.Need-slice-aggregate-enter Inv-loop μ-loop
 slice-aggregate-enter c = search needs
 
--- src/lib.rt:40:32
 slice-aggregate-enter-2 : tie.Need-slice-aggregate-enter-2 Inv-loop μ-loop
 slice-aggregate-enter-2 c = search needs
 
--- src/lib.rt:40:9
 enter-requires : tie.Need-enter-requires Inv-loop μ-loop
 enter-requires c κs = let s = c .before .before .before .before .before .before in let l = c .before .before .before .before .loop in use-in (s .args .sheet) (s .pre) _ _ refl refl (l .statements) (l .writes) (l .first) (l .s) (l .inv) (c .before .before .if1 .taken)
 
--- src/lib.rt:41:9
 add-first : tie.Need-add-first Inv-loop μ-loop
 add-first c = let s = c .before .before .before .before .before .before .before .before .before in let l = c .before .before .before .before .before .before .before .loop in let f = use-fits (s .args .sheet) (s .pre) _ _ refl refl (l .statements) (l .writes) (l .first) (l .s) (l .inv) (c .before .before .before .before .before .if1 .taken) in omega arith
 
--- src/lib.rt:42:9
 add-s : tie.Need-add-s Inv-loop μ-loop
 add-s c = search needs
 
--- src/lib.rt:38:5
 loop-less : tie.Need-loop-less Inv-loop μ-loop
 loop-less c = search needs
 
--- src/lib.rt:38:5
 loop-again : tie.Need-loop-again Inv-loop μ-loop
 loop-again c = let s = c .before .before .before .before .before .before .before .before .before in let l = c .before .before .before .before .before .before .before .loop in use-next (s .args .sheet) (s .pre) _ _ refl refl (l .statements) (l .writes) (l .first) (l .s) (l .inv) (c .before .before .before .before .before .if1 .taken) _ _ (c .before .before .enter .ensures)
 
--- src/lib.rt:29:1
 returns : tie.Need-returns Inv-loop μ-loop
 returns c = let s = c .before .before .before .before in let l = c .before .before .loop in uses-are (s .args .sheet) (s .pre) _ _ refl refl (l .statements) (l .writes) (l .first) (l .s) (l .inv) (c .if1 .left)
 
