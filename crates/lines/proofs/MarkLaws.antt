@@ -1,18 +1,17 @@
--- What the search of dependences is lent on a sheet: the flat data are those of the nest (`describes`), and as the search asks (`ready`).
--- Then what it marks: the lines of the nest's listing (`lines-are`), whose text is the listing (`listing-is`).
+-- The lines of a nest, marked on its sheet. In order: equal places are equal elements; the accesses of the model's uses; what `mark_lines` asks is
+-- met (`lines-in`); what the search is lent describes the nest (`describes`) and is as it asks (`ready`); what it marks are the lines of the
+-- nest's listing (`lines-are`); their text is the listing (`listing-is`).
 use mathlib.Core.Path.{_≡_, refl, sym, _∙_, ap, ap₂, subst}
 use mathlib.Core.Bool.{Bool, true, false, _||_}
 use mathlib.Core.List.{List, [], _∷_, _++_, map, flatMap, map-append, List·Memᴰ·head, List·Memᴰ·tail}
-use Prim.Native.Nat.{ℕ, zero, suc, _+_, _*_, _≤_, _<_}
+use Prim.Native.Nat.{ℕ, zero, suc, _+_, _<_}
 use native.Mathlib.Omega.{arith}
-use native.Mathlib.Nat.{zero-add}
 use lib.Dec.{T, eqb, eqb→eq, eqb-refl}
 use lib.IntN.{ℤ}
 use lib.ListN.{length, getD, take, replicate, length-map, length-replicate, List·getD-map}
 use lib.Seq.{length-take-le}
 use Rattle.lists.specs.Membership.{Mem}
 use Rattle.lists.specs.Order.{Ordered}
-use Rattle.lists.specs.Parts.{rows}
 use Rattle.lists.specs.Tests.{select}
 use Rattle.lists.proofs.MembershipLaws.{getD-mem}
 use Rattle.lists.proofs.PartLaws.{rows-getD}
@@ -34,13 +33,13 @@ use Rattle.model.proofs.Verdict.VerdictLaws.{admitted-accepted}
 use Rattle.model.proofs.Store.PlaceLaws.{Valid, place-injective}
 use Rattle.dependence.specs.Search.{row}
 use Rattle.dependence.specs.Numbers.{place}
-use Rattle.dependence.specs.Flat.{Flat, flat, numberAt, statementOf, pointAt, pointsOf, Use, use·of, usesFrom, uses, noUse, useAt, Describes, Ready, Searched}
+use Rattle.dependence.specs.Flat.{Flat, flat, statementOf, pointAt, Use, use·of, usesFrom, uses, noUse, useAt, Describes, Ready, Searched}
 use Rattle.dependence.proofs.UseLaws.{uses-of}
-use Rattle.listing_text.specs.Text.{marked, shown, text, Marks}
+use Rattle.listing_text.specs.Text.{marked, shown, text}
 use Rattle.listing_text.proofs.IndexLaws.{count-small}
 use Rattle.sheet.specs.declared.Sheet.{Sheet}
 use Rattle.sheet.specs.Sheets.{sizesIn, statementsFrom, nestOf, SheetIn}
-use Rattle.sheet.specs.Stages.{PointsAre, StrayIn, NumberIn, NumbersAre, noAccess, accessOf}
+use Rattle.sheet.specs.Stages.{PointsAre, NumberIn, NumbersAre, noAccess, accessOf}
 use Rattle.sheet.proofs.SheetLaws.{access-count, sizes-count}
 use Rattle.sheet.proofs.StageLaws.{depth-is, access-valid}
 use Rattle.lines.specs.declared.Uses.{Uses}
@@ -53,11 +52,6 @@ place-same : (as′ : List (List ℕ)) (e f : Element) → Valid as′ e → Val
 place-same as′ e f v u = T-same (eqb (placeOf as′ e) (placeOf as′ f)) (same e f)
     (λ h. equal-test same same-decides e f (place-injective as′ e f v u (eqb→eq (placeOf as′ e) (placeOf as′ f) h)))
     (λ h. subst (λ (p : ℕ). T (eqb (placeOf as′ e) p)) (ap (placeOf as′) (same-decides .equal e f h)) (eqb-refl (placeOf as′ e)))
-
-select-same : (t u : Line → Bool) (l : List Line) → ((x : Line) → Mem x l → t x ≡ u x) → select t l ≡ select u l
-unfolding select
-select-same t u [] h = refl
-select-same t u (x ∷ l) h = rw (h x (List·Memᴰ·head refl), select-same t u l (λ y m. h y (List·Memᴰ·tail m)))
 
 -- ---- the accesses of the uses
 
@@ -100,6 +94,12 @@ module _ (P : Sheet) (h : SheetIn P) where
 
   pub writes-count : (r : Uses) → UsesAre P r → length (take (P .accesses) (r .writes)) ≡ P .accesses
   writes-count r u = let l = u .writes-length in let f = h .few-accesses in length-take-le (P .accesses) (r .writes) (omega arith)
+
+-- tests that agree on the members
+select-same : (t u : Line → Bool) (l : List Line) → ((x : Line) → Mem x l → t x ≡ u x) → select t l ≡ select u l
+unfolding select
+select-same t u [] h = refl
+select-same t u (x ∷ l) h = rw (h x (List·Memᴰ·head refl), select-same t u l (λ y m. h y (List·Memᴰ·tail m)))
 
 -- ---- the points of an admitted nest, and marks as they are made
 

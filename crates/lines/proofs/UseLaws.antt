@@ -2,27 +2,25 @@
 use mathlib.Core.Path.{_≡_, refl, sym, _∙_, ap, ap₂}
 use mathlib.Core.Bool.{Bool, true, false}
 use mathlib.Core.List.{List, [], _∷_, _++_, map, append-assoc, append-nil, map-append, List·Memᴰ·head, List·Memᴰ·tail}
-use Prim.Native.Nat.{ℕ, zero, suc, _+_, _*_, _-_, _≤_, _<_}
+use Prim.Native.Nat.{ℕ, zero, suc, _+_, _-_, _≤_, _<_}
 use native.Mathlib.Omega.{arith}
 use native.Mathlib.Nat.{zero-add, add-zero, suc-add, add-suc}
 use native.Mathlib.Numerals.{add-one}
 use lib.Dec.{eqb}
 use borrow.Author.Tests.{ne-eqb}
 use lib.IntN.{ℤ}
-use lib.ListN.{length, getD, take, drop, set, replicate, length-append, length-set, length-map, length-replicate, replicate-append-replicate, drop-of-length-le}
+use lib.ListN.{length, getD, take, drop, set, replicate, length-append, length-set, length-replicate, replicate-append-replicate, drop-of-length-le}
 use lib.Seq.{take-suc, take-all, getD-take, length-take-le}
 use Rattle.lists.specs.Membership.{All}
 use Rattle.lists.specs.Parts.{put}
 use Rattle.lists.proofs.PartLaws.{put-nil, put-put, set-put, take-put-end, length-put}
-use Rattle.model.specs.Ticket.{Access, Statement}
 use Rattle.model.specs.Store.{sum}
 use Rattle.elements.specs.Layout.{accessAt, accessesFrom}
 use Rattle.elements.proofs.LayoutLaws.{sum-drop}
-use Rattle.dependence.specs.Flat.{Use, use·of, usesFrom, uses}
+use Rattle.dependence.specs.Flat.{Use, use·of, usesFrom}
 use Rattle.sheet.specs.declared.Sheet.{Sheet}
 use Rattle.sheet.specs.Sheets.{sizesIn, wordsIn, ownersIn, extentsIn, statementsFrom, nestOf, SheetIn}
 use Rattle.sheet.proofs.SheetLaws.{sizes-count}
-use Rattle.lines.specs.declared.Uses.{Uses}
 use Rattle.lines.specs.Uses.{firstWritten, writtenIn, statementNumbers, EnterIn, UsesAre}
 
 -- ---- one access more

@@ -1,6 +1,5 @@
 -- `enter`: one access after the other.
 use Prim.Native.Nat.{_-_}
-use native.Mathlib.Omega.{arith}
 use borrow.Author.Needs.{needs}
 use Rattle.lines.proofs.UseLaws.{Entering, enter-none, enter-next, enter-all}
 use Rattle.lines.proofs.enter.Statement.{statement}
