@@ -1,0 +1,177 @@
+-- The vectors of all rows of marks are those of the lines that are marked. In order: one number of a vector for both crates; a row of marks;
+-- rows merged one by one; the rows of all lines; the directions of a nest.
+use mathlib.Core.Path.{_≡_, refl, sym, _∙_, ap, ap₂, subst}
+use mathlib.Core.Bool.{Bool, false}
+use mathlib.Core.Logic.{⊎-elim}
+use mathlib.Core.List.{List, [], _∷_, _++_, map, flatMap, List·Memᴰ·append-cases, Memᴰ·append-left, Memᴰ·append-right, Memᴰ·map, Memᴰ·of-map}
+use Prim.Native.Nat.{ℕ, zero, suc, _+_, _*_, _-_, _/_, _%_, _≤_, _<_}
+use native.Mathlib.Omega.{arith}
+use native.Mathlib.Numerals.{add-one}
+use lib.Dec.{T}
+use lib.ListN.{length, getD, take, drop, replicate, length-take, length-drop}
+use lib.Seq.{getD-take, getD-drop}
+use Rattle.integers.specs.Sign.{Sign, less, equal, greater}
+use Rattle.lists.specs.Membership.{Mem, SameMembers}
+use Rattle.lists.specs.Parts.{rows}
+use Rattle.lists.proofs.MembershipLaws.{mem-getD, getD-mem, members-trans}
+use Rattle.lists.proofs.FlatMapLaws.{flatMap-mem, mem-flatMap, flatMap-snoc}
+use Rattle.lists.proofs.PartLaws.{length-rows, rows-suc, rows-getD, row-fits}
+use Rattle.lists.proofs.TestLaws.{select-mem, mem-select}
+use Rattle.model.specs.Directions.{Kind, flow, anti, output, Line, allLines}
+use Rattle.model.specs.Judge.{directionsOf}
+use Rattle.model.proofs.Listing.LineOrderLaws.{allLines-mem, mem-allLines}
+use Rattle.model.proofs.Listing.ListingLaws.{linesOf-merged}
+use Rattle.dependence.specs.Numbers as Dependence
+use Rattle.dependence.specs.Numbers.{digit, numberAfter, kindNumber, place}
+use Rattle.listing_text.specs.Text as Text
+use Rattle.listing_text.specs.Text.{shown, Marks}
+use Rattle.listing_text.proofs.IndexLaws.{split, count-small}
+use Rattle.directions.specs.Numbers.{number}
+use Rattle.directions.specs.Sets.{marked, vectorsIn, vectorsOf, Empty, Merged}
+use Rattle.directions.specs.declared.DirectionSet.{DirectionSet}
+use Rattle.directions.proofs.NumberLaws.{number-below}
+use Rattle.directions.proofs.HornerLaws.{horner, number-horner}
+use Rattle.directions.proofs.SetLaws.{vectorsIn-mem, mem-vectorsIn}
+use Rattle.sheet.specs.declared.Sheet.{Sheet}
+use Rattle.sheet.specs.Sheets.{nestOf}
+use Rattle.lines.specs.Lines.{LinesAre, Shows}
+
+-- ---- the number of a vector
+
+horner-after : (n : ℕ) (v : List Sign) → horner n v ≡ numberAfter n v
+unfolding horner numberAfter digit
+horner-after n [] = refl
+horner-after n (less ∷ v) = horner-after (n * 3 + 0) v
+horner-after n (equal ∷ v) = horner-after (n * 3 + 1) v
+horner-after n (greater ∷ v) = horner-after (n * 3 + 2) v
+
+one-number : (v : List Sign) → length v ≤ 6 → number v ≡ Dependence.number v
+unfolding Dependence.number
+one-number v h = number-horner v h ∙ horner-after 0 (v ++ replicate (6 - length v) equal)
+
+-- ---- a row of marks
+
+abbrev rowOf : List Bool → ℕ → List Bool
+rowOf marks b = take 729 (drop (b * 729) marks)
+
+row-marked : (marks : List Bool) (b : ℕ) (v : List Sign) → length v ≤ 6 → marked (rowOf marks b) v ≡ getD marks (b * 729 + Dependence.number v) false
+row-marked marks b v h =
+    getD-take 729 (drop (b * 729) marks) (number v) false (number-below v) ∙ getD-drop (b * 729) marks (number v) false
+    ∙ ap (λ (i : ℕ). getD marks (b * 729 + i) false) (one-number v h)
+
+module _ (marks : List Bool) (n d : ℕ) (h : Marks marks n d) where
+  pub blocks-few : (n * n ≤ 16) × (n * n * 3 ≤ 48)
+  blocks-few = let a = count-small n 729 (h .statements) (omega arith) .0 in (a, omega arith)
+
+  pub row-ends : (b : ℕ) → b < n * n * 3 → (b < 48) × (b * 729 + 729 ≤ length marks)
+  row-ends b l = let r = h .room in let f = blocks-few .1 in (omega arith, omega arith)
+
+  pub row-length : (b : ℕ) → b < n * n * 3 → length (take (b * 729 + 729 - b * 729) (drop (b * 729) marks)) ≡ 729
+  row-length b l = let r = row-ends b l .1 in simp (length-take, length-drop) (omega arith)
+
+-- ---- rows merged one by one
+
+pub record Merging (marks : List Bool) (d blocks : ℕ) (s : DirectionSet) (b : ℕ) : Type 0 where
+  pub bound : b ≤ blocks
+  pub depth : s .depth ≡ d
+  pub vectors : SameMembers (vectorsOf s) (flatMap (λ (r : List Bool). vectorsIn r d) (rows 729 b marks))
+
+members-more : {A : Type 0} {l m : List A} (n : List A) → SameMembers l m → SameMembers (l ++ n) (m ++ n)
+members-more {l = l} {m = m} n s = record {
+  into = λ x i. ⊎-elim (λ j. Memᴰ·append-left n (s .into x j)) (λ j. Memᴰ·append-right m j) (List·Memᴰ·append-cases l i);
+  from = λ x i. ⊎-elim (λ j. Memᴰ·append-left n (s .from x j)) (λ j. Memᴰ·append-right l j) (List·Memᴰ·append-cases m i);
+}
+
+module _ (marks : List Bool) (d blocks : ℕ) where
+  pub merge-none : (s : DirectionSet) → Empty d s → Merging marks d blocks s 0
+  unfolding rows flatMap
+  merge-none s e = record { bound = omega arith; depth = e .depth; vectors = record { into = λ v m. subst (Mem v) (e .vectors) m; from = λ v m. subst (Mem v) (sym (e .vectors)) m } }
+
+  pub merge-next : (s r : DirectionSet) (b : ℕ) → b < blocks → Merging marks d blocks s b → Merged (take (b * 729 + 729 - b * 729) (drop (b * 729) marks)) s r → Merging marks d blocks r (b + 1)
+  merge-next s r b h g m = record {
+    bound = omega arith;
+    depth = m .depth ∙ g .depth;
+    vectors = subst (SameMembers (vectorsOf r)) one-more (members-trans (m .vectors) (members-more (vectorsIn row (s .depth)) (g .vectors)));
+  }
+    where
+      row : List Bool
+      row = take (b * 729 + 729 - b * 729) (drop (b * 729) marks)
+
+      row-is : row ≡ rowOf marks b
+      row-is = ap (λ (i : ℕ). take i (drop (b * 729) marks)) (let q : b * 729 + 729 - b * 729 ≡ 729 = omega arith in q)
+
+      one-more : flatMap (λ (x : List Bool). vectorsIn x d) (rows 729 b marks) ++ vectorsIn row (s .depth) ≡ flatMap (λ (x : List Bool). vectorsIn x d) (rows 729 (b + 1) marks)
+      one-more =
+          ap₂ (λ (x : List Bool) (i : ℕ). flatMap (λ (y : List Bool). vectorsIn y d) (rows 729 b marks) ++ vectorsIn x i) row-is (g .depth)
+          ∙ sym (flatMap-snoc (λ (x : List Bool). vectorsIn x d) (rows 729 b marks) (rowOf marks b))
+          ∙ ap (flatMap (λ (x : List Bool). vectorsIn x d)) (sym (rows-suc 729 b marks) ∙ ap (λ (i : ℕ). rows 729 i marks) (sym (add-one b)))
+
+-- ---- the rows of all lines
+
+kind-at : (k : ℕ) → k < 3 → (q : Kind) × (kindNumber q ≡ k)
+kind-at zero h = (flow, refl)
+kind-at (suc zero) h = (anti, refl)
+kind-at (suc (suc zero)) h = (output, refl)
+kind-at (suc (suc (suc k))) h = absurd (omega arith)
+
+kind-below : (q : Kind) → kindNumber q < 3
+kind-below flow = omega arith
+kind-below anti = omega arith
+kind-below output = omega arith
+
+abbrev vectorOf : Line → List Sign
+vectorOf l = l .vector
+
+module _ (marks : List Bool) (n d : ℕ) (h : d ≤ 6) where
+  into-lines : (b : ℕ) (v : List Sign) → b < n * n * 3 → length v ≡ d → T (marked (rowOf marks b) v) → Mem v (map vectorOf (shown marks n d))
+  unfolding shown Text.marked place
+  into-lines b v g l t =
+      let p = split b 3 (n * n) g in
+      let q = split (b / 3) n n (p .quotient) in
+      let k = kind-at (b % 3) (p .rest) in
+      let x : Line = record { kind = k .0; source = b / 3 / n; sink = b / 3 % n; vector = v } in
+      let a = p .is in let c = q .is in let e = k .1 in
+      let w : place n x ≡ b * 729 + Dependence.number v = omega arith in
+      Memᴰ·map vectorOf (mem-select (Text.marked marks n) (allLines n d) (mem-allLines n d x (q .quotient) (q .rest) l)
+      (subst (λ (i : ℕ). T (getD marks i false)) (sym w) (subst T (row-marked marks b v (omega arith)) t)))
+
+  from-lines : (v : List Sign) → Mem v (map vectorOf (shown marks n d)) → (b : ℕ) × (b < n * n * 3) × (length v ≡ d) × T (marked (rowOf marks b) v)
+  unfolding shown Text.marked place
+  from-lines v m =
+      let r = Memᴰ·of-map vectorOf (shown marks n d) m in
+      let x = r .0 in
+      let s = select-mem (Text.marked marks n) (allLines n d) (r .1) in
+      let a = allLines-mem n d (s .0) in
+      let l : length v ≡ d = sym (ap length (r .2)) ∙ a .2 in
+      let k = kind-below (x .kind) in let f = row-fits n (x .source) n (a .0) in let i = a .1 in
+      let b = (x .source * n + x .sink) * 3 + kindNumber (x .kind) in
+      (b, omega arith, l, subst T (ap (λ (u : List Sign). getD marks (b * 729 + Dependence.number u) false) (r .2) ∙ sym (row-marked marks b v (omega arith))) (s .1))
+
+  pub rows-lines : SameMembers (flatMap (λ (r : List Bool). vectorsIn r d) (rows 729 (n * n * 3) marks)) (map vectorOf (shown marks n d))
+  rows-lines = record {
+    into = λ v m.
+        let r = flatMap-mem (λ (x : List Bool). vectorsIn x d) (rows 729 (n * n * 3) marks) m in
+        let g = mem-getD [] (r .1) in
+        let a = length-rows 729 (n * n * 3) marks in let i = g .1 in
+        let e : r .0 ≡ rowOf marks (g .0) = sym (g .2) ∙ rows-getD 729 (n * n * 3) marks (g .0) [] (omega arith) in
+        let q = vectorsIn-mem (r .0) d (r .2) in
+        into-lines (g .0) v (omega arith) (q .0) (subst (λ (x : List Bool). T (marked x v)) e (q .1));
+    from = λ v m.
+        let r = from-lines v m in
+        let a = length-rows 729 (n * n * 3) marks in let i = r .1 in
+        mem-flatMap (λ (x : List Bool). vectorsIn x d) (rows 729 (n * n * 3) marks) (getD-mem (rows 729 (n * n * 3) marks) (r .0) [] (omega arith))
+        (subst (λ (x : List Bool). Mem v (vectorsIn x d)) (sym (rows-getD 729 (n * n * 3) marks (r .0) [] i)) (mem-vectorsIn (rowOf marks (r .0)) d v (r .2) (r .3)));
+  }
+
+  pub merge-all : (s : DirectionSet) (b : ℕ) → n * n * 3 ≤ b → Merging marks d (n * n * 3) s b → Shows marks n d s
+  merge-all s b l g =
+      let q = g .bound in let e : b ≡ n * n * 3 = omega arith in record {
+        depth = g .depth;
+        vectors = members-trans (subst (λ (i : ℕ). SameMembers (vectorsOf s) (flatMap (λ (r : List Bool). vectorsIn r d) (rows 729 i marks))) e (g .vectors)) rows-lines;
+      }
+
+-- ---- the directions of a nest
+
+pub directions-are : (P : Sheet) (marks : List Bool) (r : DirectionSet) → LinesAre P marks → Shows marks (P .statements) (P .depth) r → SameMembers (vectorsOf r) (directionsOf (nestOf P))
+directions-are P marks r l s = members-trans (s .vectors) (subst (λ (ls : List Line). SameMembers (map vectorOf ls) (directionsOf (nestOf P))) (sym (l .lines))
+    (record { into = λ v m. linesOf-merged (nestOf P) v .0 m; from = λ v m. linesOf-merged (nestOf P) v .1 m }))

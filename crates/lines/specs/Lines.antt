@@ -1,0 +1,38 @@
+-- The marks of a nest's lines, and the directions that they show.
+use mathlib.Core.Path.{_≡_}
+use mathlib.Core.Bool.{Bool, false}
+use mathlib.Core.List.{List, map}
+use Prim.Native.Nat.{ℕ, _≤_}
+use lib.IntN.{ℤ}
+use lib.ListN.{length, getD}
+use Rattle.lists.specs.Membership.{SameMembers}
+use Rattle.model.specs.Answer.{accepted}
+use Rattle.model.specs.Points.{iterations}
+use Rattle.model.specs.Bounds.{inArrays}
+use Rattle.model.specs.Shape.{WellFormed}
+use Rattle.model.specs.Directions.{Line}
+use Rattle.model.specs.Listing.{linesOf}
+use Rattle.listing_text.specs.Text.{shown, Marks}
+use Rattle.directions.specs.declared.DirectionSet.{DirectionSet}
+use Rattle.directions.specs.Sets.{vectorsOf}
+use Rattle.sheet.specs.declared.Sheet.{Sheet}
+use Rattle.sheet.specs.Sheets.{nestOf}
+use Rattle.sheet.specs.Stages.{StrayIn}
+
+-- n points of an admitted nest, and marks that are all clear: 3 × 729 for each of 4 × 4 pairs of statements
+pub record LinesIn (P : Sheet) (points : List ℤ) (n : ℕ) (marks : List Bool) : Type 0 where
+  pub stray : StrayIn P points n
+  pub formed : WellFormed (nestOf P)
+  pub inside : inArrays (nestOf P .arrays) (iterations (nestOf P .loops)) 1 (nestOf P .statements) ≡ accepted tt
+  pub clear : (j : ℕ) → getD marks j false ≡ false
+  pub room : 34992 ≤ length marks
+
+-- the lines of the nest's listing are those that are marked
+pub record LinesAre (P : Sheet) (marks : List Bool) : Type 0 where
+  pub lines : shown marks (P .statements) (P .depth) ≡ linesOf (nestOf P)
+  pub marks-in : Marks marks (P .statements) (P .depth)
+
+-- the vectors of the lines that are marked, kinds and statements merged
+pub record Shows (marks : List Bool) (n d : ℕ) (r : DirectionSet) : Type 0 where
+  pub depth : r .depth ≡ d
+  pub vectors : SameMembers (vectorsOf r) (map (λ (l : Line). l .vector) (shown marks n d))

@@ -1,0 +1,89 @@
+// The lines of a nest's listing, found on its sheet: a mark for each that there could be; and the directions of a nest from them.
+ghost use mathlib.Core.Path.{_≡_};
+ghost use lib.ListN.{length, replicate};
+ghost use Rattle.lists.specs.Parts.{put};
+ghost use Rattle.listing_text.specs.Text.{Marks};
+ghost use Rattle.sheet.specs.Sheets.{SheetIn};
+ghost use Rattle.lines.specs.Uses.{firstWritten, EnterIn, UsesAre};
+ghost use Rattle.lines.specs.Lines.{LinesIn, LinesAre, Shows};
+use directions::DirectionSet;
+use sheet::Sheet;
+
+// Of each access its statement, counted from 0, and whether it is the one that is written.
+pub struct Uses {
+    pub statements: [usize; 20],
+    pub writes: [bool; 20],
+}
+
+// Enters statement s, with so many accesses from `first` on.
+fn enter(statements: &mut [usize], writes: &mut [bool], first: usize, size: usize, s: usize)
+    requires { ⌜ EnterIn (now statements) (now writes) first size ⌝ }
+    ensures { λ _. ⌜ (now (statements .exit) ≡ put (now (statements .entry)) first (replicate size s)) × (now (writes .exit) ≡ put (now (writes .entry)) first (firstWritten size)) ⌝ }
+{
+    let mut k = 0;
+    while k < size {
+        statements[first + k] = s;
+        writes[first + k] = k == 0;
+        k += 1;
+    }
+}
+
+// The first accesses of all are those of the first statement, and so on.
+fn uses_of(sheet: Sheet) -> Uses
+    requires { ⌜ SheetIn sheet ⌝ }
+    ensures { λ r. ⌜ UsesAre sheet r ⌝ }
+{
+    let sizes = sheet.sizes;
+    let mut statements = [0; 20];
+    let mut writes = [false; 20];
+    let mut first = 0;
+    let mut s = 0;
+    while s < sheet.statements {
+        let size = sizes[s];
+        enter(&mut statements, &mut writes, first, size, s);
+        first += size;
+        s += 1;
+    }
+    Uses {
+        statements: statements,
+        writes: writes,
+    }
+}
+
+// Marks every line of the nest's listing, where the dependence search lays its mark.
+pub fn mark_lines(sheet: Sheet, points: &[i64], count: usize, marks: &mut [bool])
+    requires { ⌜ LinesIn sheet (now points) count (now marks) ⌝ }
+    ensures { λ _. ⌜ LinesAre sheet (now (marks .exit)) × (length (now (marks .exit)) ≡ length (now (marks .entry))) ⌝ }
+{
+    let mut numbers = [0u16; 81920];
+    sheet::number_accesses(sheet, points, count, &mut numbers);
+    let uses = uses_of(sheet);
+    let statements = uses.statements;
+    let writes = uses.writes;
+    let accesses = sheet.accesses;
+    dependence::dependences(
+        points,
+        sheet.depth,
+        count,
+        &numbers,
+        &statements[..accesses],
+        &writes[..accesses],
+        sheet.statements,
+        marks,
+    );
+}
+
+// The vectors of the lines that are marked: a row of 729 marks for each source, sink and kind.
+pub fn directions_of(marks: &[bool], n: usize, depth: usize) -> DirectionSet
+    requires { ⌜ Marks (now marks) n depth ⌝ }
+    ensures { λ r. ⌜ Shows (now (marks .entry)) n depth r ⌝ }
+{
+    let blocks = n * n * 3;
+    let mut set = directions::empty(depth);
+    let mut b = 0;
+    while b < blocks {
+        set = directions::merged(set, &marks[b * 729..b * 729 + 729]);
+        b += 1;
+    }
+    set
+}
