@@ -1,0 +1,95 @@
+// From an admitted ticket and its directions to the new nest on its sheet; or the first refusal of 10 to 13. Loops are counted from 0.
+ghost use mathlib.Core.Path.{_≡_};
+ghost use Rattle.model.specs.Bounds.{sprawl};
+ghost use Rattle.reading.specs.declared.Status.the-variants.{Refused};
+ghost use Rattle.steps.specs.Steps.{stepOf};
+ghost use Rattle.directions.specs.Sets.{After};
+ghost use Rattle.sheet.specs.Sheets.{nestOf, SheetIn};
+ghost use Rattle.judgement.specs.Judgement.{judgedAs, DirectionIn, stepStatus, JudgeStepIn, JudgesStep, JudgeIn, JudgesSteps, Judges};
+use body::Body;
+use directions::DirectionSet;
+use nest::Nest;
+use reading::Refusal;
+use reading::Status;
+use sheet::Sheet;
+use space::Verdict;
+use steps::Step;
+use ticket::Ticket;
+
+// What the steps so far have made, where the status is Fine.
+pub struct Stepped {
+    pub status: Status,
+    pub nest: Nest,
+    pub body: Body,
+    pub set: DirectionSet,
+}
+
+// The new nest with its statements, and both on one sheet, where the status is Fine.
+pub struct Judged {
+    pub status: Status,
+    pub nest: Nest,
+    pub body: Body,
+    pub sheet: Sheet,
+}
+
+// ---- one step
+
+fn direction_after(set: DirectionSet, step: Step) -> DirectionSet
+    requires { ⌜ DirectionIn set step ⌝ }
+    ensures { λ r. ⌜ After (stepOf step) set r ⌝ }
+{
+    match step {
+        Step::Swap(e) => {
+            let a = e.outer;
+            directions::exchanged(set, a)
+        }
+        Step::Reverse(e) => {
+            let a = e.target;
+            directions::reversed(set, a)
+        }
+        Step::Lean(e) => {
+            let a = e.outer;
+            let b = a + 1 + e.distance;
+            let plus = e.forward;
+            directions::skewed(set, a, b, plus)
+        }
+        Step::Strip(e) => {
+            let a = e.target;
+            directions::sectioned(set, a)
+        }
+    }
+}
+
+// Refusals 10, 11 and 12 in this order.
+fn step_status(back: bool, full: bool, small: bool, number: usize) -> Status
+    ensures { λ r. ⌜ r ≡ stepStatus back full small number ⌝ }
+{
+    if back {
+        return Status::Refused(Refusal::DependenceReversed(number));
+    }
+    if full {
+        return Status::Refused(Refusal::TooManyLimits(number));
+    }
+    if small {
+        return Status::Fine;
+    }
+    Status::Refused(Refusal::NumberOutOfRange(number))
+}
+
+fn judge_step(nest: Nest, body: Body, set: DirectionSet, step: Step, number: usize) -> Stepped
+    requires { ⌜ JudgeStepIn nest body set step ⌝ }
+    ensures { λ r. ⌜ JudgesStep nest body set step number r ⌝ }
+{
+    let after = direction_after(set, step);
+    let taken = stepping::take_step(nest, body, step);
+    let back = directions::points_back(after);
+    let status = step_status(back, taken.full, taken.small, number);
+    let loops = taken.nest;
+    let statements = taken.body;
+    Stepped {
+        status: status,
+        nest: loops,
+        body: statements,
+        set: after,
+    }
+}
