@@ -93,3 +93,39 @@ fn judge_step(nest: Nest, body: Body, set: DirectionSet, step: Step, number: usi
         set: after,
     }
 }
+
+// ---- all steps
+
+fn judge_steps(ticket: Ticket, set: DirectionSet) -> Stepped
+    requires { ⌜ JudgeIn ticket set ⌝ }
+    ensures { λ r. ⌜ JudgesSteps ticket r ⌝ }
+{
+    let steps = ticket.steps;
+    let count = steps.count;
+    let all = steps.steps;
+    let mut nest = ticket.nest;
+    let mut body = ticket.body;
+    let mut vectors = set;
+    let mut k = 0;
+    while k < count {
+        let numbered = all[k];
+        let number = numbered.number;
+        let step = numbered.step;
+        let stepped = judge_step(nest, body, vectors, step, number);
+        let status = stepped.status;
+        match status {
+            Status::Fine => {}
+            Status::Refused(_) => return stepped,
+        }
+        nest = stepped.nest;
+        body = stepped.body;
+        vectors = stepped.set;
+        k += 1;
+    }
+    Stepped {
+        status: Status::Fine,
+        nest: nest,
+        body: body,
+        set: vectors,
+    }
+}
