@@ -26,6 +26,8 @@ use Rattle.ticket.specs.declared.Ticket.{Ticket}
 use Rattle.ticket.specs.Ticket.{nestOf, ticketOf, TicketIn}
 use Rattle.directions.specs.Sets.{vectorsOf}
 use Rattle.directions.specs.declared.DirectionSet.{DirectionSet}
+use Rattle.sheet.specs.declared.Sheet.{Sheet}
+use Rattle.sheet.specs.Sheets as Sheet
 use Rattle.stepping.specs.Taking as Taking
 use Rattle.layout.specs.Sheets.{modelOf, Laid}
 use Rattle.judgement.specs.declared.Stepped.{Stepped}
@@ -85,6 +87,10 @@ pub record JudgesSteps (t : Ticket) (r : Stepped) : Type 0 where
   pub same : judgedAs (r .status) (modelOf (r .nest) (t .arrays) (r .body)) ≡ judgeSteps 1 (ticketOf t .steps) (directionsOf (nestOf t)) (nestOf t)
   pub nest : r .status ≡ Fine → NestIn (r .nest)
   pub body : r .status ≡ Fine → BodyIn (r .body)
+
+-- 13
+abbrev pub SurveyedNew : Sheet → Status → Type 0
+SurveyedNew P r = judgedAs r tt ≡ sprawl (Sheet.nestOf P .loops)
 
 -- the new nest of an accepted ticket, on its sheet
 pub record New (t : Ticket) (r : Judged) : Type 0 where

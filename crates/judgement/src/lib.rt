@@ -1,11 +1,10 @@
 // From an admitted ticket and its directions to the new nest on its sheet; or the first refusal of 10 to 13. Loops are counted from 0.
 ghost use mathlib.Core.Path.{_≡_};
-ghost use Rattle.model.specs.Bounds.{sprawl};
 ghost use Rattle.reading.specs.declared.Status.the-variants.{Refused};
 ghost use Rattle.steps.specs.Steps.{stepOf};
 ghost use Rattle.directions.specs.Sets.{After};
-ghost use Rattle.sheet.specs.Sheets.{nestOf, SheetIn};
-ghost use Rattle.judgement.specs.Judgement.{judgedAs, DirectionIn, stepStatus, JudgeStepIn, JudgesStep, JudgeIn, JudgesSteps, Judges};
+ghost use Rattle.sheet.specs.Sheets.{SheetIn};
+ghost use Rattle.judgement.specs.Judgement.{DirectionIn, stepStatus, JudgeStepIn, JudgesStep, SurveyedNew, JudgeIn, JudgesSteps, Judges};
 use body::Body;
 use directions::DirectionSet;
 use nest::Nest;
@@ -127,5 +126,72 @@ fn judge_steps(ticket: Ticket, set: DirectionSet) -> Stepped
         nest: nest,
         body: body,
         set: vectors,
+    }
+}
+
+// ---- the new nest
+
+// Refusal 13.
+fn survey_new(sheet: Sheet) -> Status
+    requires { ⌜ SheetIn sheet ⌝ }
+    ensures { λ r. ⌜ SurveyedNew sheet r ⌝ }
+{
+    match sheet::survey(sheet, 100000, 65536) {
+        Verdict::Admitted => Status::Fine,
+        Verdict::FarIndex(k) => Status::Refused(Refusal::NewNestTooLarge(k)),
+        Verdict::Crowded(k) => Status::Refused(Refusal::NewNestTooLarge(k)),
+    }
+}
+
+fn blank() -> Sheet {
+    Sheet {
+        depth: 0,
+        limits: [0i64; 1536],
+        counts: [0usize; 12],
+        arrays: 0,
+        extents: [0usize; 16],
+        statements: 0,
+        sizes: [0usize; 4],
+        rules: [0usize; 4],
+        constants: [0usize; 4],
+        accesses: 0,
+        owners: [0usize; 20],
+        words: [0i64; 480],
+    }
+}
+
+fn refused(r: Refusal, nest: Nest, body: Body) -> Judged
+    ensures { λ q. ⌜ q .status ≡ Refused r ⌝ }
+{
+    let sheet = blank();
+    Judged {
+        status: Status::Refused(r),
+        nest: nest,
+        body: body,
+        sheet: sheet,
+    }
+}
+
+// The set has the vectors of the ticket's directions.
+pub fn judge_ticket(ticket: Ticket, set: DirectionSet) -> Judged
+    requires { ⌜ JudgeIn ticket set ⌝ }
+    ensures { λ r. ⌜ Judges ticket r ⌝ }
+{
+    let stepped = judge_steps(ticket, set);
+    let nest = stepped.nest;
+    let body = stepped.body;
+    let status = stepped.status;
+    match status {
+        Status::Fine => {}
+        Status::Refused(r) => return refused(r, nest, body),
+    }
+    let arrays = ticket.arrays;
+    let sheet = layout::lay(nest, arrays, body);
+    let verdict = survey_new(sheet);
+    Judged {
+        status: verdict,
+        nest: nest,
+        body: body,
+        sheet: sheet,
     }
 }
