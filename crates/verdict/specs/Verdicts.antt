@@ -1,0 +1,57 @@
+-- From bytes to a verdict: the model's `judged`, with the old and the new nest on their sheets.
+use mathlib.Core.Path.{_≡_}
+use mathlib.Core.List.{List}
+use Prim.Native.Nat.{ℕ}
+use lib.IntN.{ℤ}
+use lib.ListN.{length}
+use Rattle.lists.specs.Membership.{SameMembers}
+use Rattle.model.specs.Answer.{accepted}
+use Rattle.model.specs.Ticket as Model
+use Rattle.model.specs.Points.{iterations}
+use Rattle.model.specs.Bounds.{admitted}
+use Rattle.model.specs.Shape.{WellFormed}
+use Rattle.model.specs.Judge.{directionsOf, judged}
+use Rattle.reading.specs.declared.Status.the-variants.{Fine}
+use Rattle.ticket.specs.Ticket.{nestOf, ticketOf, TicketIn}
+use Rattle.directions.specs.Sets.{vectorsOf}
+use Rattle.directions.specs.declared.DirectionSet.{DirectionSet}
+use Rattle.sheet.specs.declared.Sheet.{Sheet}
+use Rattle.sheet.specs.Sheets as Sheet
+use Rattle.sheet.specs.Sheets.{SheetIn}
+use Rattle.sheet.specs.Stages.{PointsAre}
+use Rattle.layout.specs.Sheets.{modelOf}
+use Rattle.judgement.specs.Judgement.{judgedAs, New}
+use Rattle.judgement.specs.declared.Judged as Struct
+use Rattle.verdict.specs.declared.Decided.{Decided}
+
+-- an admitted nest on its sheet, and its points
+pub record DirectionsIn (P : Sheet) (points : List ℤ) (n : ℕ) : Type 0 where
+  pub sheet : SheetIn P
+  pub points-are : PointsAre P points n
+  pub formed : WellFormed (Sheet.nestOf P)
+  pub admitted-is : admitted (Sheet.nestOf P) ≡ accepted tt
+
+pub record DirectionsAre (P : Sheet) (s : DirectionSet) : Type 0 where
+  pub depth : s .depth ≡ P .depth
+  pub vectors : SameMembers (vectorsOf s) (directionsOf (Sheet.nestOf P))
+
+-- the new nest of the answer
+abbrev pub judgedOf : Decided → Struct.Judged
+judgedOf r = record { status = r .status; nest = r .nest; body = r .body; sheet = r .sheet }
+
+abbrev pub newOf : Decided → Model.Nest
+newOf r = modelOf (r .nest) (r .ticket .arrays) (r .body)
+
+-- an accepted ticket: its own nest and the new one, each on its sheet
+pub record Settled (r : Decided) : Type 0 where
+  pub within : TicketIn (r .ticket)
+  pub admitted-is : admitted (nestOf (r .ticket)) ≡ accepted tt
+  pub own-is : Sheet.nestOf (r .own) ≡ nestOf (r .ticket)
+  pub own-sheet : SheetIn (r .own)
+  pub count : r .count ≡ length (iterations (nestOf (r .ticket) .loops))
+  pub new : New (r .ticket) (judgedOf r)
+
+-- 1 to 13
+pub record Decides (b : List ℕ) (r : Decided) : Type 0 where
+  pub same : judgedAs (r .status) (record { ticket = ticketOf (r .ticket); new = newOf r }) ≡ judged b
+  pub settled : r .status ≡ Fine → Settled r
