@@ -1,4 +1,5 @@
--- Laws that the crate's contracts need.
+-- Laws that the crate's contracts need, and that decoded tickets meet them.
 pub mod StepLaws
 pub mod LoopLaws
 pub mod TicketLaws
+pub mod MetLaws

@@ -5,16 +5,14 @@ use Prim.Native.Nat.{ℕ, zero, suc, _+_, _≤_, _<_}
 use native.Mathlib.Omega.{arith}
 use native.Mathlib.Numerals.{add-one}
 use lib.ListN.{length, getD, take, drop}
-use Rattle.model.specs.Answer.{Answer, accepted}
+use Rattle.model.specs.Answer.{accepted}
 use Rattle.model.specs.Ticket as Model
-use Rattle.model.specs.Grammar.{depthAfter}
 use Rattle.model.specs.Ranges.{StepsThere}
 use Rattle.model.specs.Judge.{smallNumbers, judgeSteps, directionsOf}
 use Rattle.model.proofs.Verdict.SameVectorsLaws.{judgeSteps-same}
 use Rattle.reading.specs.declared.Refusal.{Refusal}
 use Rattle.reading.specs.declared.Status.{Status}
 use Rattle.reading.specs.declared.Status.the-variants.{Fine, Refused}
-use Rattle.nest.specs.Nested.{loopsOf}
 use Rattle.nest.specs.declared.Nest.{Nest}
 use Rattle.body.specs.declared.Body.{Body}
 use Rattle.steps.specs.Steps.{stepOf, stepsOf, NumberedFrom, StepsIn}

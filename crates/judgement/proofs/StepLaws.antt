@@ -1,14 +1,12 @@
--- One step judged: the vectors after it, then its three tests as the model puts them.
-use mathlib.Core.Path.{_≡_, refl, sym, _∙_, ap, ap₂, subst}
+-- One step judged: the vectors after it, then its three tests as the model puts them. What the steps before it left is in `LoopLaws`.
+use mathlib.Core.Path.{_≡_, refl, sym, _∙_, ap, subst}
 use mathlib.Core.Bool.{Bool, true, false, not}
 use mathlib.Core.List.{List, [], _∷_}
 use Prim.Native.Nat.{ℕ, suc, _+_, _-_, _≤_}
 use native.Mathlib.Omega.{arith}
-use lib.Dec.{T}
 use Rattle.integers.specs.Sign.{Sign}
-use Rattle.lists.specs.Membership.{SameMembers}
 use Rattle.lists.proofs.TestLaws.{true-T}
-use Rattle.model.specs.Answer.{Answer, refused, require, _>>=_, _>>_}
+use Rattle.model.specs.Answer.{refused, require, _>>=_, _>>_}
 use Rattle.model.specs.Ticket as Model
 use Rattle.model.specs.Ticket.{exchange, reversal, skew, section}
 use Rattle.model.specs.Grammar.{depthAfter}
@@ -26,9 +24,9 @@ use Rattle.steps.specs.Steps.{stepOf}
 use Rattle.steps.specs.declared.Step.{Step}
 use Rattle.directions.specs.Sets.{vectorsOf, After}
 use Rattle.directions.specs.declared.DirectionSet.{DirectionSet}
-use Rattle.stepping.specs.Taking.{nestOf, TakingIn, Takes}
+use Rattle.stepping.specs.Taking.{nestOf, Takes}
 use Rattle.stepping.specs.declared.Taken.{Taken}
-use Rattle.judgement.specs.Judgement.{unless, DirectionIn, stepStatus, Ready, JudgeStepIn, JudgesStep}
+use Rattle.judgement.specs.Judgement.{unless, DirectionIn, stepStatus, JudgeStepIn, JudgesStep}
 use Rattle.judgement.specs.declared.Stepped.{Stepped}
 
 -- a refusal is not fine
@@ -90,9 +88,6 @@ not-is false x e = sym (ap not e)
 module _ (N : Nest) (B : Body) (s : DirectionSet) (t : Step) (i : JudgeStepIn N B s t) where
   pub direction-in : DirectionIn s t
   direction-in = let l = i .ready .level in let f = i .ready .nest .few in record { few = omega arith; there = subst (λ m. StepThere m (stepOf t)) (sym l) (i .there) }
-
-  pub taking-in : TakingIn N B t
-  taking-in = record { nest = i .ready .nest; body = i .ready .body; there = i .there; small = i .ready .small }
 
   module _ (q : DirectionSet) (a : After (stepOf t) s q) where
     pub back-in : q .depth ≤ 6

@@ -1,6 +1,5 @@
 -- The steps, then refusal 13 on the sheet of the new nest, are the model's `judgeTicket`.
-use mathlib.Core.Path.{_≡_, refl, sym, _∙_, ap, subst}
-use mathlib.Core.List.{List}
+use mathlib.Core.Path.{_≡_, sym, _∙_, ap, subst}
 use Prim.Native.Nat.{ℕ}
 use Rattle.model.specs.Answer.{Answer, accepted, _>>=_, _>>_}
 use Rattle.model.specs.Ticket as Model
@@ -27,7 +26,7 @@ use Rattle.sheet.specs.Sheets as Sheet
 use Rattle.sheet.specs.Stages.{Surveyed}
 use Rattle.directions.specs.declared.DirectionSet.{DirectionSet}
 use Rattle.layout.specs.Sheets.{modelOf, LayIn, Laid}
-use Rattle.judgement.specs.Judgement.{judgedAs, SurveyedNew, JudgeIn, JudgesSteps, New, Judges}
+use Rattle.judgement.specs.Judgement.{judgedAs, SurveyedNew, JudgeIn, JudgesSteps, Judges}
 use Rattle.judgement.specs.declared.Stepped.{Stepped}
 use Rattle.judgement.specs.declared.Judged.{Judged}
 use Rattle.judgement.proofs.StepLaws.{not-fine}

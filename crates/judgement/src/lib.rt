@@ -16,11 +16,11 @@ use steps::Step;
 use ticket::Ticket;
 
 // What the steps so far have made, where the status is Fine.
-pub struct Stepped {
-    pub status: Status,
-    pub nest: Nest,
-    pub body: Body,
-    pub set: DirectionSet,
+struct Stepped {
+    status: Status,
+    nest: Nest,
+    body: Body,
+    set: DirectionSet,
 }
 
 // The new nest with its statements, and both on one sheet, where the status is Fine.
