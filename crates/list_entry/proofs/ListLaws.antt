@@ -2,7 +2,7 @@
 use mathlib.Core.Path.{_≡_, refl, sym, _∙_, ap, subst}
 use mathlib.Core.Bool.{Bool, true, false, cond}
 use mathlib.Core.List.{List, [], _∷_, _++_, flatMap}
-use Prim.Native.Nat.{ℕ, _<_}
+use Prim.Native.Nat.{ℕ, _≤_, _<_}
 use native.Mathlib.Omega.{arith}
 use lib.Dec.{leb}
 use lib.IntN.{ℤ}
@@ -33,7 +33,7 @@ use Rattle.intake.specs.declared.Answer.{Answer}
 use Rattle.intake.specs.declared.Answer.the-variants.{Accepted, Refused}
 use Rattle.intake.specs.Intake.{Admits}
 use Rattle.intake.specs.Answers.{Hands}
-use Rattle.intake.proofs.AnswerLaws.{refused-before, too-short, written}
+use Rattle.intake.proofs.AnswerLaws.{refused-before, too-short, written, handed-fits}
 use Rattle.list_entry.specs.Admitted.{Admitted}
 
 -- ---- a text that is not empty: no bytes are written where the buffer is short, and only there
@@ -109,3 +109,9 @@ module _ (b : List ℕ) (o e : List ℤ) (q : Intake) (h : Admits b o e q) where
     pub handed : (m m′ : List ℕ) (a : Answer) → Hands (handOut (accepted (listing (nestOf (q .sheet)))) m) a m′ → Hands (list b m) a m′
     unfolding list _>>=_ ticketOf
     handed m m′ a = subst (λ (x : Model.Answer (List ℕ)). Hands (handOut x m) a m′) (ap (λ (N : Nest). accepted (listing N)) (h .taken z .same) ∙ by-status Status.Fine z)
+
+-- ---- for those who read what was written
+
+pub listed-fits : (b o e : List ℕ) (a : Answer) (n : ℕ) → Hands (list b o) a e → a ≡ Accepted n → n ≤ length o
+unfolding list
+listed-fits b o e a n h z = handed-fits (admit b >>= (λ T. accepted (listing (T .nest)))) o e n (subst (λ (x : Answer). Hands (list b o) x e) z h)
