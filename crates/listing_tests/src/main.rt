@@ -1,7 +1,7 @@
 // Prints what `list` answers for each case on standard input: the lengths of a ticket and of a buffer, in two bytes each, lowest first, then the
 // ticket. It prints `accepted` with the count and the text written, or `refused` with number and place; and `changed` where a byte of the memory
 // around, 65,536 bytes filled with 170, is not what it was.
-ghost use Prim.Native.Nat.{_<_, _≤_};
+ghost use Prim.Native.Nat.{_+_, _<_, _≤_};
 ghost use lib.ListN.{length};
 use intake::Answer;
 use libc::STDIN_FILENO;
@@ -77,6 +77,14 @@ fn wide(b: u8) -> usize
     b as usize
 }
 
+// Two bytes, lowest first.
+fn length_at(input: &[u8], at: usize) -> usize
+    requires { ⌜ at + 2 ≤ length (now input) ⌝ }
+    ensures { λ r. ⌜ r < 65536 ⌝ }
+{
+    wide(input[at]) + 256 * wide(input[at + 1])
+}
+
 fn main() {
     let mut input = io::large_buffer();
     let mut out = io::large_buffer();
@@ -84,13 +92,13 @@ fn main() {
     let all = &input[..n];
     let mut at = 0;
     while at + 4 <= n {
-        let length = wide(all[at]) + 256 * wide(all[at + 1]);
-        let lent = wide(all[at + 2]) + 256 * wide(all[at + 3]);
+        let taken = length_at(all, at);
+        let lent = length_at(all, at + 2);
         let from = at + 4;
-        if n - from < length {
+        if n - from < taken {
             return;
         }
-        let to = from + length;
+        let to = from + taken;
         try_case(&all[from..to], &mut out, lent);
         at = to;
     }
