@@ -1,0 +1,117 @@
+-- The listing of an admitted nest handed out, then the model's `list`.
+use mathlib.Core.Path.{_≡_, refl, sym, _∙_, ap, subst}
+use mathlib.Core.Bool.{Bool, true, false, cond}
+use mathlib.Core.List.{List, [], _∷_, _++_, flatMap}
+use Prim.Native.Nat.{ℕ, _≤_, _<_}
+use native.Mathlib.Omega.{arith}
+use lib.Dec.{leb}
+use lib.IntN.{ℤ}
+use lib.ListN.{length, replicate, length-append}
+use borrow.Author.Tests.{leb-true, leb-false}
+use Rattle.lists.specs.Parts.{put}
+use Rattle.model.specs.Answer as Model
+use Rattle.model.specs.Answer.{accepted, _>>=_}
+use Rattle.model.specs.Ticket.{Nest, Ticket}
+use Rattle.model.specs.Points.{iterations}
+use Rattle.model.specs.Bounds.{admitted}
+use Rattle.model.specs.Shape.{WellFormed}
+use Rattle.model.specs.Judge.{admit}
+use Rattle.model.specs.Listing.{decimal, headText, lineText, linesOf, listing}
+use Rattle.model.specs.Entries.{handOut, list}
+use Rattle.reading.specs.declared.Refusal.{Refusal}
+use Rattle.reading.specs.declared.Refusal.the-variants.{BufferTooShort}
+use Rattle.reading.specs.declared.Status.{Status}
+use Rattle.reading.specs.declared.Status.the-variants as Status
+use Rattle.ticket.specs.Ticket.{ticketOf, decoded}
+use Rattle.sheet.specs.declared.Sheet.{Sheet}
+use Rattle.sheet.specs.Sheets.{nestOf}
+use Rattle.listing_text.specs.Text.{text, Written}
+use Rattle.lines.specs.Lines.{LinesIn, LinesAre}
+use Rattle.lines.proofs.MarkLaws.{lines-in, listing-is}
+use Rattle.intake.specs.declared.Intake.{Intake}
+use Rattle.intake.specs.declared.Answer.{Answer}
+use Rattle.intake.specs.declared.Answer.the-variants.{Accepted, Refused}
+use Rattle.intake.specs.Intake.{Admits}
+use Rattle.intake.specs.Answers.{Hands}
+use Rattle.intake.proofs.AnswerLaws.{refused-before, too-short, written, handed-fits}
+use Rattle.list_entry.specs.Admitted.{Admitted}
+
+-- ---- a text that is not empty: no bytes are written where the buffer is short, and only there
+
+module _ (t o e : List ℕ) (k : ℕ) (w : Written t o e k) (some : 0 < length t) where
+  -- on the test's value
+  counted : (b : Bool) → leb (length t) (length o) ≡ b → k ≡ cond b (length t) 0
+  counted b g = w .count ∙ ap (λ (x : Bool). cond x (length t) 0) g
+
+  left : (b : Bool) → leb (length t) (length o) ≡ b → e ≡ cond b (put o 0 t) o
+  left b g = w .bytes ∙ ap (λ (x : Bool). cond x (put o 0 t) o) g
+
+  pub no-bytes : k ≡ 0 → Hands (handOut (accepted t) o) (Refused BufferTooShort) e
+  no-bytes z = go (leb (length t) (length o)) refl
+    where
+      go : (b : Bool) → leb (length t) (length o) ≡ b → Hands (handOut (accepted t) o) (Refused BufferTooShort) e
+      go true g = absurd (omega (arith, counted true g))
+      go false g = subst (Hands (handOut (accepted t) o) (Refused BufferTooShort)) (sym (left false g)) (too-short t o (leb-false (length t) (length o) g))
+
+  pub some-bytes : (k ≡ 0 → ⊥) → Hands (handOut (accepted t) o) (Accepted k) e
+  some-bytes z = go (leb (length t) (length o)) refl
+    where
+      go : (b : Bool) → leb (length t) (length o) ≡ b → Hands (handOut (accepted t) o) (Accepted k) e
+      go true g = subst (λ (n : ℕ). Hands (handOut (accepted t) o) (Accepted n) e) (sym (counted true g)) (written t o (leb-true (length t) (length o) g) e (left true g))
+      go false g = absurd (z (counted false g))
+
+-- ---- the listing of an admitted nest
+
+never-empty : (N : Nest) → 0 < length (listing N)
+unfolding listing headText
+never-empty N =
+    let a = decimal (length (N .loops)) in
+    let b = decimal (length (iterations (N .loops))) ++ (32 ∷ (decimal (length (linesOf N)) ++ (10 ∷ []))) in
+    let h = length-append (a ++ (32 ∷ b)) (flatMap lineText (linesOf N)) in
+    let g = length-append a (32 ∷ b) in omega arith
+
+module _ (P : Sheet) (points : List ℤ) (n : ℕ) (h : Admitted P points n) where
+  pub marks-in : LinesIn P points n (replicate 34992 false)
+  marks-in = lines-in P points n (h .sheet) (h .points-are) (h .formed) (h .passes)
+
+  module _ (marks : List Bool) (l : LinesAre P marks) (o e : List ℕ) (k : ℕ) (w : Written (text marks (P .statements) (P .depth) n) o e k) where
+    whole : Written (listing (nestOf P)) o e k
+    whole = subst (λ (t : List ℕ). Written t o e k) (listing-is P points n marks (h .points-are) l) w
+
+    pub short-buffer : k ≡ 0 → Hands (handOut (accepted (listing (nestOf P))) o) (Refused BufferTooShort) e
+    short-buffer = no-bytes (listing (nestOf P)) o e k whole (never-empty (nestOf P))
+
+    pub all-written : (k ≡ 0 → ⊥) → Hands (handOut (accepted (listing (nestOf P))) o) (Accepted k) e
+    all-written = some-bytes (listing (nestOf P)) o e k whole (never-empty (nestOf P))
+
+-- ---- the entry
+
+module _ (b : List ℕ) (o e : List ℤ) (q : Intake) (h : Admits b o e q) where
+  abbrev listed : Model.Answer Ticket → Model.Answer (List ℕ)
+  listed m = m >>= (λ T. accepted (listing (T .nest)))
+
+  by-status : (s : Status) → q .status ≡ s → listed (decoded s (ticketOf (q .ticket))) ≡ listed (admit b)
+  by-status s z = ap (λ (x : Status). listed (decoded x (ticketOf (q .ticket)))) (sym z) ∙ ap listed (h .same)
+
+  pub not-admitted : (r : Refusal) → q .status ≡ Status.Refused r → (m : List ℕ) → Hands (list b m) (Refused r) m
+  unfolding list _>>=_
+  not-admitted r z m = refused-before (listed (admit b)) m r (by-status (Status.Refused r) z)
+
+  module _ (z : q .status ≡ Status.Fine) where
+    pub admitted-in : Admitted (q .sheet) e (q .count)
+    admitted-in = let t = h .taken z in record {
+      sheet = t .sheet;
+      points-are = t .points-are;
+      formed = subst WellFormed (sym (t .same)) (t .formed);
+      passes = ap admitted (t .same) ∙ t .admitted-is;
+    }
+
+    pub handed : (m m′ : List ℕ) (a : Answer) → Hands (handOut (accepted (listing (nestOf (q .sheet)))) m) a m′ → Hands (list b m) a m′
+    unfolding list _>>=_ ticketOf
+    handed m m′ a = subst (λ (x : Model.Answer (List ℕ)). Hands (handOut x m) a m′) (ap (λ (N : Nest). accepted (listing N)) (h .taken z .same) ∙ by-status Status.Fine z)
+
+-- ---- for those who read what was written
+
+pub listed-fits : (b o e : List ℕ) (a : Answer) (n : ℕ) → Hands (list b o) a e → a ≡ Accepted n → n ≤ length o
+unfolding list
+listed-fits b o e a n h z = handed-fits (admit b >>= (λ T. accepted (listing (T .nest)))) o e n (subst (λ (x : Answer). Hands (list b o) x e) z h)
