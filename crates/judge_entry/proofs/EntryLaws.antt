@@ -1,0 +1,31 @@
+-- The verdict's answer is the model's `judge`.
+use mathlib.Core.Path.{_≡_, sym, _∙_, ap}
+use mathlib.Core.List.{List}
+use lib.ListN.{length}
+use Rattle.model.specs.Answer.{accepted, _>>=_}
+use Rattle.model.specs.Points.{iterations}
+use Rattle.model.specs.Judge.{Judged}
+use Rattle.model.specs.Entries.{judge}
+use Prim.Native.Nat.{ℕ}
+use Rattle.reading.specs.declared.Refusal.{Refusal}
+use Rattle.reading.specs.declared.Status.{Status}
+use Rattle.reading.specs.declared.Status.the-variants.{Fine, Refused}
+use Rattle.reading.specs.Refusals.{refusal}
+use Rattle.ticket.specs.Ticket.{nestOf, ticketOf}
+use Rattle.judgement.specs.Judgement.{judgedAs}
+use Rattle.verdict.specs.declared.Decided.{Decided}
+use Rattle.verdict.specs.Verdicts.{newOf, Decides}
+
+module _ (b : List ℕ) (d : Decided) (h : Decides b d) where
+  whole : (judgedAs (d .status) (record { ticket = ticketOf (d .ticket); new = newOf d }) >>= (λ (j : Judged). accepted (length (iterations (j .ticket .nest .loops))))) ≡ judge b
+  unfolding judge
+  whole = ap (_>>= (λ (j : Judged). accepted (length (iterations (j .ticket .nest .loops))))) (h .same)
+
+  pub judge-refused : (r : Refusal) → d .status ≡ Refused r → refusal r ≡ judge b
+  unfolding _>>=_
+  judge-refused r s = sym (ap (λ (x : Status). judgedAs x (record { ticket = ticketOf (d .ticket); new = newOf d }) >>= (λ (j : Judged). accepted (length (iterations (j .ticket .nest .loops))))) s) ∙ whole
+
+  pub judge-accepted : d .status ≡ Fine → accepted (d .count) ≡ judge b
+  unfolding _>>=_ ticketOf
+  judge-accepted s = ap accepted (h .settled s .count)
+      ∙ sym (ap (λ (x : Status). judgedAs x (record { ticket = ticketOf (d .ticket); new = newOf d }) >>= (λ (j : Judged). accepted (length (iterations (j .ticket .nest .loops))))) s) ∙ whole

@@ -1,0 +1,27 @@
+// The entry `write`: the new nest of an accepted ticket as bytes.
+ghost use Rattle.model.specs.Entries as Entries;
+ghost use Rattle.intake.specs.Answers.{Hands};
+use encoding::Encoded;
+use intake::Answer;
+use reading::Refusal;
+use reading::Status;
+
+// Judges 1 to 13, then 14. What is written is the new nest of demand 3 (model, Demands: demand-3, written-nest).
+pub fn write(ticket: &[u8], out: &mut [u8]) -> Answer
+    ensures { λ r. ⌜ Hands (Entries.write (now (ticket .entry)) (now (out .entry))) r (now (out .exit)) ⌝ }
+{
+    let decided = verdict::decide(ticket);
+    let status = decided.status;
+    match status {
+        Status::Fine => {}
+        Status::Refused(r) => return Answer::Refused(r),
+    }
+    let given = decided.ticket;
+    let arrays = given.arrays;
+    let nest = decided.nest;
+    let body = decided.body;
+    match encoding::encode_nest(nest, arrays, body, out) {
+        Encoded::Complete(n) => Answer::Accepted(n),
+        Encoded::TooShort(_) => Answer::Refused(Refusal::BufferTooShort),
+    }
+}
