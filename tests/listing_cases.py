@@ -244,6 +244,16 @@ def own_cases():
             yield t, lent
 
 
+def crowded_cases():
+    # twenty accesses of four statements on one element, at 4096 points. As any two points meet, the lines are those of two iterations a loop.
+    for loops, few in [([(0, 4095)], [(0, 1)]), ([(0, 7)] * 4, [(0, 1)] * 4)]:
+        body = [(1,)], [((1, 0),) * 5] * 4
+        head, lines = document01.listing(document01.admit(ticket(few, *body))).split("\n", 1)
+        depth, _, found = head.split()
+        text = "%s 4096 %s\n%s" % (depth, found, lines)
+        yield ticket(loops, *body), WIDE, (0, 0, text.encode())
+
+
 def base_cases():
     for block in document01.blocks(os.path.join(HERE, "base.txt")):
         rows = {row[0]: row[1:] for row in block}
@@ -263,6 +273,7 @@ def main():
     for t, lent, answer in base_cases():
         assert answer == answer_of(t, lent)
         cases.append((t, lent, answer))
+    cases += crowded_cases()
     given, expected = b"", b""
     for t, lent, (number, place, text) in cases:
         given += struct.pack("<HH", len(t), lent) + t
