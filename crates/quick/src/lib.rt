@@ -25,17 +25,17 @@ pub struct Range {
 }
 
 // The sum and the least that a coefficient times its index can be.
-fn plus_least(sum: Whole, c: i64, r: Range) -> Whole
-    requires { ⌜ TermIn (sum .value) c r ⌝ }
-    ensures { λ s. ⌜ s .value ≡ sum .value +ℤ leastTerm c (rangeAs r) ⌝ }
+fn plus_least(sum: Whole, c: i64, over: Range) -> Whole
+    requires { ⌜ TermIn (sum .value) c over ⌝ }
+    ensures { λ s. ⌜ s .value ≡ sum .value +ℤ leastTerm c (rangeAs over) ⌝ }
 {
     if 0 < c {
         return Whole {
-            value: sum.value + c * r.least,
+            value: sum.value + c * over.least,
         };
     }
     Whole {
-        value: sum.value + c * r.greatest,
+        value: sum.value + c * over.greatest,
     }
 }
 

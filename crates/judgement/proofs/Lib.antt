@@ -1,0 +1,4 @@
+-- Laws that the crate's contracts need.
+pub mod StepLaws
+pub mod LoopLaws
+pub mod TicketLaws

@@ -1,0 +1,107 @@
+-- The steps, then refusal 13 on the sheet of the new nest, are the model's `judgeTicket`.
+use mathlib.Core.Path.{_≡_, refl, sym, _∙_, ap, subst}
+use mathlib.Core.List.{List}
+use Prim.Native.Nat.{ℕ}
+use Rattle.model.specs.Answer.{Answer, accepted, _>>=_, _>>_}
+use Rattle.model.specs.Ticket as Model
+use Rattle.model.specs.Ranges.{NestRanges}
+use Rattle.model.specs.Shape.{WellFormed}
+use Rattle.model.specs.Bounds.{sprawl}
+use Rattle.model.specs.Limits.{nestAfterAll}
+use Rattle.model.specs.Judge as Judge
+use Rattle.model.specs.Judge.{judgeSteps, directionsOf, judgeTicket}
+use Rattle.model.proofs.Answers.PassLaws.{bind-pass, bind-stop}
+use Rattle.model.proofs.Verdict.JudgeLaws.{StepsPass, judgeSteps-accepted}
+use Rattle.model.proofs.Promise.WrittenLaws.{new-formed, new-ranges}
+use Rattle.reading.specs.declared.Refusal.{Refusal}
+use Rattle.reading.specs.declared.Refusal.the-variants.{NewNestTooLarge}
+use Rattle.reading.specs.declared.Status.{Status}
+use Rattle.reading.specs.declared.Status.the-variants.{Fine, Refused}
+use Rattle.space.specs.Surveys as Space
+use Rattle.space.specs.declared.Verdict.{Verdict}
+use Rattle.space.specs.declared.Verdict.the-variants.{Admitted, FarIndex, Crowded}
+use Rattle.ticket.specs.declared.Ticket.{Ticket}
+use Rattle.ticket.specs.Ticket.{nestOf, ticketOf}
+use Rattle.sheet.specs.declared.Sheet.{Sheet}
+use Rattle.sheet.specs.Sheets as Sheet
+use Rattle.sheet.specs.Stages.{Surveyed}
+use Rattle.directions.specs.declared.DirectionSet.{DirectionSet}
+use Rattle.layout.specs.Sheets.{modelOf, LayIn, Laid}
+use Rattle.judgement.specs.Judgement.{judgedAs, SurveyedNew, JudgeIn, JudgesSteps, New, Judges}
+use Rattle.judgement.specs.declared.Stepped.{Stepped}
+use Rattle.judgement.specs.declared.Judged.{Judged}
+use Rattle.judgement.proofs.StepLaws.{not-fine}
+
+-- ---- refusal 13
+
+module _ (P : Sheet) (v : Verdict) (g : Surveyed P 100000 65536 v) where
+  surveyed : Space.answerOf 13 13 v ≡ sprawl (Sheet.nestOf P .loops)
+  unfolding sprawl
+  surveyed = g 13 13
+
+  pub new-admitted : v ≡ Admitted → SurveyedNew P Fine
+  new-admitted e = sym (ap (Space.answerOf 13 13) e) ∙ surveyed
+
+  pub new-far : (k : ℕ) → v ≡ FarIndex k → SurveyedNew P (Refused (NewNestTooLarge k))
+  new-far k e = sym (ap (Space.answerOf 13 13) e) ∙ surveyed
+
+  pub new-crowded : (k : ℕ) → v ≡ Crowded k → SurveyedNew P (Refused (NewNestTooLarge k))
+  new-crowded k e = sym (ap (Space.answerOf 13 13) e) ∙ surveyed
+
+-- ---- the ticket
+
+-- a test that is passed gives what is judged
+passed-with : {A : Type 0} (z : Status) (m : Answer (Unit {0})) (j : A) → judgedAs z tt ≡ m → judgedAs z j ≡ (m >> accepted j)
+unfolding _>>_ _>>=_
+passed-with Fine m j e = ap (_>> accepted j) e
+passed-with (Refused r) m j e = ap (_>> accepted j) e
+
+module _ (t : Ticket) (s : DirectionSet) (i : JudgeIn t s) (r : Stepped) (g : JudgesSteps t r) where
+  abbrev verdict : Model.Nest → Answer Judge.Judged
+  verdict N = sprawl (N .loops) >> accepted (record { ticket = ticketOf t; new = N })
+
+  abbrev new : Model.Nest
+  new = modelOf (r .nest) (t .arrays) (r .body)
+
+  pub steps-refused : (x : Refusal) (q : Judged) → r .status ≡ Refused x → q .status ≡ Refused x → Judges t q
+  unfolding judgeTicket ticketOf
+  steps-refused x q e f = record {
+    same = ap (λ (z : Status). judgedAs {A = Judge.Judged} z (record { ticket = ticketOf t; new = modelOf (q .nest) (t .arrays) (q .body) })) f ∙ sym (bind-stop verdict (sym (g .same) ∙ ap (λ (z : Status). judgedAs z new) e));
+    fine = λ h. not-fine x (sym f ∙ h);
+  }
+
+  module _ (e : r .status ≡ Fine) where
+    steps-accepted : judgeSteps 1 (ticketOf t .steps) (directionsOf (nestOf t)) (nestOf t) ≡ accepted new
+    steps-accepted = sym (g .same) ∙ ap (λ (z : Status). judgedAs z new) e
+
+    made : (new ≡ nestAfterAll (ticketOf t .steps) (nestOf t)) × StepsPass (ticketOf t .steps) (directionsOf (nestOf t)) (nestOf t)
+    made = judgeSteps-accepted 1 (ticketOf t .steps) (directionsOf (nestOf t)) (nestOf t) steps-accepted
+
+    ranges : NestRanges 6 16 new
+    unfolding ticketOf
+    ranges = subst (NestRanges 6 16) (sym (made .0)) (new-ranges (ticketOf t) (i .ranges) (i .formed) (directionsOf (nestOf t)) (made .1))
+
+    formed : WellFormed new
+    unfolding ticketOf
+    formed = subst WellFormed (sym (made .0)) (new-formed (ticketOf t) (i .ranges) (i .formed))
+
+    pub lay-in : LayIn (r .nest) (t .arrays) (r .body)
+    lay-in = record { nest = g .nest e; arrays = i .within .arrays; body = g .body e; ranges = ranges; formed = formed }
+
+    module _ (P : Sheet) (l : Laid (r .nest) (t .arrays) (r .body) P) (z : Status) (h : SurveyedNew P z) where
+      surveyed-new : judgedAs z tt ≡ sprawl (new .loops)
+      surveyed-new = h ∙ ap (λ (N : Model.Nest). sprawl (N .loops)) (l .same)
+
+      pub ticket-judged : Judges t (record { status = z; nest = r .nest; body = r .body; sheet = P })
+      unfolding judgeTicket ticketOf
+      ticket-judged = record {
+        same = passed-with z (sprawl (new .loops)) (record { ticket = ticketOf t; new = new }) surveyed-new ∙ sym (bind-pass verdict steps-accepted);
+        fine = λ f. record {
+          nest = g .nest e;
+          body = g .body e;
+          ranges = ranges;
+          formed = formed;
+          laid = l;
+          sprawls = sym surveyed-new ∙ ap (λ (x : Status). judgedAs x tt) f;
+        };
+      }

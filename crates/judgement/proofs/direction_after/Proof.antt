@@ -1,0 +1,87 @@
+use native.Mathlib.Omega.{arith}
+use Rattle.steps.specs.declared.Step.the-variants.{Swap, Reverse, Lean, Strip}
+use Rattle.judgement.proofs.StepLaws.{there, vectors-are, skew-distance}
+use borrow.Author.Needs.{needs}
+use Rattle.judgement.proofs.direction_after.Statement.{statement}
+use Rattle.judgement.proofs.direction_after.Tie as tie
+use Rattle.judgement.proofs.direction_after.Reads as reads
+use Rattle.judgement.proofs.direction_after.Lts as lts
+use Rattle.directions.proofs.exchanged.Reads as exchanged-reads
+use Rattle.directions.proofs.reversed.Reads as reversed-reads
+use Rattle.directions.proofs.sectioned.Reads as sectioned-reads
+use Rattle.directions.proofs.skewed.Reads as skewed-reads
+
+-- src/lib.rt:42:20
+enum-known-step : tie.Need-enum-known-step
+enum-known-step c = search needs
+
+-- src/lib.rt:44:13
+exchanged-requires : tie.Need-exchanged-requires
+exchanged-requires c κs = let s = c .before .before .before in let v = c .before .step .given in let h = there (s .args .set) (s .args .step) (Swap (v .0 .0)) (v .1) (s .pre) in record { few = s .pre .few; inside = h }
+
+-- src/lib.rt:46:23
+enum-known-step-2 : tie.Need-enum-known-step-2
+enum-known-step-2 c = search needs
+
+-- src/lib.rt:48:13
+reversed-requires : tie.Need-reversed-requires
+reversed-requires c κs = let s = c .before .before .before in let v = c .before .step2 .given in let h = there (s .args .set) (s .args .step) (Reverse (v .0 .0)) (v .1) (s .pre) in record { few = s .pre .few; inside = h }
+
+-- src/lib.rt:50:20
+enum-known-step-3 : tie.Need-enum-known-step-3
+enum-known-step-3 c = search needs
+
+-- src/lib.rt:52:21
+add-b : tie.Need-add-b
+add-b c = let s = c .before .before .before in let v = c .before .step3 .given in let h = there (s .args .set) (s .args .step) (Lean (v .0 .0)) (v .1) (s .pre) in let f = s .pre .few in omega arith
+
+-- src/lib.rt:52:21
+add-b-2 : tie.Need-add-b-2
+add-b-2 c = let s = c .before .before .before .before in let v = c .before .before .step3 .given in let h = there (s .args .set) (s .args .step) (Lean (v .0 .0)) (v .1) (s .pre) in let f = s .pre .few in omega arith
+
+-- src/lib.rt:54:13
+skewed-requires : tie.Need-skewed-requires
+skewed-requires c κs = let s = c .before .before .before .before in let v = c .before .before .step3 .given in let h = there (s .args .set) (s .args .step) (Lean (v .0 .0)) (v .1) (s .pre) in record { few = s .pre .few; outer = omega arith; inside = omega arith }
+
+-- src/lib.rt:56:21
+enum-known-step-4 : tie.Need-enum-known-step-4
+enum-known-step-4 c = search needs
+
+-- src/lib.rt:58:13
+sectioned-requires : tie.Need-sectioned-requires
+sectioned-requires c κs = let s = c .before .before .before in let v = c .before .step4 .given in let h = there (s .args .set) (s .args .step) (Strip (v .0 .0)) (v .1) (s .pre) in record { few = h .1; inside = h .0 }
+
+-- src/lib.rt:37:1
+returns : tie.Need-returns
+returns c = let s = c .before .before .before .before in let v = c .before .before .step .given in vectors-are (s .args .set) (s .args .step) (Swap (v .0 .0)) (v .1) (c .exchanged .result) (c .exchanged .ensures)
+
+-- src/lib.rt:37:1
+returns-2 : tie.Need-returns-2
+returns-2 c = let s = c .before .before .before .before in let v = c .before .before .step2 .given in vectors-are (s .args .set) (s .args .step) (Reverse (v .0 .0)) (v .1) (c .reversed .result) (c .reversed .ensures)
+
+-- src/lib.rt:37:1
+returns-3 : tie.Need-returns-3
+returns-3 c = let s = c .before .before .before .before .before in let v = c .before .before .before .step3 .given in vectors-are (s .args .set) (s .args .step) (Lean (v .0 .0)) (v .1) (c .skewed .result) (skew-distance (s .args .set) (c .skewed .result) (v .0 .0 .outer) (v .0 .0 .distance) (v .0 .0 .forward) (c .skewed .ensures))
+
+-- src/lib.rt:37:1
+returns-4 : tie.Need-returns-4
+returns-4 c = let s = c .before .before .before .before in let v = c .before .before .step4 .given in vectors-are (s .args .set) (s .args .step) (Strip (v .0 .0)) (v .1) (c .sectioned .result) (c .sectioned .ensures (v .0 .0 .width))
+
+pub direction-after-spec : {M : Type 1} → statement M
+direction-after-spec =
+    tie.close
+    (tie.spec
+    enum-known-step
+    exchanged-requires
+    enum-known-step-2
+    reversed-requires
+    enum-known-step-3
+    add-b
+    add-b-2
+    skewed-requires
+    enum-known-step-4
+    sectioned-requires
+    returns
+    returns-2
+    returns-3
+    returns-4)

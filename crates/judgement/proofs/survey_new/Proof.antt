@@ -1,0 +1,40 @@
+use Rattle.judgement.proofs.TicketLaws.{new-admitted, new-far, new-crowded}
+use borrow.Author.Needs.{needs}
+use Rattle.judgement.proofs.survey_new.Statement.{statement}
+use Rattle.judgement.proofs.survey_new.Tie as tie
+use Rattle.judgement.proofs.survey_new.Reads as reads
+use Rattle.judgement.proofs.survey_new.Lts as lts
+use Rattle.sheet.proofs.survey.Reads as survey-reads
+
+-- src/lib.rt:139:11
+survey-requires : tie.Need-survey-requires
+survey-requires c κs = search needs
+
+-- src/lib.rt:140:30
+enum-told : tie.Need-enum-told
+enum-told c = search needs
+
+-- src/lib.rt:141:27
+enum-known-k : tie.Need-enum-known-k
+enum-known-k c = search needs
+
+-- src/lib.rt:142:26
+enum-known-k-2 : tie.Need-enum-known-k-2
+enum-known-k-2 c = search needs
+
+-- src/lib.rt:135:1
+returns : tie.Need-returns
+returns c = let v = c .before .before .survey in new-admitted (c .before .before .before .args .sheet) (v .result) (v .ensures) (c .enum-told .given .1)
+
+-- src/lib.rt:135:1
+returns-2 : tie.Need-returns-2
+returns-2 c = let v = c .before .before .before .survey in new-far (c .before .before .before .before .args .sheet) (v .result) (v .ensures) _ (c .before .k .given .1)
+
+-- src/lib.rt:135:1
+returns-3 : tie.Need-returns-3
+returns-3 c = let v = c .before .before .before .survey in new-crowded (c .before .before .before .before .args .sheet) (v .result) (v .ensures) _ (c .before .k2 .given .1)
+
+pub survey-new-spec : {M : Type 1} → statement M
+survey-new-spec =
+    tie.close
+    (tie.spec survey-requires enum-told enum-known-k enum-known-k-2 returns returns-2 returns-3)
