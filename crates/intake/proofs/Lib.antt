@@ -1,2 +1,3 @@
 -- Laws that the crate's contracts need.
 pub mod IntakeLaws
+pub mod AnswerLaws

@@ -1,4 +1,5 @@
-// From any bytes to a ticket that is admitted, laid out on a sheet, with its points stored; or the first refusal of 1 to 9.
+// From any bytes to a ticket that is admitted, laid out on a sheet, with its points stored; or the first refusal of 1 to 9. Then what the entries
+// answer that give a count.
 ghost use mathlib.Core.Path.{_≡_};
 ghost use Prim.Native.Nat.{_≤_};
 ghost use lib.ListN.{length};
@@ -72,4 +73,10 @@ pub fn admit(bytes: &[u8], points: &mut [i64]) -> Intake
         },
         Enumerated::Refused(r) => refused(r, t),
     }
+}
+
+// The answer of judge, write, list and run: a count of iterations or of bytes.
+pub enum Answer {
+    Accepted(usize),
+    Refused(Refusal),
 }
