@@ -1,0 +1,55 @@
+-- Refusal 16: all elements, array by array.
+use mathlib.Core.Path.{_≡_, refl, sym, _∙_, ap, ap₂}
+use mathlib.Core.List.{List, [], _∷_}
+use Prim.Native.Nat.{ℕ, zero, suc, _+_, _*_, _/_, _≤_, _<_}
+use native.Mathlib.Omega.{arith}
+use native.Mathlib.Nat.{mul-div-cancel}
+use lib.ListN.{length}
+use Rattle.model.specs.Grammar.{elements, total}
+use Rattle.model.specs.Store.{base}
+use Rattle.elements.specs.Layout.{extentsAt, arraysOf, ArrayIn}
+use Rattle.elements.proofs.LayoutLaws.{array-in}
+use Rattle.elements.proofs.ElementLaws.{arrays-length, no-base, next-base, array-fits}
+use Rattle.sheet.specs.declared.Sheet.{Sheet}
+use Rattle.sheet.specs.Sheets.{extentsIn, nestOf, SheetIn}
+use Rattle.sheet.specs.Sheets as Sheets
+use Rattle.sheet.proofs.SheetLaws.{extents-count}
+use Rattle.execution.specs.Execution.{ArraysIn}
+
+four : 0 < 4
+four = omega arith
+
+-- after the last array
+base-all : (as′ : List (List ℕ)) → base as′ (length as′) ≡ total as′
+unfolding base total
+base-all [] = refl
+base-all (ns ∷ rest) = ap (elements ns +_) (base-all rest)
+
+module _ (a : List ℕ) (n : ℕ) (h : ArraysIn a n) where
+  pub none-yet : 0 ≡ base (arraysOf a) 0
+  none-yet = sym (no-base (arraysOf a))
+
+  module _ (i r e : ℕ) (l : i < n) (g : r ≡ base (arraysOf a) i) (f : e ≡ elements (extentsAt a i)) where
+    pub sum-small : r + e ≤ 16384
+    sum-small = let t = array-fits a i (h .each i l) in let q = h .fits in omega arith
+
+    pub one-more : r + e ≡ base (arraysOf a) (i + 1)
+    one-more = ap₂ _+_ g f ∙ sym (next-base a i (h .each i l))
+
+  number-is : n ≡ length (arraysOf a)
+  number-is = sym (arrays-length a ∙ ap (_/ 4) (h .all) ∙ mul-div-cancel n four)
+
+  pub all-arrays : (i r : ℕ) → i ≤ n → r ≡ base (arraysOf a) i → n ≤ i → r ≡ total (arraysOf a)
+  all-arrays i r l g m = let e : i ≡ n = omega arith in g ∙ ap (base (arraysOf a)) (e ∙ number-is) ∙ base-all (arraysOf a)
+
+module _ (P : Sheet) (h : SheetIn P) where
+  pub arrays-in : ArraysIn (extentsIn P) (P .arrays)
+  arrays-in = let l = extents-count P h in record {
+    all = l;
+    each = λ i g. array-in (Sheets.wordsIn P) (Sheets.ownersIn P) (extentsIn P) (P .depth) i (h .accesses-ok) (let z : length (extentsIn P) / 4 ≡ P .arrays = ap (_/ 4) l ∙ mul-div-cancel (P .arrays) four in omega arith);
+    fits = h .fits;
+  }
+
+  pub total-is : (r : ℕ) → r ≡ total (arraysOf (extentsIn P)) → r ≡ total (nestOf P .arrays)
+  unfolding nestOf
+  total-is r e = e

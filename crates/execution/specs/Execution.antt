@@ -1,0 +1,53 @@
+-- What the tests before a run answer, and what the run asks of a sheet.
+use mathlib.Core.Path.{_≡_}
+use mathlib.Core.Bool.{not}
+use mathlib.Core.List.{List}
+use Prim.Native.Nat.{ℕ, zero, suc, _*_, _≤_}
+use lib.Dec.{eqb}
+use lib.ListN.{length, getD}
+use Rattle.lists.specs.Membership.{All}
+use Rattle.model.specs.Answer.{Answer, accepted, refused, require, _>>_}
+use Rattle.model.specs.Ticket.{Statement, Nest}
+use Rattle.model.specs.Grammar.{total}
+use Rattle.model.specs.Points.{iterations}
+use Rattle.model.specs.Bounds.{sprawl, inArrays}
+use Rattle.model.specs.Shape.{WellFormed}
+use Rattle.elements.specs.Layout.{arraysOf, ArrayIn}
+use Rattle.sheet.specs.declared.Sheet.{Sheet}
+use Rattle.sheet.specs.Sheets.{nestOf, SheetIn}
+
+-- ---- refusal 15
+
+-- the number of the first opaque statement, 0 for none
+abbrev pub opaqueAt : ℕ → Answer (Unit {0})
+opaqueAt zero = accepted tt
+opaqueAt (suc n) = refused 15 (suc n)
+
+-- n statements with these rules, from statement i on, counted from 0
+unfoldable pub clearFrom : List ℕ → ℕ → ℕ → Answer (Unit {0})
+clearFrom rules i zero = accepted tt
+clearFrom rules i (suc n) = require (not (eqb (getD rules i 0) 0)) 15 (suc i) >> clearFrom rules (suc i) n
+
+-- ---- refusal 16
+
+-- all n arrays of a slice
+pub record ArraysIn (a : List ℕ) (n : ℕ) : Type 0 where
+  pub all : length a ≡ n * 4
+  pub each : (i : ℕ) → suc i ≤ n → ArrayIn a i
+  pub fits : total (arraysOf a) ≤ 16384
+
+-- ---- the run
+
+-- an accepted ticket's new nest
+pub record Executable (N : Nest) : Type 0 where
+  pub formed : WellFormed N
+  pub sprawls : sprawl (N .loops) ≡ accepted tt
+  pub few : length (iterations (N .loops)) ≤ 4096
+  pub inside : inArrays (N .arrays) (iterations (N .loops)) 1 (N .statements) ≡ accepted tt
+  pub constants : All (λ (s : Statement). s .constant ≤ 32767) (N .statements)
+
+-- on its sheet, and a store of `room` words
+pub record ExecuteIn (P : Sheet) (room : ℕ) : Type 0 where
+  pub sheet : SheetIn P
+  pub nest : Executable (nestOf P)
+  pub whole : room ≡ total (nestOf P .arrays)
