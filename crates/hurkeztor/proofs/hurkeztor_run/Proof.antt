@@ -1,0 +1,20 @@
+-- `hurkeztor_run`: the entry's answer, packed.
+use Rattle.hurkeztor.proofs.PackLaws.{same-packed}
+use borrow.Author.Needs.{needs}
+use Rattle.hurkeztor.proofs.hurkeztor_run.Statement.{statement}
+use Rattle.hurkeztor.proofs.hurkeztor_run.Tie as tie
+
+run-requires : tie.Need-run-requires
+run-requires c κs = search needs
+
+pack-answer-requires : tie.Need-pack-answer-requires
+pack-answer-requires c κs = search needs
+
+same-length : tie.Need-same-length
+same-length c = search needs
+
+returns : tie.Need-returns
+returns c = let h = c .before .before .before .run .ensures in (same-packed _ _ _ (c .pack-answer .ensures) (h .answer), h .memory)
+
+pub hurkeztor-run-spec : {M : Type 1} → statement M
+hurkeztor-run-spec = tie.close (tie.spec run-requires pack-answer-requires same-length returns)
