@@ -60,8 +60,8 @@ module _ (ts : List Step) (proper : All Proper ts) (N : Nest) (formed : WellForm
         let old = bodyAt (N .statements) k in
         let new = bodyAt (M .statements) k in
         let never : (a : Access) → Mem a (accessesOf old) → element (undoAll ts q) a ≡ element q b → ⊥
-              = λ a j e. false-not-T _ (arrays-inside (N .arrays) (iterations (N .loops)) 1 (N .statements) inside old (getD-mem (N .statements) k noStatement (let l = statements-kept ts N in omega arith)) (undoAll ts q) here a j)
-                  (subst T (sym (strays-same (N .arrays) (undoAll ts q) q a b e)) t) in
+        = λ a j e. false-not-T _ (arrays-inside (N .arrays) (iterations (N .loops)) 1 (N .statements) inside old (getD-mem (N .statements) k noStatement (let l = statements-kept ts N in omega arith)) (undoAll ts q) here a j)
+        (subst T (sym (strays-same (N .arrays) (undoAll ts q) q a b e)) t) in
         ⊎-elim
         (λ w. let r = named-alike (undoAll ts q) q (old .writes) (new .writes) (same .writes) b w in never (r .0) (Memᴰ·append-left (old .reads) (r .1)) (r .2))
         (λ w. let r = named-alike (undoAll ts q) q (old .reads) (new .reads) (same .reads) b w in never (r .0) (Memᴰ·append-right (old .writes) (r .1)) (r .2))

@@ -17,12 +17,12 @@ pub fn first_opaque(sheet: Sheet) -> usize
 {
     let statements = sheet.statements;
     let rules = sheet.rules;
-    let mut i = 0;
-    while i < statements {
-        if rules[i] == 0 {
-            return i + 1;
+    let mut s = 0;
+    while s < statements {
+        if rules[s] == 0 {
+            return s + 1;
         }
-        i += 1;
+        s += 1;
     }
     0
 }
