@@ -1,5 +1,4 @@
 // The entry `run`: the nest of a ticket in its new order, on a store.
-ghost use lib.ListN.{length};
 ghost use Rattle.model.specs.Entries as Entries;
 ghost use Rattle.sheet.specs.Sheets.{nestOf};
 ghost use Rattle.intake.specs.Intake.{Taken};

@@ -1,6 +1,6 @@
 -- `first_opaque`: no statement before s is opaque.
 use mathlib.Core.Path.{_≡_}
-use Prim.Native.Nat.{ℕ, _-_, _≤_}
+use Prim.Native.Nat.{_-_, _≤_}
 use native.Mathlib.Omega.{arith}
 use Rattle.execution.specs.Execution.{clearFrom}
 use Rattle.execution.proofs.ClearLaws.{all-left, opaque-here, clear-here, none-opaque}
