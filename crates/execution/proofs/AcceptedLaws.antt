@@ -1,8 +1,8 @@
 -- Every accepted ticket can be run: its new nest has as many iterations as the old, and no access strays in it, since at a new point it names the
 -- element that the old access names at the original iteration.
-use mathlib.Core.Path.{_≡_, refl, sym, _∙_, ap, ap₂, subst}
+use mathlib.Core.Path.{_≡_, sym, _∙_, ap, subst}
 use mathlib.Core.Logic.{⊎-elim}
-use mathlib.Core.List.{List, [], _∷_, map, List·Memᴰ·append-cases, Memᴰ·append-left, Memᴰ·append-right, Memᴰ·map, Memᴰ·of-map}
+use mathlib.Core.List.{List, [], map, List·Memᴰ·append-cases, Memᴰ·append-left, Memᴰ·append-right, Memᴰ·map, Memᴰ·of-map}
 use Prim.Native.Nat.{ℕ, _≤_, _<_}
 use native.Mathlib.Omega.{arith}
 use lib.Dec.{T}
@@ -15,7 +15,7 @@ use Rattle.model.specs.Answer.{accepted}
 use Rattle.model.specs.Ticket.{Access, Statement, Step, Nest, Ticket}
 use Rattle.model.specs.Grammar.{total, extents}
 use Rattle.model.specs.Points.{iterations}
-use Rattle.model.specs.Bounds.{subscriptAt, outside, strays, accessesOf, inArrays, admitted, sprawl}
+use Rattle.model.specs.Bounds.{subscriptAt, outside, strays, accessesOf, inArrays, admitted}
 use Rattle.model.specs.Machine.{Element, element, bodyAt, accesses}
 use Rattle.model.specs.Steps.{undoAll}
 use Rattle.model.specs.Limits.{nestAfterAll}
@@ -23,7 +23,7 @@ use Rattle.model.specs.Ranges.{StatementRanges, TicketRanges}
 use Rattle.model.specs.Shape.{Proper, WellFormed}
 use Rattle.model.specs.Judge.{Judged, judgeTicket}
 use Rattle.model.proofs.Grammar.GrammarLaws.{steps-proper}
-use Rattle.model.proofs.Points.ArrayLaws.{Strays, off-outside, arrays-inside, accepted-arrays}
+use Rattle.model.proofs.Points.ArrayLaws.{off-outside, arrays-inside, accepted-arrays}
 use Rattle.model.proofs.Steps.AccessLaws.{accesses-undone}
 use Rattle.model.proofs.Steps.KeepLaws.{steps-keep-points, same-count}
 use Rattle.model.proofs.Steps.WellFormedLaws.{well-formed-after-all}
@@ -60,8 +60,8 @@ module _ (ts : List Step) (proper : All Proper ts) (N : Nest) (formed : WellForm
         let old = bodyAt (N .statements) k in
         let new = bodyAt (M .statements) k in
         let never : (a : Access) → Mem a (accessesOf old) → element (undoAll ts q) a ≡ element q b → ⊥
-              = λ a j e. false-not-T _ (arrays-inside (N .arrays) (iterations (N .loops)) 1 (N .statements) inside old (getD-mem (N .statements) k noStatement (let l = statements-kept ts N in omega arith)) (undoAll ts q) here a j)
-                  (subst T (sym (strays-same (N .arrays) (undoAll ts q) q a b e)) t) in
+        = λ a j e. false-not-T _ (arrays-inside (N .arrays) (iterations (N .loops)) 1 (N .statements) inside old (getD-mem (N .statements) k noStatement (let l = statements-kept ts N in omega arith)) (undoAll ts q) here a j)
+        (subst T (sym (strays-same (N .arrays) (undoAll ts q) q a b e)) t) in
         ⊎-elim
         (λ w. let r = named-alike (undoAll ts q) q (old .writes) (new .writes) (same .writes) b w in never (r .0) (Memᴰ·append-left (old .reads) (r .1)) (r .2))
         (λ w. let r = named-alike (undoAll ts q) q (old .reads) (new .reads) (same .reads) b w in never (r .0) (Memᴰ·append-right (old .writes) (r .1)) (r .2))

@@ -1,7 +1,7 @@
 -- What the run asks, stage by stage.
-use mathlib.Core.Path.{_≡_, refl, sym, _∙_, ap, subst}
+use mathlib.Core.Path.{_≡_, sym, _∙_, ap}
 use mathlib.Core.List.{List, [], _∷_}
-use Prim.Native.Nat.{ℕ, zero, suc, _+_, _*_, _^_, _≤_, _<_}
+use Prim.Native.Nat.{ℕ, zero, suc, _+_, _^_, _≤_, _<_}
 use native.Mathlib.Omega.{arith}
 use native.Mathlib.Nat.{add-zero, zero-add, add-suc, suc-add}
 use lib.IntN.{ℤ}
@@ -14,7 +14,7 @@ use Rattle.model.specs.Machine.{element, bodyAt}
 use Rattle.model.specs.Store.{placeOf}
 use Rattle.space.proofs.SurveyLaws.{survey-near}
 use Rattle.sheet.specs.declared.Sheet.{Sheet}
-use Rattle.sheet.specs.Sheets.{sizesIn, statementsFrom, nestOf, SheetIn}
+use Rattle.sheet.specs.Sheets.{sizesIn, statementsFrom, nestOf}
 use Rattle.sheet.specs.Stages.{ListIn, PointsAre, NumberIn, NumbersAre}
 use Rattle.sheet.proofs.SheetLaws.{sizes-count, access-is}
 use Rattle.store.specs.Runs.{RunIn}

@@ -1,20 +1,20 @@
 -- Refusal 16: all elements, array by array.
 use mathlib.Core.Path.{_≡_, refl, sym, _∙_, ap, ap₂}
 use mathlib.Core.List.{List, [], _∷_}
-use Prim.Native.Nat.{ℕ, zero, suc, _+_, _*_, _/_, _≤_, _<_}
+use Prim.Native.Nat.{ℕ, _+_, _/_, _≤_, _<_}
 use native.Mathlib.Omega.{arith}
 use native.Mathlib.Nat.{mul-div-cancel}
 use lib.ListN.{length}
 use Rattle.model.specs.Grammar.{elements, total}
 use Rattle.model.specs.Store.{base}
-use Rattle.elements.specs.Layout.{extentsAt, arraysOf, ArrayIn}
+use Rattle.elements.specs.Layout.{extentsAt, arraysOf}
 use Rattle.elements.proofs.LayoutLaws.{array-in}
 use Rattle.elements.proofs.ElementLaws.{arrays-length, no-base, next-base, array-fits}
 use Rattle.sheet.specs.declared.Sheet.{Sheet}
 use Rattle.sheet.specs.Sheets.{extentsIn, nestOf, SheetIn}
 use Rattle.sheet.specs.Sheets as Sheets
 use Rattle.sheet.proofs.SheetLaws.{extents-count}
-use Rattle.execution.specs.Execution.{ArraysIn}
+use Rattle.execution.specs.Execution.{TotalIn}
 
 four : 0 < 4
 four = omega arith
@@ -25,7 +25,7 @@ unfolding base total
 base-all [] = refl
 base-all (ns ∷ rest) = ap (elements ns +_) (base-all rest)
 
-module _ (a : List ℕ) (n : ℕ) (h : ArraysIn a n) where
+module _ (a : List ℕ) (n : ℕ) (h : TotalIn a n) where
   pub none-yet : 0 ≡ base (arraysOf a) 0
   none-yet = sym (no-base (arraysOf a))
 
@@ -43,7 +43,7 @@ module _ (a : List ℕ) (n : ℕ) (h : ArraysIn a n) where
   all-arrays i r l g m = let e : i ≡ n = omega arith in g ∙ ap (base (arraysOf a)) (e ∙ number-is) ∙ base-all (arraysOf a)
 
 module _ (P : Sheet) (h : SheetIn P) where
-  pub arrays-in : ArraysIn (extentsIn P) (P .arrays)
+  pub arrays-in : TotalIn (extentsIn P) (P .arrays)
   arrays-in = let l = extents-count P h in record {
     all = l;
     each = λ i g. array-in (Sheets.wordsIn P) (Sheets.ownersIn P) (extentsIn P) (P .depth) i (h .accesses-ok) (let z : length (extentsIn P) / 4 ≡ P .arrays = ap (_/ 4) l ∙ mul-div-cancel (P .arrays) four in omega arith);

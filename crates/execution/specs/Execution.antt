@@ -2,7 +2,7 @@
 use mathlib.Core.Path.{_≡_}
 use mathlib.Core.Bool.{not}
 use mathlib.Core.List.{List}
-use Prim.Native.Nat.{ℕ, zero, suc, _*_, _≤_}
+use Prim.Native.Nat.{ℕ, zero, suc, _*_, _≤_, _<_}
 use lib.Dec.{eqb}
 use lib.ListN.{length, getD}
 use Rattle.lists.specs.Membership.{All}
@@ -31,9 +31,9 @@ clearFrom rules i (suc n) = require (not (eqb (getD rules i 0) 0)) 15 (suc i) >>
 -- ---- refusal 16
 
 -- all n arrays of a slice
-pub record ArraysIn (a : List ℕ) (n : ℕ) : Type 0 where
+pub record TotalIn (a : List ℕ) (n : ℕ) : Type 0 where
   pub all : length a ≡ n * 4
-  pub each : (i : ℕ) → suc i ≤ n → ArrayIn a i
+  pub each : (i : ℕ) → i < n → ArrayIn a i
   pub fits : total (arraysOf a) ≤ 16384
 
 -- ---- the run

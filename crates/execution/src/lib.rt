@@ -1,13 +1,12 @@
 // The run of an accepted nest on its sheet, and the two tests before it: refusals 15 and 16.
 ghost use mathlib.Core.Path.{_≡_};
-ghost use Prim.Native.Nat.{ℕ};
 ghost use lib.ListN.{length};
 ghost use Rattle.model.specs.Grammar.{elements, total};
 ghost use Rattle.model.specs.Store.{runNest};
 ghost use Rattle.model.specs.Entries.{transparent};
 ghost use Rattle.elements.specs.Layout.{extentsAt, arraysOf, ArrayIn};
 ghost use Rattle.sheet.specs.Sheets.{nestOf, SheetIn};
-ghost use Rattle.execution.specs.Execution.{opaqueAt, ArraysIn, ExecuteIn};
+ghost use Rattle.execution.specs.Execution.{opaqueAt, TotalIn, ExecuteIn};
 use sheet::Sheet;
 
 // The number of the first statement with rule 0, or 0.
@@ -17,12 +16,12 @@ pub fn first_opaque(sheet: Sheet) -> usize
 {
     let statements = sheet.statements;
     let rules = sheet.rules;
-    let mut i = 0;
-    while i < statements {
-        if rules[i] == 0 {
-            return i + 1;
+    let mut s = 0;
+    while s < statements {
+        if rules[s] == 0 {
+            return s + 1;
         }
-        i += 1;
+        s += 1;
     }
     0
 }
@@ -44,7 +43,7 @@ fn elements_of(arrays: &[usize], i: usize) -> usize
 
 // The number of elements of all n arrays.
 fn elements_of_all(arrays: &[usize], n: usize) -> usize
-    requires { ⌜ ArraysIn (now arrays) n ⌝ }
+    requires { ⌜ TotalIn (now arrays) n ⌝ }
     ensures { λ r. ⌜ r ≡ total (arraysOf (now (arrays .entry))) ⌝ }
 {
     let mut r = 0;

@@ -25,7 +25,7 @@ use Rattle.layout.specs.Sheets.{modelOf}
 use Rattle.intake.specs.declared.Intake.{Intake}
 use Rattle.intake.specs.declared.Answer.{Answer}
 use Rattle.intake.specs.declared.Answer.the-variants.{Refused}
-use Rattle.intake.specs.Intake.{Taken, Admits}
+use Rattle.intake.specs.Intake.{Admits}
 use Rattle.intake.specs.Answers.{Hands}
 use Rattle.judgement.specs.declared.Judged.{Judged}
 use Rattle.judgement.specs.Judgement.{judgedAs, Judges}

@@ -1,5 +1,5 @@
 -- The tests before the run, one after the other, and the run.
-use mathlib.Core.Path.{_≡_, refl, sym, _∙_, ap, ap₂, subst}
+use mathlib.Core.Path.{_≡_, refl, sym, _∙_, ap, subst}
 use mathlib.Core.Bool.{Bool}
 use mathlib.Core.List.{List}
 use Prim.Native.Nat.{ℕ, zero, suc, _≤_, _<_}
@@ -7,12 +7,12 @@ use native.Mathlib.Omega.{arith}
 use borrow.Author.Tests.{eq-eqb, ne-eqb}
 use lib.Dec.{eqb}
 use lib.ListN.{length}
-use Rattle.model.specs.Answer.{Answer, accepted, refused, require, _>>_, _>>=_}
+use Rattle.model.specs.Answer.{Answer, accepted, require, _>>_, _>>=_}
 use Rattle.model.specs.Ticket.{Nest}
 use Rattle.model.specs.Grammar.{total}
 use Rattle.model.specs.Points.{iterations}
 use Rattle.model.specs.Store.{runNest}
-use Rattle.model.specs.Entries.{transparent, Outcome}
+use Rattle.model.specs.Entries.{transparent}
 use Rattle.reading.specs.declared.Refusal.{Refusal}
 use Rattle.reading.specs.declared.Refusal.the-variants.{OpaqueRule, WrongStoreLength}
 use Rattle.reading.specs.Refusals.{refusal}

@@ -1,5 +1,4 @@
 // The entry `run`: the nest of a ticket in its new order, on a store.
-ghost use lib.ListN.{length};
 ghost use Rattle.model.specs.Entries as Entries;
 ghost use Rattle.sheet.specs.Sheets.{nestOf};
 ghost use Rattle.intake.specs.Intake.{Taken};
@@ -30,10 +29,11 @@ fn run_judged(old: Sheet, new: Sheet, count: usize, store: &mut [u32]) -> Answer
     ensures { λ r. ⌜ Hands (outcome (tested (nestOf old) (now (store .entry))) (nestOf old) (nestOf new) (now (store .entry))) r (now (store .exit)) ⌝ }
 {
     let opaque = execution::first_opaque(old);
+    let elements = execution::elements_in(old);
     if 0 < opaque {
         return Answer::Refused(Refusal::OpaqueRule(opaque));
     }
-    if store.len() != execution::elements_in(old) {
+    if store.len() != elements {
         return Answer::Refused(Refusal::WrongStoreLength);
     }
     execution::execute(new, store);
