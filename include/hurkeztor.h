@@ -1,0 +1,46 @@
+/* Hurkeztor: judges reorderings of loop nests. Five entries over a ticket's bytes; every one is proved to answer as document 01 says, for
+ * every ticket, however mangled. No entry keeps memory, calls anything, or fails in any other way than by its answer.
+ *
+ * An answer is one number:
+ *   bits 0 to 7    document 01's number: 0 accepted, 1 to 16 refused
+ *   bits 8 to 31   the place of a refusal: a word, step, loop or statement, counted from 1; 0 on acceptance
+ *   bits 32 to 63  the count on acceptance: iterations (judge, run), bytes written (write, list), 1 'apart' or 0 'perhaps' (quick);
+ *                  0 on refusal
+ *
+ * A refused call changes no lent memory; an accepted one leaves every byte beyond those written as it was. A pointer of length 0 must not be
+ * null: any address will do. A call uses less than 1 MiB of stack. Calls may run at the same time in several threads.
+ */
+#ifndef HURKEZTOR_H
+#define HURKEZTOR_H
+
+#include <stddef.h>
+#include <stdint.h>
+
+#ifdef __cplusplus
+extern "C" {
+#endif
+
+/* Whether the new order is accepted, and the count of iterations. */
+uint64_t hurkeztor_judge(const uint8_t *ticket, size_t ticket_len);
+
+/* The new nest's bytes into out. The longest has 2,696 bytes. */
+uint64_t hurkeztor_write(const uint8_t *ticket, size_t ticket_len, uint8_t *out, size_t out_len);
+
+/* The listing of all directions into out, in ASCII. The longest has 21,330 bytes. */
+uint64_t hurkeztor_list(const uint8_t *ticket, size_t ticket_len, uint8_t *out, size_t out_len);
+
+/* Whether two accesses, numbered from 1 in ticket order, are apart: they never name one element. */
+uint64_t hurkeztor_quick(const uint8_t *ticket, size_t ticket_len, uint64_t first, uint64_t second);
+
+/* The nest in its new order on a store of store_words words, arrays following one another, last subscript fastest. */
+uint64_t hurkeztor_run(const uint8_t *ticket, size_t ticket_len, uint32_t *store, size_t store_words);
+
+static inline unsigned hurkeztor_number(uint64_t answer) { return (unsigned)(answer & 0xff); }
+static inline unsigned hurkeztor_place(uint64_t answer) { return (unsigned)(answer >> 8 & 0xffffff); }
+static inline uint32_t hurkeztor_count(uint64_t answer) { return (uint32_t)(answer >> 32); }
+
+#ifdef __cplusplus
+}
+#endif
+
+#endif
