@@ -5,10 +5,9 @@ use mathlib.Core.Logic.{⊎-elim}
 use mathlib.Core.List.{List, [], _∷_, _++_}
 use Prim.Native.Nat.{ℕ, zero, suc, _+_, _*_, _-_, _/_, _%_, _≤_, _<_}
 use native.Mathlib.Nat.{eq-or-lt-of-le}
-use native.Mathlib.Numerals.{add-one}
 use native.Mathlib.Omega.{arith}
 use lib.IntN.{ℤ, pos}
-use lib.ListN.{length, replicate, take, drop, getD, set, length-set, List·getD-eq-default}
+use lib.ListN.{length, replicate, take, drop, getD, set, List·getD-eq-default}
 use lib.Seq.{take-suc, take-all, getD-take, getD-drop, getD-set-same, getD-set-other}
 use Rattle.integers.specs.Sign.{Sign, equal, sign}
 use Rattle.integers.proofs.SignLaws.{Means, sign-means, sign-self}
@@ -16,7 +15,7 @@ use Rattle.lists.proofs.PartLaws.{row-fits}
 use Rattle.model.specs.Directions.{signs}
 use Rattle.dependence.specs.Numbers.{digit, numberAfter, number}
 use Rattle.dependence.specs.Search.{row, code, Constant, ConstantElse, Steady, Candidate, Covers}
-use Rattle.dependence.proofs.NumberLaws.{digit-lt, digit-unique, after-append, padded, number-lt, signs-length, signs-short}
+use Rattle.dependence.proofs.NumberLaws.{digit-lt, digit-unique, after-append, padded, number-lt, signs-short}
 use Rattle.dependence.proofs.VectorLaws.{row-length, row-short}
 use Rattle.dependence.proofs.FullLaws.{le-cases}
 

@@ -3,7 +3,7 @@ use mathlib.Core.Path.{refl}
 use Prim.Native.Nat.{_≤_}
 use native.Mathlib.Omega.{arith}
 use borrow.Author.Needs.{needs}
-use borrow.Author.Tests.{not-false, not-true}
+use borrow.Author.Tests.{not-true}
 use Rattle.dependence.proofs.CandidateLaws.{Outer, outer-all, outer-next, no-candidate}
 use Rattle.dependence.proofs.candidate.Statement.{statement}
 use Rattle.dependence.proofs.candidate.Tie as tie
