@@ -1,10 +1,10 @@
 -- All that two accesses can set: the loop that looks for it, and the search that is left because it is there.
-use mathlib.Core.Path.{_≡_, refl, sym, ap, _∙_, subst}
+use mathlib.Core.Path.{_≡_, refl, sym, ap, subst}
 use mathlib.Core.Bool.{Bool, true, false, _||_}
 use mathlib.Core.Logic.{_⊎_, inl, inr, ⊎-elim}
 use mathlib.Core.List.{List, [], _∷_}
-use Prim.Native.Nat.{ℕ, zero, suc, _+_, _*_, _-_, _/_, _≤_, _<_}
-use native.Mathlib.Nat.{eq-or-lt-of-le, suc-mul, zero-mul, lt-of-mul-lt-mul-right}
+use Prim.Native.Nat.{ℕ, zero, suc, _+_, _*_, _≤_, _<_}
+use native.Mathlib.Nat.{eq-or-lt-of-le}
 use native.Mathlib.Omega.{arith}
 use lib.Dec.{T, ltb, eqb, eqb→eq}
 use lib.IntN.{ℤ}
@@ -18,30 +18,17 @@ use Rattle.lists.proofs.TestLaws.{T-same, true-T, and-both, or-cases, or-left, 
 use Rattle.model.specs.Directions.{signs}
 use Rattle.model.specs.Inside.{Earlier}
 use Rattle.dependence.specs.Numbers.{number}
-use Rattle.dependence.specs.Search.{some, upTo, row, code, hit, found, Adds, stride, middle, Aligned, Full, Searchable}
+use Rattle.dependence.specs.Search.{some, upTo, row, code, hit, found, Adds, Covers, Full, Searchable}
 use Rattle.dependence.proofs.SomeLaws.{some-there, there-some}
 use Rattle.dependence.proofs.ChainLaws.{upTo-le}
-use Rattle.dependence.proofs.NumberLaws.{stride-half, number-aligned, signs-length, number-self, number-earlier}
+use Rattle.dependence.proofs.NumberLaws.{number-self, number-earlier}
 use Rattle.dependence.proofs.VectorLaws.{row-length}
 
 -- ---- the loop
 
--- all below v that can be
-abbrev pub FullBelow : ℕ → ℕ → List Bool → ℕ → Type 0
-FullBelow k base m v = Aligned k v × ((u : ℕ) → Aligned k u → u < v → getD m (base + u) false ≡ true)
-
-aligned-next : (k s v : ℕ) → s ≡ stride k → Aligned k v → Aligned k (v + s)
-aligned-next k s v e (w, h) = (suc w, let a = suc-mul w (stride k) in omega arith)
-
--- between one and the next there is none
-aligned-gap : (k s u v : ℕ) → s ≡ stride k → Aligned k u → Aligned k v → u < v + s → v < u → ⊥
-aligned-gap k s u v e (w, h) (x, g) l m = let a : x < w = lt-of-mul-lt-mul-right (stride k) (omega arith) in let b = row-fits (stride k) x w a in omega arith
-
-pub full-first : (k s base : ℕ) (m : List Bool) → s ≡ stride k → FullBelow k base m ((s - 1) / 2)
-full-first k s base m e = let a = stride-half k s e in ((0, let b = zero-mul (stride k) in omega arith), λ u f l. absurd (none u (f .0) (f .1) (omega arith)))
-  where
-    none : (u w : ℕ) → u ≡ w * stride k + middle k → u < middle k → ⊥
-    none u w f l = omega arith
+-- all possible ones below v
+abbrev pub FullBelow : List Bool → ℕ → List Bool → ℕ → Type 0
+FullBelow possible base m v = (u : ℕ) → u < v → getD possible u false ≡ true → getD m (base + u) false ≡ true
 
 pub le-cases : (u v : ℕ) → (u ≤ v) ⊎ (v < u)
 le-cases u v = go (ltb v u) refl
@@ -50,16 +37,8 @@ le-cases u v = go (ltb v u) refl
     go true e = inr (ltb-true v u e)
     go false e = inl (ltb-false v u e)
 
-pub full-next : (k s base : ℕ) (m : List Bool) (v : ℕ) → s ≡ stride k → getD m (base + v) false ≡ true → FullBelow k base m v → FullBelow k base m (v + s)
-full-next k s base m v e h (a, f) = (
-  aligned-next k s v e a,
-  λ u b l. ⊎-elim
-      (λ c. ⊎-elim (λ i. subst (λ z. getD m (base + z) false ≡ true) (sym i) h) (λ i. f u b i) (eq-or-lt-of-le c))
-      (λ c. absurd (aligned-gap k s u v e b a l c)) (le-cases u v),
-)
-
-pub full-done : (d base : ℕ) (own : Bool) (m : List Bool) (v : ℕ) → upTo own 364 ≤ v → FullBelow (6 - d) base m v → Full d own base m
-full-done d base own m v h (a, f) u b l = f u b (omega arith)
+pub full-next : (possible : List Bool) (base : ℕ) (m : List Bool) (v : ℕ) → (getD possible v false ≡ true → getD m (base + v) false ≡ true) → FullBelow possible base m v → FullBelow possible base m (v + 1)
+full-next possible base m v h f u l = ⊎-elim (λ e. subst (λ z. getD possible z false ≡ true → getD m (base + z) false ≡ true) (sym e) h) (f u) (eq-or-lt-of-le (let z : u ≤ v = omega arith in z))
 
 -- ---- points in order
 
@@ -80,10 +59,6 @@ module _ (d n : ℕ) (s : List ℤ) (shallow : d ≤ 6) (stored : n * d ≤ leng
       subst (λ p. Earlier p (take d (drop (y * d) s))) (rows-getD d n s x [] (omega arith)) (subst (λ q. Earlier (getD (rows d n s) x []) q) (rows-getD d n s y [] g) (ordered-getD Earlier (rows d n s) x y [] rising h (omega arith)))
 
   -- the numbers that can be found
-  pub code-aligned : (x y : ℕ) → x < n → y < n → Aligned (6 - d) (code d s x y)
-  unfolding code
-  code-aligned x y h g = let a = row-is x h in let b = row-is y g in number-aligned (signs (row d s x) (row d s y)) d (signs-length (row d s x) (row d s y) (omega arith) ∙ a)
-
   pub code-forward : (own : Bool) (x y : ℕ) → x < upTo own y → y < n → code d s x y < upTo own 364
   unfolding code upTo
   code-forward true x y h g = let a = row-is y g in ⊎-elim
@@ -94,10 +69,10 @@ module _ (d n : ℕ) (s : List ℤ) (shallow : d ≤ 6) (stored : n * d ≤ leng
 
 -- ---- the search that is left
 
-pub left-early : (s : List ℤ) (d : ℕ) (from to : List ℕ) (own : Bool) (base : ℕ) (m₀ m : List Bool) (y : ℕ) → Searchable s d from to base m₀ → y ≤ length from
-    → Full d own base m → Adds m₀ m (found d s y from to own base) → Adds m₀ m (found d s (length from) from to own base)
+pub left-early : (s : List ℤ) (d : ℕ) (possible : List Bool) (from to : List ℕ) (own : Bool) (base : ℕ) (m₀ m : List Bool) (y : ℕ) → Searchable s d from to base m₀ → Covers d s (length from) possible → y ≤ length from
+    → Full possible own base m → Adds m₀ m (found d s y from to own base) → Adds m₀ m (found d s (length from) from to own base)
 unfolding found hit
-left-early s d from to own base m₀ m y ok h full a j = T-same (getD m j false) (getD m₀ j false || found d s n from to own base j)
+left-early s d possible from to own base m₀ m y ok covers h full a j = T-same (getD m j false) (getD m₀ j false || found d s n from to own base j)
     (λ g. ⊎-elim (λ k. or-left (getD m₀ j false) (found d s n from to own base j) k)
     (λ k. or-right (getD m₀ j false) (found d s n from to own base j) (let r = some-there y (sink j) k in there-some n (r .0) (sink j) (let l = r .1 in omega arith) (r .2)))
     (or-cases (getD m₀ j false) (found d s y from to own base j) (subst T (a j) g)))
@@ -117,4 +92,4 @@ left-early s d from to own base m₀ m y ok h full a j = T-same (getD m j false)
         let k = upTo-le own y n (p .1) in let l = q .1 in
         let e : base + code d s x y ≡ j = eqb→eq (base + code d s x y) j (and-both (eqb (getD from x 0) (getD to y 0)) (eqb (base + code d s x y) j) (q .2) .1) in
         true-T (getD m j false) (subst (λ z. getD m z false ≡ true) e
-        (full (code d s x y) (code-aligned d n s (ok .shallow) (ok .stored) (ok .rising) x y (omega arith) (p .1)) (code-forward d n s (ok .shallow) (ok .stored) (ok .rising) own x y (q .1) (p .1))))
+        (full (code d s x y) (code-forward d n s (ok .shallow) (ok .stored) (ok .rising) own x y (q .1) (p .1)) (covers .vectors x y (omega arith) (p .1))))

@@ -5,6 +5,7 @@ pub mod VectorLaws
 pub mod ChainLaws
 pub mod WalkLaws
 pub mod FullLaws
+pub mod CandidateLaws
 pub mod SearchLaws
 pub mod FlatLaws
 pub mod UseLaws

@@ -17,7 +17,7 @@ use Rattle.integers.proofs.SignLaws.{sign-self}
 use Rattle.model.specs.Directions.{signs, earlier, bySign}
 use Rattle.model.specs.Inside.{Earlier}
 use Rattle.dependence.specs.Numbers.{digit, numberAfter, number}
-use Rattle.dependence.specs.Search.{stride, middle, Aligned}
+use Rattle.dependence.specs.Search.{stride, middle}
 
 -- ---- digits
 
@@ -31,7 +31,7 @@ digit-lt greater = omega arith
 pub sign-back : (a b : ℤ) {n : ℕ} → SFits w64 a → SFits w64 b → n ≡ digit (sign (toZ w64 (ofZ w64 a)) (toZ w64 (ofZ w64 b))) → n ≡ digit (sign a b)
 sign-back a b f g e = rw (back f, back g) at e
 
-digit-unique : (s t : Sign) → digit s ≡ digit t → s ≡ t
+pub digit-unique : (s t : Sign) → digit s ≡ digit t → s ≡ t
 unfolding digit
 digit-unique less less e = refl
 digit-unique less equal e = absurd (omega arith)
@@ -91,7 +91,7 @@ after-append (s ∷ v) w n = after-append v w (n * 3 + digit s)
 
 -- ---- at most six signs
 
-padded : (v : List Sign) → length v ≤ 6 → length (v ++ replicate (6 - length v) equal) ≡ 6
+pub padded : (v : List Sign) → length v ≤ 6 → length (v ++ replicate (6 - length v) equal) ≡ 6
 padded v h = let a = length-append v (replicate (6 - length v) equal) in let b = length-replicate (6 - length v) equal in omega arith
 
 scaled-six : (k : ℕ) → k ≡ 6 → scaled k (0 + 1) ≡ 729
@@ -127,9 +127,6 @@ after-equal (suc k) n = let a = after-equal k (n * 3 + 1) in let b = after-equal
 pub number-splits : (v : List Sign) (d : ℕ) → length v ≡ d → number v ≡ numberAfter 0 v * stride (6 - d) + middle (6 - d)
 unfolding number
 number-splits v d e = rw e (after-append v (replicate (6 - d) equal) 0 ∙ after-equal (6 - d) (numberAfter 0 v))
-
-pub number-aligned : (v : List Sign) (d : ℕ) → length v ≡ d → Aligned (6 - d) (number v)
-number-aligned v d e = (numberAfter 0 v, number-splits v d e)
 
 above : (n d : ℕ) → n ≤ d → (d ≡ n → ⊥) → n + 1 ≤ d
 above n d h e = omega arith

@@ -4,9 +4,9 @@ use mathlib.Core.Bool.{Bool, cond, false, true, _&&_, _||_}
 use mathlib.Core.List.{List}
 use Prim.Native.Nat.{ℕ, zero, suc, _+_, _*_, _-_, _≤_, _<_}
 use lib.Dec.{eqb}
-use lib.IntN.{ℤ}
+use lib.IntN.{ℤ, pos}
 use lib.ListN.{length, take, drop, getD, replicate}
-use Rattle.integers.specs.Sign.{equal}
+use Rattle.integers.specs.Sign.{Sign, equal}
 use Rattle.lists.specs.Order.{Ordered}
 use Rattle.lists.specs.Parts.{rows}
 use Rattle.model.specs.Directions.{signs}
@@ -82,7 +82,7 @@ pub record Walkable (s : List ℤ) (d y first : ℕ) (next : List ℕ) (base : �
   pub falling : (x : ℕ) → x < first → getD next x 0 ≤ x
   pub room : base + 729 ≤ length marks
 
--- ---- all marks that two accesses can set
+-- ---- the numbers of vectors that two points can have
 
 -- the numbers of vectors of d signs are equally far from one another
 unfoldable pub stride : ℕ → ℕ
@@ -92,13 +92,32 @@ stride (suc k) = stride k * 3
 unfoldable pub middle : ℕ → ℕ
 middle k = numberAfter 0 (replicate k equal)
 
--- v is the number of a vector of six signs, the last k of them =
-abbrev pub Aligned : ℕ → ℕ → Type 0
-Aligned k v = (w : ℕ) × (v ≡ w * stride k + middle k)
+-- loop k has one index at all of n points
+abbrev pub Constant : ℕ → List ℤ → ℕ → ℕ → Type 0
+Constant d s n k = (x : ℕ) → x < n → getD s (x * d + k) (pos 0) ≡ getD s k (pos 0)
 
--- every vector of d loops that does not point backwards is marked, that of = alone only where it can be
-abbrev pub Full : ℕ → Bool → ℕ → List Bool → Type 0
-Full d own base m = (v : ℕ) → Aligned (6 - d) v → v < upTo own 364 → getD m (base + v) false ≡ true
+-- every loop below m that does not vary is constant
+abbrev pub ConstantElse : ℕ → List ℤ → ℕ → ℕ → List Bool → Type 0
+ConstantElse d s n m varying = (k : ℕ) → k < m → getD varying k false ≡ false → Constant d s n k
+
+-- the signs are = at every loop that does not vary
+abbrev pub Steady : List Bool → List Sign → Type 0
+Steady varying u = (k : ℕ) → getD varying k false ≡ false → getD u k equal ≡ equal
+
+-- r is true of the number of such signs
+abbrev pub Candidate : List Bool → ℕ → Bool → Type 0
+Candidate varying v r = (u : List Sign) → length u ≤ 6 → Steady varying u → number u ≡ v → r ≡ true
+
+-- the number of the vector of any two of n points is possible
+pub record Covers (d : ℕ) (s : List ℤ) (n : ℕ) (possible : List Bool) : Type 0 where
+  pub numbers : 729 ≤ length possible
+  pub vectors : (x y : ℕ) → x < n → y < n → getD possible (code d s x y) false ≡ true
+
+-- ---- all marks that two accesses can set
+
+-- every possible vector that does not point backwards is marked, that of = alone only where it can be
+abbrev pub Full : List Bool → Bool → ℕ → List Bool → Type 0
+Full possible own base m = (v : ℕ) → v < upTo own 364 → getD possible v false ≡ true → getD m (base + v) false ≡ true
 
 -- ---- what the search of two accesses asks
 

@@ -7,6 +7,7 @@ ghost use Rattle.integers.specs.Sign.{sign as «sign-of»};
 ghost use Rattle.model.specs.Directions.{signs};
 ghost use Rattle.dependence.specs.Numbers.{digit, numberAfter, number, placeOf};
 ghost use Rattle.dependence.specs.Search.{Links, Linkable, upTo, code, Adds, walked, Walkable, Full, found, Searchable};
+ghost use Rattle.dependence.specs.Search.{Constant, Steady, ConstantElse, Candidate, Covers};
 ghost use Rattle.dependence.specs.Search.{stride as «stride-of»};
 ghost use Rattle.dependence.specs.Flat.{flat, Ready, Searched, kindOf, setBy, setFrom, Listed, Alike, FirstLike};
 
@@ -73,6 +74,68 @@ fn pair(points: &[i64], depth: usize, x: usize, y: usize) -> usize
         &points[x * depth..x * depth + depth],
         &points[y * depth..y * depth + depth],
     )
+}
+
+// ---- vectors that two points can have
+
+// Whether the index of loop k differs at two points.
+fn varies(points: &[i64], depth: usize, count: usize, k: usize) -> bool
+    requires { ⌜ (k < depth) × (count * depth ≤ length (now points)) ⌝ }
+    ensures { λ r. ⌜ (r ≡ false → Constant depth (now (points .entry)) count k) ⌝ }
+{
+    let mut x = 0;
+    while x < count {
+        if sign(points[k], points[x * depth + k]) != 1 {
+            return true;
+        }
+        x += 1;
+    }
+    false
+}
+
+// Which loops have indices that differ.
+fn vary(points: &[i64], depth: usize, count: usize, varying: &mut [bool])
+    requires { ⌜ (count * depth ≤ length (now points)) × (depth ≤ length (now varying)) ⌝ }
+    ensures { λ _. ⌜ ConstantElse depth (now (points .entry)) count depth (now (varying .exit)) ⌝ }
+{
+    let mut k = 0;
+    while k < depth {
+        varying[k] = varies(points, depth, count, k);
+        k += 1;
+    }
+}
+
+// Whether v is the number of a vector that has = at every loop that does not vary.
+fn candidate(v: usize, varying: &[bool]) -> bool
+    requires { ⌜ length (now varying) ≡ 6 ⌝ }
+    ensures { λ r. ⌜ Candidate (now (varying .entry)) v r ⌝ }
+{
+    let mut w = v;
+    let mut k = 6;
+    while 0 < k {
+        k -= 1;
+        if !varying[k] {
+            if w % 3 != 1 {
+                return false;
+            }
+        }
+        w = w / 3;
+    }
+    true
+}
+
+// Sets the number of every vector that two of the points can have.
+fn candidates(points: &[i64], depth: usize, count: usize, possible: &mut [bool])
+    requires { ⌜ (depth ≤ 6) × (count * depth ≤ length (now points)) × (729 ≤ length (now possible)) ⌝ }
+    ensures { λ _. ⌜ Covers depth (now (points .entry)) count (now (possible .exit)) ⌝ }
+{
+    let mut varying = [false; 6];
+    vary(points, depth, count, &mut varying);
+    let mut v = 0;
+    while v < 729 {
+        possible[v] = candidate(v, &varying);
+        v += 1;
+    }
 }
 
 // ---- chains of points by element
@@ -145,18 +208,19 @@ fn limit(own: bool) -> usize
 }
 
 // Whether every vector that the search of two accesses can find is marked.
-fn full(marks: &[bool], base: usize, depth: usize, own: bool) -> bool
-    requires { ⌜ (depth ≤ 6) × (base + 729 ≤ length (now marks)) ⌝ }
-    ensures { λ r. ⌜ (r ≡ true → Full depth own base (now (marks .entry))) ⌝ }
+fn full(marks: &[bool], base: usize, possible: &[bool], own: bool) -> bool
+    requires { ⌜ (base + 729 ≤ length (now marks)) × (729 ≤ length (now possible)) ⌝ }
+    ensures { λ r. ⌜ (r ≡ true → Full (now (possible .entry)) own base (now (marks .entry))) ⌝ }
 {
-    let step = stride(depth);
     let end = limit(own);
-    let mut v = (step - 1) / 2;
+    let mut v = 0;
     while v < end {
-        if !marks[base + v] {
-            return false;
+        if possible[v] {
+            if !marks[base + v] {
+                return false;
+            }
         }
-        v += step;
+        v += 1;
     }
     true
 }
@@ -166,13 +230,14 @@ fn full(marks: &[bool], base: usize, depth: usize, own: bool) -> bool
 fn search(
     points: &[i64],
     depth: usize,
+    possible: &[bool],
     from: &[u16],
     to: &[u16],
     own: bool,
     base: usize,
     marks: &mut [bool],
 )
-    requires { ⌜ Searchable (now points) depth (now from) (now to) base (now marks) ⌝ }
+    requires { ⌜ Searchable (now points) depth (now from) (now to) base (now marks) × Covers depth (now points) (length (now from)) (now possible) ⌝ }
     ensures { λ _. ⌜ Adds (now (marks .entry)) (now (marks .exit)) (found depth (now (points .entry)) (length (now (from .entry))) (now (from .entry)) (now (to .entry)) own base) ⌝ }
 {
     let mut next = [0u16; 4096];
@@ -185,7 +250,7 @@ fn search(
         spent = spent + walk(points, depth, y, wide(start[y]), &next, base, marks);
         y += 1;
         if 729 < spent {
-            if full(marks, base, depth, own) {
+            if full(marks, base, possible, own) {
                 return;
             }
             spent = 0;
@@ -285,6 +350,7 @@ fn block(body: usize, s: usize, t: usize, k: usize) -> usize
 fn between(
     points: &[i64],
     depth: usize,
+    possible: &[bool],
     count: usize,
     numbers: &[u16],
     statements: &[usize],
@@ -294,7 +360,7 @@ fn between(
     b: usize,
     marks: &mut [bool],
 )
-    requires { ⌜ Ready (flat (now points) depth count (now numbers) (now statements) (now writes) body) (now marks) × (a < length (now statements)) × (b < length (now statements)) ⌝ }
+    requires { ⌜ Ready (flat (now points) depth count (now numbers) (now statements) (now writes) body) (now marks) × (a < length (now statements)) × (b < length (now statements)) × Covers depth (now points) count (now possible) ⌝ }
     ensures { λ _. ⌜ Adds (now (marks .entry)) (now (marks .exit)) (setBy (flat (now (points .entry)) depth count (now (numbers .entry)) (now (statements .entry)) (now (writes .entry)) body) a b) ⌝ }
 {
     let k = kind(writes[a], writes[b]);
@@ -304,6 +370,7 @@ fn between(
         search(
             points,
             depth,
+            possible,
             &numbers[a * 4096..a * 4096 + count],
             &numbers[b * 4096..b * 4096 + count],
             s < t,
@@ -317,6 +384,7 @@ fn between(
 fn from_access(
     points: &[i64],
     depth: usize,
+    possible: &[bool],
     count: usize,
     numbers: &[u16],
     statements: &[usize],
@@ -325,7 +393,7 @@ fn from_access(
     a: usize,
     marks: &mut [bool],
 )
-    requires { ⌜ Ready (flat (now points) depth count (now numbers) (now statements) (now writes) body) (now marks) × (a < length (now statements)) ⌝ }
+    requires { ⌜ Ready (flat (now points) depth count (now numbers) (now statements) (now writes) body) (now marks) × (a < length (now statements)) × Covers depth (now points) count (now possible) ⌝ }
     ensures { λ _. ⌜ Adds (now (marks .entry)) (now (marks .exit)) (setFrom (flat (now (points .entry)) depth count (now (numbers .entry)) (now (statements .entry)) (now (writes .entry)) body) a) ⌝ }
 {
     let mut b = 0;
@@ -334,6 +402,7 @@ fn from_access(
             between(
                 points,
                 depth,
+                possible,
                 count,
                 numbers,
                 statements,
@@ -362,12 +431,15 @@ pub fn dependences(
     requires { ⌜ Ready (flat (now points) depth count (now numbers) (now statements) (now writes) body) (now marks) ⌝ }
     ensures { λ _. ⌜ Searched (flat (now (points .entry)) depth count (now (numbers .entry)) (now (statements .entry)) (now (writes .entry)) body) (now (marks .entry)) (now (marks .exit)) ⌝ }
 {
+    let mut possible = [false; 729];
+    candidates(points, depth, count, &mut possible);
     let mut a = 0;
     while a < statements.len() {
         if first_like(count, numbers, statements, writes, a) == a {
             from_access(
                 points,
                 depth,
+                &possible,
                 count,
                 numbers,
                 statements,

@@ -11,10 +11,10 @@ use Rattle.dependence.proofs.search.Statement.{statement}
 use Rattle.dependence.proofs.search.Tie as tie
 
 abbrev Inv-loop : tie.InvT-loop
-Inv-loop points depth from to own base marks₀ next start spent₀ y₀ marks spent y = Searching points depth from to own base next start marks₀ marks spent y
+Inv-loop points depth possible from to own base marks₀ next start spent₀ y₀ marks spent y = Searching points depth from to own base next start marks₀ marks spent y
 
 abbrev μ-loop : tie.MeasureT-loop
-μ-loop points depth from to own base marks₀ next start spent₀ y₀ marks spent y = length from - y
+μ-loop points depth possible from to own base marks₀ next start spent₀ y₀ marks spent y = length from - y
 
 abbrev Start : Type 0
 Start = tie.Start Inv-loop μ-loop
@@ -23,7 +23,7 @@ abbrev At : Type 0
 At = tie.At-loop Inv-loop μ-loop
 
 abbrev top : At → Start
-top c = c .before .before .before .before .before .before .before .before .before .before
+top c = c .before .before .before .before .before .before .before .before .before .before .before
 
 -- the sink y is done
 done : (c : tie.After-slice-known2 Inv-loop μ-loop) (spent : ℕ) → spent ≤ 729 → (let s = top (c .before .before .before .before .before .before .before) .args in let a = c .before .before .before .before .before .before .before in
@@ -36,23 +36,23 @@ slice-aggregate-link : tie.Need-slice-aggregate-link Inv-loop μ-loop
 slice-aggregate-link c = search needs
 
 link-requires : tie.Need-link-requires Inv-loop μ-loop
-link-requires c κs = let p = c .before .before .before .before .pre in record { few = p .few; both = refl; sources = p .sources; sinks = p .sources; room = p .few }
+link-requires c κs = let p = c .before .before .before .before .before .pre .0 in record { few = p .few; both = refl; sources = p .sources; sinks = p .sources; room = p .few }
 
 slice-aggregate-link-2 : tie.Need-slice-aggregate-link-2 Inv-loop μ-loop
 slice-aggregate-link-2 c = search needs
 
 link-requires-2 : tie.Need-link-requires-2 Inv-loop μ-loop
-link-requires-2 c κs = let p = c .before .before .before .before .before .before .before .pre in record { few = p .few; both = p .both; sources = p .sources; sinks = p .sinks; room = p .few }
+link-requires-2 c κs = let p = c .before .before .before .before .before .before .before .before .pre .0 in record { few = p .few; both = p .both; sources = p .sources; sinks = p .sinks; room = p .few }
 
 loop-holds : tie.Need-loop-holds Inv-loop μ-loop
-loop-holds c = let s = c .before .before .before .before .before .before .before .before .before .args in search-begins (s .points .now) (s .depth) (s .from .now) (s .to .now) (s .own) (s .base) (c .before .before .before .before .link .last .1 .1 .1 .0) (c .before .link2 .last .1 .1 .1 .0) (s .marks .now)
+loop-holds c = let s = c .before .before .before .before .before .before .before .before .before .before .args in search-begins (s .points .now) (s .depth) (s .from .now) (s .to .now) (s .own) (s .base) (c .before .before .before .before .link .last .1 .1 .1 .0) (c .before .link2 .last .1 .1 .1 .0) (s .marks .now)
     (c .before .before .before .before .link .kept .1 .1 .1 .0 ∙ length-replicate {A = ℕ} 4096 0) (c .before .before .before .before .link .ensures) (c .before .link2 .ensures)
 
 mul-wide : tie.Need-mul-wide Inv-loop μ-loop
-mul-wide c = let p = top (c .before) .pre .few in let t = c .loop-test .taken in omega arith
+mul-wide c = let p = top (c .before) .pre .0 .few in let t = c .loop-test .taken in omega arith
 
 array-read-wide : tie.Need-array-read-wide Inv-loop μ-loop
-array-read-wide c = let p = top (c .before) .pre .few in let t = c .loop-test .taken in omega arith
+array-read-wide c = let p = top (c .before) .pre .0 .few in let t = c .loop-test .taken in omega arith
 
 wide-requires : tie.Need-wide-requires Inv-loop μ-loop
 wide-requires c κs = search needs
@@ -63,26 +63,26 @@ slice-aggregate-walk c = search needs
 walk-requires : tie.Need-walk-requires Inv-loop μ-loop
 walk-requires c κs = let a = c .before .before .before .before in let s = top a .args in
     walkable (s .points .now) (s .depth) (s .from .now) (s .to .now) (s .own) (s .base) (a .before .before .before .before .before .link .last .1 .1 .1 .0) (a .before .before .link2 .last .1 .1 .1 .0) (s .marks .now) (a .loop .marks) (a .loop .spent) (a .loop .y) (c .before .before .wide .result)
-    (c .before .before .before .loop-test .taken) (c .before .before .wide .ensures) (a .loop .inv) (top a .pre)
+    (c .before .before .before .loop-test .taken) (c .before .before .wide .ensures) (a .loop .inv) (top a .pre .0)
 
 add-spent : tie.Need-add-spent Inv-loop μ-loop
 add-spent c = let a = c .before .before .before .before .before .before .before in let s = top a .args in
     let f = first-le (s .points .now) (s .depth) (s .from .now) (s .to .now) (s .own) (s .base) (a .before .before .before .before .before .link .last .1 .1 .1 .0) (a .before .before .link2 .last .1 .1 .1 .0) (s .marks .now) (a .loop .marks) (a .loop .spent) (a .loop .y) (c .before .before .before .before .before .wide .result)
     (c .before .before .before .before .before .before .loop-test .taken) (c .before .before .before .before .before .wide .ensures) (a .loop .inv) in
-    let p = top a .pre .few in let i = a .loop .inv .light in let w = c .before .before .walk .ensures .0 in omega arith
+    let p = top a .pre .0 .few in let i = a .loop .inv .light in let w = c .before .before .walk .ensures .0 in omega arith
 
 add-y : tie.Need-add-y Inv-loop μ-loop
-add-y c = let t = c .before .before .before .before .before .before .loop-test .taken in let p = top (c .before .before .before .before .before .before .before) .pre .few in omega arith
+add-y c = let t = c .before .before .before .before .before .before .loop-test .taken in let p = top (c .before .before .before .before .before .before .before) .pre .0 .few in omega arith
 
 full-requires : tie.Need-full-requires Inv-loop μ-loop
-full-requires c κs = let p = top (c .before .before .before .before .before .before .before .before .before) .pre in let r = p .room in let l = (done (c .before .before) 0 (omega arith)) .same-length in (p .shallow, omega arith)
+full-requires c κs = let p = top (c .before .before .before .before .before .before .before .before .before) .pre in let r = p .0 .room in let l = (done (c .before .before) 0 (omega arith)) .same-length in (omega arith, p .1 .numbers)
 
 same-length : tie.Need-same-length Inv-loop μ-loop
 same-length c = (done (c .before .before .before .before) 0 (omega arith)) .same-length
 
 returns : tie.Need-returns Inv-loop μ-loop
 returns c = let a = c .before .before .before .before .before .before .before .before .before .before .before in let s = top a .args in let t = c .before .before .before .before .before .before .before .before .before .before .loop-test .taken in
-    left-early (s .points .now) (s .depth) (s .from .now) (s .to .now) (s .own) (s .base) (s .marks .now) (c .before .before .before .before .before .before .walk .last .1 .1 .1 .1 .1 .1 .0) (a .loop .y + 1) (top a .pre) (omega arith) (c .before .full .ensures (c .if2 .taken))
+    left-early (s .points .now) (s .depth) (s .possible .now) (s .from .now) (s .to .now) (s .own) (s .base) (s .marks .now) (c .before .before .before .before .before .before .walk .last .1 .1 .1 .1 .1 .1 .0) (a .loop .y + 1) (top a .pre .0) (top a .pre .1) (omega arith) (c .before .full .ensures (c .if2 .taken))
     ((done (c .before .before .before .before) 0 (omega arith)) .adds)
 
 loop-less : tie.Need-loop-less Inv-loop μ-loop
