@@ -42,6 +42,7 @@ use Rattle.model.proofs.Verdict.RunLaws.{NotRun}
 use Rattle.model.proofs.Promise.TradeLaws as TradeLaws
 use Rattle.model.proofs.Promise.ReasonLaws as ReasonLaws
 use Rattle.model.proofs.Promise.PromiseLaws as PromiseLaws
+use Rattle.model.proofs.Promise.WholeLaws as WholeLaws
 
 -- ---- the worked cases, and the ticket: the grammar accepts just the bytes of one whose numbers are in range and whose lists fit
 
@@ -133,10 +134,17 @@ pub reordering : (A : Accesses) (rules : Rules) (xs ys : List Instance) → Dist
     → ((i j : Instance) → Precedes xs i j → T (conflict A i j) → Precedes ys i j) → (s : State) → run (perform A rules) xs s ≡ run (perform A rules) ys s
 reordering = CommuteLaws.reordering
 
--- ---- demand 3, undivided: wherever judge, write or run gives 0
+-- ---- demand 3, undivided: wherever judge, write or run gives 0, the original iterations of the new order are those of the old, each once; both
+-- orders end with equal values in every element, for all starting values and all rules; write's bytes are that nest; run's store is, word for
+-- word, what the old order leaves under the ticket's own rules
 
-pub demand-3 : (b : List ℕ) {j : Judged} → judged b ≡ accepted j → PromiseLaws.Promise (j .ticket .steps) (j .ticket .nest) (j .new)
-demand-3 = PromiseLaws.judged-promise
+pub demand-3 : (b buffer words : List ℕ) → WholeLaws.SomeAccepts b buffer words → (j : Judged) × WholeLaws.Whole b buffer words j
+demand-3 = WholeLaws.accepted-whole
+
+-- its parts
+
+pub orders-agree : (b : List ℕ) {j : Judged} → judged b ≡ accepted j → PromiseLaws.Promise (j .ticket .steps) (j .ticket .nest) (j .new)
+orders-agree = PromiseLaws.judged-promise
 
 pub written-nest : (b buffer : List ℕ) {c : ℕ} → write b buffer .answer ≡ accepted c
     → (j : Judged) × (judged b ≡ accepted j) × EntryLaws.HandedOut (encode (j .new)) buffer c (write b buffer .memory) × (decodeNest (encode (j .new)) ≡ accepted (j .new))

@@ -4,3 +4,4 @@ pub mod KeptLaws
 pub mod WrittenLaws
 pub mod PromiseLaws
 pub mod ReasonLaws
+pub mod WholeLaws
