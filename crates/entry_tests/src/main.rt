@@ -132,7 +132,10 @@ fn part(b: u8) -> u32
 fn word_at(bytes: &[u8], at: usize) -> u32
     requires { ⌜ at + 4 ≤ length (now bytes) ⌝ }
 {
-    part(bytes[at]) + 256 * part(bytes[at + 1]) + 65536 * part(bytes[at + 2]) + 16777216 * part(bytes[at + 3])
+    part(bytes[at])
+        + 256 * part(bytes[at + 1])
+        + 65536 * part(bytes[at + 2])
+        + 16777216 * part(bytes[at + 3])
 }
 
 fn set_words(bytes: &[u8], store: &mut [u32])

@@ -6,7 +6,7 @@ pub fn print_number(fd: i32, n: usize) {
     io::print_decimal(fd, n as u64);
 }
 
-fn print_trade_word(fd: i32, r: Refusal) {
+fn print_trade_word(fd: i32, r: Refusal) -> bool {
     match r {
         Refusal::Truncated(_) => io::write_all(fd, b" torn"),
         Refusal::TrailingBytes(_) => io::write_all(fd, b" overhang"),
@@ -24,7 +24,7 @@ fn print_trade_word(fd: i32, r: Refusal) {
         Refusal::BufferTooShort => io::write_all(fd, b" short buffer"),
         Refusal::OpaqueRule(_) => io::write_all(fd, b" opaque"),
         Refusal::WrongStoreLength => io::write_all(fd, b" wrong store"),
-    };
+    }
 }
 
 // One line.
