@@ -40,7 +40,7 @@ fn run_judged(old: Sheet, new: Sheet, count: usize, store: &mut [u32]) -> Answer
     Answer::Accepted(count)
 }
 
-// Judges 1 to 13, then 15 and 16. An accepted run leaves the store that the old order leaves (model, Demands: run-store).
+// Judges 1 to 13, then 15 and 16. An accepted run leaves the store that the old order leaves (model, Demands: demand-3, run-store).
 pub fn run(ticket: &[u8], store: &mut [u32]) -> Answer
     ensures { λ r. ⌜ Hands (Entries.runEntry (now (ticket .entry)) (now (store .entry))) r (now (store .exit)) ⌝ }
 {
