@@ -3,30 +3,32 @@ use mathlib.Core.Path.{_≡_, refl, sym, _∙_, ap, ap₂, subst}
 use mathlib.Core.List.{List}
 use Prim.Native.Nat.{ℕ}
 use lib.Dec.{eqb}
+use lib.IntN.{ℤ}
 use lib.ListN.{length}
 use Rattle.model.specs.Answer as Model
 use Rattle.model.specs.Answer.{accepted, refused, require, _>>_, _>>=_}
 use Rattle.model.specs.Ticket.{Nest}
 use Rattle.model.specs.Grammar.{total}
-use Rattle.model.specs.Points.{iterations}
 use Rattle.model.specs.Judge as Judge
-use Rattle.model.specs.Judge.{judged}
+use Rattle.model.specs.Judge.{admit, judged, judgeTicket}
 use Rattle.model.specs.Entries.{Outcome, transparent, runnable, ran, runEntry}
 use Rattle.model.proofs.Answers.PassLaws.{bind-pass, bind-stop}
+use Rattle.model.proofs.Verdict.VerdictLaws.{refused-judged, admitted-judged}
 use Rattle.reading.specs.declared.Refusal.{Refusal}
 use Rattle.reading.specs.declared.Status.{Status}
 use Rattle.reading.specs.declared.Status.the-variants as Status
 use Rattle.reading.specs.Refusals.{refusal}
 use Rattle.ticket.specs.Ticket as Ticket
-use Rattle.ticket.specs.Ticket.{ticketOf}
+use Rattle.ticket.specs.Ticket.{ticketOf, decoded}
 use Rattle.sheet.specs.Sheets.{nestOf}
 use Rattle.layout.specs.Sheets.{modelOf}
+use Rattle.intake.specs.declared.Intake.{Intake}
 use Rattle.intake.specs.declared.Answer.{Answer}
 use Rattle.intake.specs.declared.Answer.the-variants.{Refused}
+use Rattle.intake.specs.Intake.{Admits}
 use Rattle.intake.specs.Answers.{Hands}
-use Rattle.judgement.specs.Judgement.{judgedAs}
-use Rattle.verdict.specs.declared.Decided.{Decided}
-use Rattle.verdict.specs.Verdicts.{newOf, Decides}
+use Rattle.judgement.specs.declared.Judged.{Judged}
+use Rattle.judgement.specs.Judgement.{judgedAs, Judges}
 use Rattle.execution.specs.Execution.{Executable}
 use Rattle.execution.proofs.AcceptedLaws.{new-executable}
 use Rattle.run_entry.specs.Outcomes.{tested, outcome, RunIn}
@@ -51,28 +53,41 @@ module _ (b w : List ℕ) where
 
 -- ---- the entry
 
-module _ (b w : List ℕ) (d : Decided) (h : Decides b d) where
-  abbrev whole : Judge.Judged
-  whole = record { ticket = ticketOf (d .ticket); new = newOf d }
+module _ (b w : List ℕ) (o e : List ℤ) (q : Intake) (h : Admits b o e q) where
+  admit-is : (s : Status) → q .status ≡ s → admit b ≡ decoded s (ticketOf (q .ticket))
+  admit-is s z = sym (h .same) ∙ ap (λ (x : Status). decoded x (ticketOf (q .ticket))) z
 
-  judged-as : (s : Status) → d .status ≡ s → judged b ≡ judgedAs s whole
-  judged-as s z = sym (h .same) ∙ ap (λ (x : Status). judgedAs x whole) z
+  pub not-admitted : (r : Refusal) → q .status ≡ Status.Refused r → Hands (runEntry b w) (Refused r) w
+  not-admitted r z = judgement-refused b w r (refused-judged b (admit-is (Status.Refused r) z))
 
-  pub not-judged : (r : Refusal) → d .status ≡ Status.Refused r → Hands (runEntry b w) (Refused r) w
-  not-judged r z = judgement-refused b w r (judged-as (Status.Refused r) z)
+  module _ (z : q .status ≡ Status.Fine) (r : Judged) (g : Judges (q .ticket) r) where
+    abbrev new : Nest
+    new = modelOf (r .nest) (q .ticket .arrays) (r .body)
 
-  module _ (z : d .status ≡ Status.Fine) where
-    pub run-in : RunIn (d .own) (d .sheet) (d .count)
-    unfolding ticketOf Ticket.nestOf modelOf
-    run-in = let t = h .settled z in let n = t .new in record {
-      own = t .own-sheet;
-      other = n .laid .ok;
-      executable = subst Executable (sym (n .laid .same)) (new-executable (ticketOf (d .ticket)) (t .ranges) (t .formed) (t .admitted-is) whole (t .judged-is));
-      arrays = ap (λ (N : Nest). N .arrays) (n .laid .same) ∙ sym (ap (λ (N : Nest). N .arrays) (t .own-is));
-      counted = t .count ∙ sym (ap (λ (N : Nest). length (iterations (N .loops))) (t .own-is));
-    }
+    abbrev whole : Judge.Judged
+    whole = record { ticket = ticketOf (q .ticket); new = new }
 
-    pub handed : (a : Answer) (m : List ℕ) → Hands (outcome (tested (nestOf (d .own)) w) (nestOf (d .own)) (nestOf (d .sheet)) w) a m → Hands (runEntry b w) a m
-    unfolding ticketOf
-    handed a m = subst (λ (x : Outcome). Hands x a m)
-        (ap₂ (λ (N M : Nest). outcome (tested N w) N M w) (h .settled z .own-is) (h .settled z .new .laid .same) ∙ sym (judgement-passes b w whole (judged-as Status.Fine z)))
+    judge-is : (s : Status) → r .status ≡ s → judgeTicket (ticketOf (q .ticket)) ≡ judgedAs s whole
+    judge-is s y = sym (g .same) ∙ ap (λ (x : Status). judgedAs x whole) y
+
+    judged-is : judged b ≡ judgeTicket (ticketOf (q .ticket))
+    judged-is = admitted-judged b (admit-is Status.Fine z)
+
+    pub not-judged : (x : Refusal) → r .status ≡ Status.Refused x → Hands (runEntry b w) (Refused x) w
+    not-judged x y = judgement-refused b w x (judged-is ∙ judge-is (Status.Refused x) y)
+
+    module _ (y : r .status ≡ Status.Fine) where
+      pub run-in : RunIn (q .sheet) (r .sheet) (q .count)
+      unfolding ticketOf Ticket.nestOf modelOf
+      run-in = let t = h .taken z in let n = g .fine y in record {
+        own = t .sheet;
+        other = n .laid .ok;
+        executable = subst Executable (sym (n .laid .same)) (new-executable (ticketOf (q .ticket)) (t .ranges) (t .formed) (t .admitted-is) whole (judge-is Status.Fine y));
+        arrays = ap (λ (N : Nest). N .arrays) (n .laid .same) ∙ sym (ap (λ (N : Nest). N .arrays) (t .same));
+        counted = t .points-are .count;
+      }
+
+      pub handed : (a : Answer) (m : List ℕ) → Hands (outcome (tested (nestOf (q .sheet)) w) (nestOf (q .sheet)) (nestOf (r .sheet)) w) a m → Hands (runEntry b w) a m
+      unfolding ticketOf
+      handed a m = subst (λ (x : Outcome). Hands x a m)
+          (ap₂ (λ (N M : Nest). outcome (tested N w) N M w) (h .taken z .same) (g .fine y .laid .same) ∙ sym (judgement-passes b w whole (judged-is ∙ judge-is Status.Fine y)))

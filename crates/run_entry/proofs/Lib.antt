@@ -1,3 +1,4 @@
 -- Laws that the crate's contracts need.
+pub mod JudgeLaws
 pub mod OutcomeLaws
 pub mod EntryLaws

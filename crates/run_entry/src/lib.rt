@@ -1,12 +1,27 @@
 // The entry `run`: the nest of a ticket in its new order, on a store.
 ghost use Rattle.model.specs.Entries as Entries;
 ghost use Rattle.sheet.specs.Sheets.{nestOf};
+ghost use Rattle.intake.specs.Intake.{Taken};
 ghost use Rattle.intake.specs.Answers.{Hands};
+ghost use Rattle.judgement.specs.Judgement.{Judges};
 ghost use Rattle.run_entry.specs.Outcomes.{RunIn, tested, outcome};
 use intake::Answer;
+use judgement::Judged;
 use reading::Refusal;
 use reading::Status;
 use sheet::Sheet;
+use ticket::Ticket;
+
+// Refusals 10 to 13 of an admitted ticket: the directions of its nest, then its steps.
+fn judge(ticket: Ticket, sheet: Sheet, points: &[i64], count: usize) -> Judged
+    requires { ⌜ Taken ticket sheet (now points) count ⌝ }
+    ensures { λ r. ⌜ Judges ticket r ⌝ }
+{
+    let mut marks = [false; 34992];
+    lines::mark_lines(sheet, points, count, &mut marks);
+    let set = lines::directions_of(&marks, sheet.statements, sheet.depth);
+    judgement::judge_ticket(ticket, set)
+}
 
 // Refusals 15 and 16 on the ticket's own sheet, then the run on the sheet of its new nest.
 fn run_judged(old: Sheet, new: Sheet, count: usize, store: &mut [u32]) -> Answer
@@ -29,14 +44,22 @@ fn run_judged(old: Sheet, new: Sheet, count: usize, store: &mut [u32]) -> Answer
 pub fn run(ticket: &[u8], store: &mut [u32]) -> Answer
     ensures { λ r. ⌜ Hands (Entries.runEntry (now (ticket .entry)) (now (store .entry))) r (now (store .exit)) ⌝ }
 {
-    let decided = verdict::decide(ticket);
-    let status = decided.status;
+    let mut points = [0i64; 16384];
+    let all = intake::admit(ticket, &mut points);
+    let status = all.status;
     match status {
         Status::Fine => {}
         Status::Refused(r) => return Answer::Refused(r),
     }
-    let own = decided.own;
-    let new = decided.sheet;
-    let count = decided.count;
-    run_judged(own, new, count, store)
+    let t = all.ticket;
+    let sheet = all.sheet;
+    let count = all.count;
+    let judged = judge(t, sheet, &points, count);
+    let verdict = judged.status;
+    match verdict {
+        Status::Fine => {}
+        Status::Refused(r) => return Answer::Refused(r),
+    }
+    let new = judged.sheet;
+    run_judged(sheet, new, count, store)
 }

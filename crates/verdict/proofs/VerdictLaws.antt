@@ -98,13 +98,10 @@ module _ (b : List ℕ) (o e : List ℤ) (a : Intake) (h : Admits b o e a) where
       same = g .same ∙ sym (ap (λ (x : Status). decoded x (ticketOf (a .ticket)) >>= judgeTicket) s) ∙ whole;
       settled = λ f. record {
         within = t .within;
-        ranges = t .ranges;
-        formed = t .formed;
         admitted-is = t .admitted-is;
         own-is = t .same;
         own-sheet = t .sheet;
         count = t .points-are .count ∙ ap (λ (N : Model.Nest). length (iterations (N .loops))) (t .same);
-        judged-is = sym (g .same) ∙ ap (λ (x : Status). judgedAs x (record { ticket = ticketOf (a .ticket); new = modelOf (j .nest) (a .ticket .arrays) (j .body) })) f;
         new = g .fine f;
       };
     }

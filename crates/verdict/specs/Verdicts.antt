@@ -10,8 +10,7 @@ use Rattle.model.specs.Ticket as Model
 use Rattle.model.specs.Points.{iterations}
 use Rattle.model.specs.Bounds.{admitted}
 use Rattle.model.specs.Shape.{WellFormed}
-use Rattle.model.specs.Judge.{directionsOf, judgeTicket, judged}
-use Rattle.model.specs.Ranges.{TicketRanges}
+use Rattle.model.specs.Judge.{directionsOf, judged}
 use Rattle.reading.specs.declared.Status.the-variants.{Fine}
 use Rattle.ticket.specs.Ticket.{nestOf, ticketOf, TicketIn}
 use Rattle.directions.specs.Sets.{vectorsOf}
@@ -46,13 +45,10 @@ newOf r = modelOf (r .nest) (r .ticket .arrays) (r .body)
 -- an accepted ticket: its own nest and the new one, each on its sheet
 pub record Settled (r : Decided) : Type 0 where
   pub within : TicketIn (r .ticket)
-  pub ranges : TicketRanges (ticketOf (r .ticket))
-  pub formed : WellFormed (nestOf (r .ticket))
   pub admitted-is : admitted (nestOf (r .ticket)) ≡ accepted tt
   pub own-is : Sheet.nestOf (r .own) ≡ nestOf (r .ticket)
   pub own-sheet : SheetIn (r .own)
   pub count : r .count ≡ length (iterations (nestOf (r .ticket) .loops))
-  pub judged-is : judgeTicket (ticketOf (r .ticket)) ≡ accepted (record { ticket = ticketOf (r .ticket); new = newOf r })
   pub new : New (r .ticket) (judgedOf r)
 
 -- 1 to 13

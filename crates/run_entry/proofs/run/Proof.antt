@@ -1,11 +1,14 @@
--- `run`: the verdict, then the outcome of the judged ticket.
-use Rattle.run_entry.proofs.EntryLaws.{not-judged, run-in, handed}
+-- `run`: 1 to 9, then 10 to 13, then the outcome of the judged ticket.
+use Rattle.run_entry.proofs.EntryLaws.{not-admitted, not-judged, run-in, handed}
 use borrow.Author.Needs.{needs}
 use Rattle.run_entry.proofs.run.Statement.{statement}
 use Rattle.run_entry.proofs.run.Tie as tie
 
-decide-requires : tie.Need-decide-requires
-decide-requires c κs = search needs
+slice-aggregate-admit : tie.Need-slice-aggregate-admit
+slice-aggregate-admit c = search needs
+
+admit-requires : tie.Need-admit-requires
+admit-requires c κs = search needs
 
 enum-told : tie.Need-enum-told
 enum-told c = search needs
@@ -14,25 +17,46 @@ enum-known-status : tie.Need-enum-known-status
 enum-known-status c = search needs
 
 returns : tie.Need-returns
-returns c = let d = c .before .before .before .decide in not-judged _ _ (d .result) (d .ensures) _ (c .before .status .given .1)
+returns c = let s = c .before .before .before .before .before .before .before .before in let q = c .before .before .before .before .admit in not-admitted _ (s .args .store .now) _ _ (q .result) (q .ensures) _ (c .before .status .given .1)
+
+slice-aggregate-judge : tie.Need-slice-aggregate-judge
+slice-aggregate-judge c = search needs
+
+judge-requires : tie.Need-judge-requires
+judge-requires c κs = let q = c .before .before .before .before .before .before .admit in q .ensures .taken (c .before .before .before .enum-told .given .1)
+
+enum-told-2 : tie.Need-enum-told-2
+enum-told-2 c = search needs
+
+enum-known-verdict : tie.Need-enum-known-verdict
+enum-known-verdict c = search needs
+
+returns-2 : tie.Need-returns-2
+returns-2 c = let s = c .before .before .before .before .before .before .before .before .before .before .before .before .before .before in let q = c .before .before .before .before .before .before .before .before .before .before .admit in let j = c .before .before .before .judge in not-judged _ (s .args .store .now) _ _ (q .result) (q .ensures) (c .before .before .before .before .before .before .before .enum-told .given .1) (j .result) (j .ensures) _ (c .before .verdict .given .1)
 
 run-judged-requires : tie.Need-run-judged-requires
-run-judged-requires c κs = let s = c .before .before .before .before .before .before .before .before in let d = c .before .before .before .before .before .decide in run-in _ (s .args .store .now) (d .result) (d .ensures) (c .before .before .before .enum-told .given .1)
+run-judged-requires c κs = let s = c .before .before .before .before .before .before .before .before .before .before .before .before .before .before .before in let q = c .before .before .before .before .before .before .before .before .before .before .before .admit in let j = c .before .before .before .before .judge in run-in _ (s .args .store .now) _ _ (q .result) (q .ensures) (c .before .before .before .before .before .before .before .before .enum-told .given .1) (j .result) (j .ensures) (c .before .before .enum-told2 .given .1)
 
 same-length : tie.Need-same-length
 same-length c = search needs
 
-returns-2 : tie.Need-returns-2
-returns-2 c = let d = c .before .before .before .before .before .before .before .before .decide in let r = c .before .before .run-judged in handed _ _ (d .result) (d .ensures) (c .before .before .before .before .before .before .enum-told .given .1) (r .result) _ (r .ensures)
+returns-3 : tie.Need-returns-3
+returns-3 c = let s = c .before .before .before .before .before .before .before .before .before .before .before .before .before .before .before .before .before .before in let q = c .before .before .before .before .before .before .before .before .before .before .before .before .before .before .admit in let j = c .before .before .before .before .before .before .before .judge in let r = c .before .before .run-judged in handed _ (s .args .store .now) _ _ (q .result) (q .ensures) (c .before .before .before .before .before .before .before .before .before .before .before .enum-told .given .1) (j .result) (j .ensures) (c .before .before .before .before .before .enum-told2 .given .1) (r .result) _ (r .ensures)
 
 pub run-spec : {M : Type 1} → statement M
 run-spec =
     tie.close
     (tie.spec
-    decide-requires
+    slice-aggregate-admit
+    admit-requires
     enum-told
     enum-known-status
     returns
+    slice-aggregate-judge
+    judge-requires
+    enum-told-2
+    enum-known-verdict
+    returns-2
     run-judged-requires
     same-length
-    returns-2)
+    returns-3)
