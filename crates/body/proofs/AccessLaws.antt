@@ -9,10 +9,10 @@ use Rattle.lists.proofs.MembershipLaws.{all-nil, all-getD}
 use Rattle.model.specs.Answer.{accepted, refused}
 use Rattle.model.specs.Grammar.{natural, times, done, extents, subscript, access}
 use Rattle.reading.proofs.ReaderLaws.{after-value, after-refusal}
-use Rattle.body.specs.Arrays.{shapeOf, arraysOf, ShapeIn, ArraysIn}
+use Rattle.arrays.specs.Arrays.{shapeOf, arraysOf, ShapeIn, ArraysIn}
 use Rattle.body.specs.Statements.{subscriptOf, accessOf, SubscriptIn, AccessIn, AccessesIn}
-use Rattle.body.specs.declared.Shape.{Shape}
-use Rattle.body.specs.declared.Arrays.{Arrays}
+use Rattle.arrays.specs.declared.Shape.{Shape}
+use Rattle.arrays.specs.declared.Arrays.{Arrays}
 use Rattle.body.specs.declared.Subscript.{Subscript}
 use Rattle.body.specs.declared.Access.{Access}
 

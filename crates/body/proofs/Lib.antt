@@ -1,4 +1,3 @@
--- Laws of arrays and statements that the code's proofs cite.
-pub mod ArrayLaws
+-- Laws of statements that the code's proofs cite.
 pub mod AccessLaws
 pub mod StatementLaws

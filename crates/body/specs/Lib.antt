@@ -1,3 +1,2 @@
 -- The model's lists that this crate's structs stand for, and what reading them gives.
-pub mod Arrays
 pub mod Statements

@@ -7,8 +7,8 @@ use Rattle.lists.specs.Membership.{All}
 use Rattle.model.specs.Ticket as Model
 use Rattle.model.specs.Grammar.{Reader, _>>=_, count, times, subscript, access, statement, statements}
 use Rattle.reading.specs.Refusals.{Reads}
-use Rattle.body.specs.Arrays.{arraysOf}
-use Rattle.body.specs.declared.Arrays.{Arrays}
+use Rattle.arrays.specs.Arrays.{arraysOf}
+use Rattle.arrays.specs.declared.Arrays.{Arrays}
 use Rattle.body.specs.declared.Subscript.{Subscript}
 use Rattle.body.specs.declared.Access.{Access}
 use Rattle.body.specs.declared.Statement.{Statement}

@@ -1,4 +1,4 @@
-// The arrays and the statements of a ticket. `at` is the number of a word, from 1.
+// The statements of a ticket. `at` is the number of a word, from 1.
 ghost use mathlib.Core.Path.{_≡_};
 ghost use Prim.Native.Nat.{_<_, _≤_};
 ghost use mathlib.Core.Bool.{cond};
@@ -7,150 +7,13 @@ ghost use lib.ListN.{length};
 ghost use Rattle.reading.specs.Refusals.{Reached};
 ghost use Rattle.reading.specs.declared.Status.the-variants.{Refused};
 ghost use Rattle.model.specs.Grammar.{extents};
-ghost use Rattle.body.specs.Arrays.{arraysOf, ArraysIn, ReadsShape, ReadsArrays};
+ghost use Rattle.arrays.specs.Arrays.{arraysOf, ArraysIn};
 ghost use Rattle.body.specs.Statements.{SubscriptIn, AccessIn, AccessesIn, StatementIn, BodyIn, ReadsSubscript, ReadsAccess, ReadsAccesses, ReadsStatement, ReadsBody};
+use arrays::Arrays;
 use reading::Natural;
 use reading::Number;
 use reading::Refusal;
 use reading::Status;
-
-// An array: its first `dimensions` extents.
-pub struct Shape {
-    pub dimensions: usize,
-    pub extents: [usize; 3],
-}
-
-pub struct Arrays {
-    pub count: usize,
-    pub shapes: [Shape; 4],
-}
-
-// With the number of its elements.
-pub struct ShapeRead {
-    pub status: Status,
-    pub shape: Shape,
-    pub elements: usize,
-    pub next: usize,
-}
-
-pub struct ArraysRead {
-    pub status: Status,
-    pub arrays: Arrays,
-    pub next: usize,
-}
-
-fn no_shape(r: Refusal, at: usize) -> ShapeRead
-    ensures { λ q. ⌜ (q .status ≡ Refused r) × (q .next ≡ at) × (q .shape .dimensions ≡ 0) × (length (q .shape .extents) ≡ 3) × (q .elements ≡ 1) ⌝ }
-{
-    ShapeRead {
-        status: Status::Refused(r),
-        shape: Shape {
-            dimensions: 0,
-            extents: [0usize; 3],
-        },
-        elements: 1,
-        next: at,
-    }
-}
-
-// A count from 1 to 3 and as many extents from 1 to 4096.
-pub fn read_shape(s: &[u8], at: usize) -> ShapeRead
-    requires { ⌜ Reached (now s) at ⌝ }
-    ensures { λ r. ⌜ ReadsShape (now (s .entry)) at r ⌝ }
-{
-    let dimensions = match reading::read_count(s, at, 1, 3) {
-        Natural::Value(v) => v,
-        Natural::Refused(r) => return no_shape(r, at),
-    };
-    let mut extents = [0usize; 3];
-    let mut elements = 1;
-    let mut next = at + 1;
-    let mut k = 0;
-    while k < dimensions {
-        match reading::read_natural(s, next, 1, 4096) {
-            Natural::Value(n) => {
-                extents[k] = n;
-                elements = elements * n;
-                next += 1;
-                k += 1;
-            }
-            Natural::Refused(r) => return no_shape(r, at),
-        }
-    }
-    ShapeRead {
-        status: Status::Fine,
-        shape: Shape {
-            dimensions: dimensions,
-            extents: extents,
-        },
-        elements: elements,
-        next: next,
-    }
-}
-
-fn no_shapes() -> [Shape; 4]
-    ensures { λ r. ⌜ length r ≡ 4 ⌝ }
-{
-    let blank = Shape {
-        dimensions: 0,
-        extents: [0usize; 3],
-    };
-    [blank; 4]
-}
-
-fn no_arrays(r: Refusal, at: usize) -> ArraysRead
-    ensures { λ q. ⌜ (q .status ≡ Refused r) × (q .next ≡ at) × (q .arrays .count ≡ 0) × (length (q .arrays .shapes) ≡ 4) ⌝ }
-{
-    let blank = no_shapes();
-    ArraysRead {
-        status: Status::Refused(r),
-        arrays: Arrays {
-            count: 0,
-            shapes: blank,
-        },
-        next: at,
-    }
-}
-
-// A count from 1 to 4 and as many arrays, with at most 16,384 elements together, tested after each.
-pub fn read_arrays(s: &[u8], at: usize) -> ArraysRead
-    requires { ⌜ Reached (now s) at ⌝ }
-    ensures { λ r. ⌜ ReadsArrays (now (s .entry)) at r ⌝ }
-{
-    let count = match reading::read_count(s, at, 1, 4) {
-        Natural::Value(v) => v,
-        Natural::Refused(r) => return no_arrays(r, at),
-    };
-    let mut shapes = no_shapes();
-    let mut total = 0;
-    let mut next = at + 1;
-    let mut k = 0;
-    while k < count {
-        let one = read_shape(s, next);
-        let status = one.status;
-        match status {
-            Status::Fine => {
-                total = total + one.elements;
-                next = one.next;
-                if 16384 < total {
-                    return no_arrays(Refusal::TooManyElements(next - 1), at);
-                }
-                let shape = one.shape;
-                shapes[k] = shape;
-                k += 1;
-            }
-            Status::Refused(r) => return no_arrays(r, at),
-        }
-    }
-    ArraysRead {
-        status: Status::Fine,
-        arrays: Arrays {
-            count: count,
-            shapes: shapes,
-        },
-        next: next,
-    }
-}
 
 // constant + coefficients · indices of all loops.
 pub struct Subscript {

@@ -10,8 +10,9 @@ use lib.ListN.{length, getD, take, drop, length-take, length-drop}
 use lib.Seq.{getD-take, getD-drop}
 use borrow.Author.Tests.{lt-ltb, le-ltb}
 use Rattle.lists.proofs.PartLaws.{row-fits}
-use Rattle.dependence.specs.Numbers.{placeOf}
-use Rattle.dependence.specs.Search.{some, Below, found, Adds, Covers, Searchable}
+use Rattle.vectors.specs.Numbers.{placeOf}
+use Rattle.vectors.specs.Candidates.{Covers}
+use Rattle.chains.specs.Search.{some, Below, found, Adds, Searchable}
 use Rattle.dependence.specs.Flat.{Flat, numberAt, statementOf, writesAt, Ready, kindOf, numbersOf, setBy, setFrom, Listed, Alike}
 
 -- ---- places of marks

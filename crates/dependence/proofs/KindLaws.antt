@@ -8,7 +8,7 @@ use Rattle.lists.proofs.PartLaws.{row-unique}
 use Rattle.model.specs.Ticket.{Statement}
 use Rattle.model.specs.Directions.{Kind, flow, anti, output}
 use Rattle.model.proofs.Listing.LineLaws.{sourceAccesses, sinkAccesses}
-use Rattle.dependence.specs.Numbers.{kindNumber, placeOf}
+use Rattle.vectors.specs.Numbers.{kindNumber, placeOf}
 use Rattle.dependence.specs.Flat.{kindOf}
 use Rattle.dependence.proofs.UseLaws.{side}
 

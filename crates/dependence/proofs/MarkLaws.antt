@@ -15,12 +15,13 @@ use Rattle.model.specs.Directions.{signs, Kind, Line, comesFirst, occurs, allLi
 use Rattle.model.proofs.Machine.ElementLaws.{same-decides}
 use Rattle.model.proofs.Listing.LineOrderLaws.{allLines-mem, mem-allLines}
 use Rattle.model.proofs.Listing.LineLaws.{Fitting, Shows, line-exact, clash-exact}
-use Rattle.dependence.specs.Numbers.{number, kindNumber, placeOf, place}
-use Rattle.dependence.specs.Search.{some, code, Adds}
+use Rattle.vectors.specs.Numbers.{number, kindNumber, placeOf, place}
+use Rattle.vectors.specs.Candidates.{code}
+use Rattle.chains.specs.Search.{some, Adds}
 use Rattle.dependence.specs.Flat.{Flat, numberAt, statementOf, writesAt, pointAt, pointsOf, useAt, Describes, Ready, Searched, kindOf, setFrom}
-use Rattle.dependence.proofs.NumberLaws.{number-lt, number-unique, signs-length}
-use Rattle.dependence.proofs.VectorLaws.{code-lt}
-use Rattle.dependence.proofs.ChainLaws.{upTo-le}
+use Rattle.vectors.proofs.NumberLaws.{number-lt, number-unique, signs-length}
+use Rattle.vectors.proofs.VectorLaws.{code-lt}
+use Rattle.chains.proofs.ChainLaws.{upTo-le}
 use Rattle.dependence.proofs.UseLaws.{side, as-many, access-of, of-access}
 use Rattle.dependence.proofs.MeetLaws.{Meets, set-meets, meets-set}
 use Rattle.dependence.proofs.KindLaws.{SameParts, place-unique, sourceWrites, sinkWrites, kind-is, kind-small, is-kind, kind-of, source-side, sink-side}

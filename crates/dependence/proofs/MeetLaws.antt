@@ -8,11 +8,12 @@ use lib.Dec.{T, eqb, ltb, eqb→eq, ltb→lt, lt→ltb}
 use lib.ListN.{length, getD}
 use borrow.Author.Tests.{eq-eqb}
 use Rattle.lists.proofs.TestLaws.{true-T, and-both, and-intro}
-use Rattle.dependence.specs.Numbers.{placeOf}
-use Rattle.dependence.specs.Search.{some, upTo, code, hit, found}
+use Rattle.vectors.specs.Numbers.{placeOf}
+use Rattle.vectors.specs.Candidates.{code}
+use Rattle.chains.specs.Search.{some, upTo, hit, found}
 use Rattle.dependence.specs.Flat.{Flat, numberAt, statementOf, writesAt, Ready, kindOf, numbersOf, setBy, setFrom}
-use Rattle.dependence.proofs.SomeLaws.{some-there, there-some}
-use Rattle.dependence.proofs.ChainLaws.{upTo-le}
+use Rattle.chains.proofs.SomeLaws.{some-there, there-some}
+use Rattle.chains.proofs.ChainLaws.{upTo-le}
 use Rattle.dependence.proofs.FlatLaws.{numbers-at}
 
 equal-passes : (m n : ℕ) → m ≡ n → T (eqb m n)

@@ -20,10 +20,12 @@ use Rattle.model.specs.Inside.{Earlier}
 use Rattle.model.specs.Directions.{earlier, comesFirst}
 use Rattle.model.proofs.Machine.ElementLaws.{subscripts-decide}
 use Rattle.model.proofs.Points.EarlierLaws.{earlier-irreflexive, earlier-asymmetric}
-use Rattle.dependence.specs.Search.{upTo, row}
+use Rattle.vectors.specs.Candidates.{row}
+use Rattle.chains.specs.Search.{upTo}
 use Rattle.dependence.specs.Flat.{Flat, pointAt, pointsOf, Ready}
-use Rattle.dependence.proofs.FullLaws.{row-is, rows-rise, le-cases}
-use Rattle.dependence.proofs.ChainLaws.{upTo-cases, cases-upTo}
+use Rattle.vectors.proofs.CandidateLaws.{le-cases}
+use Rattle.chains.proofs.FullLaws.{row-is, rows-rise}
+use Rattle.chains.proofs.ChainLaws.{upTo-cases, cases-upTo}
 
 -- the instance of statement s at point x
 abbrev pub at : Flat → ℕ → ℕ → Instance

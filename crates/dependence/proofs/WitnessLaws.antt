@@ -17,7 +17,7 @@ use Rattle.model.specs.Bounds.{subscriptAt}
 use Rattle.model.specs.Machine.{same, element}
 use Rattle.model.specs.Directions.{earlier}
 use Rattle.model.specs.Inside.{Earlier}
-use Rattle.dependence.specs.Search.{row}
+use Rattle.vectors.specs.Candidates.{row}
 use Rattle.dependence.specs.Flat.{Flat, flat, numberAt, pointAt, usesFrom, useAt, Describes, Ready}
 
 abbrev body : List Statement

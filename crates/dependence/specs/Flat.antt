@@ -13,8 +13,9 @@ use Rattle.model.specs.Ticket.{Access, Statement}
 use Rattle.model.specs.Machine.{same, element, accesses}
 use Rattle.model.specs.Directions.{Line, occurs, allLines}
 use Rattle.model.specs.Inside.{Earlier}
-use Rattle.dependence.specs.Numbers.{place, placeOf}
-use Rattle.dependence.specs.Search.{some, row, found}
+use Rattle.vectors.specs.Numbers.{place, placeOf}
+use Rattle.vectors.specs.Candidates.{row}
+use Rattle.chains.specs.Search.{some, found}
 
 -- ---- flat data
 

@@ -1,4 +1,2 @@
--- What the search's contracts speak of: numbers of vectors and places of marks; what two accesses set; the flat data and the model's statements.
-pub mod Numbers
-pub mod Search
+-- The flat data of a nest, the model's statements that they stand for, and what the whole search asks and gives.
 pub mod Flat

@@ -14,10 +14,10 @@ use Rattle.lists.specs.Tests.{all}
 use Rattle.lists.proofs.TestLaws.{T-true, true-T, false-not-T, and-both, and-intro, all-holds, holds-all, some-any, any-none}
 use Rattle.model.specs.Directions.{backwards}
 use Rattle.model.specs.Steps.{somePointsBack}
-use Rattle.directions.specs.Numbers.{number, digitsOf, vectorOf}
-use Rattle.directions.specs.Sets.{marked, vectorsIn}
-use Rattle.directions.specs.Sources.{levelFrom, counts}
-use Rattle.directions.proofs.NumberLaws.{Level, number-below, number-vectorOf, length-vectorOf, number-level, backwards-number}
+use Rattle.preimages.specs.Numbers.{number, digitsOf, vectorOf, marked}
+use Rattle.directions.specs.Sets.{vectorsIn}
+use Rattle.preimages.specs.Sources.{levelFrom, counts}
+use Rattle.preimages.proofs.NumberLaws.{Level, number-below, number-vectorOf, length-vectorOf, number-level, backwards-number}
 use Rattle.directions.proofs.SetLaws.{vectorsIn-mem, mem-vectorsIn}
 
 -- ---- digits from a depth on

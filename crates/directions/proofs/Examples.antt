@@ -6,13 +6,13 @@ use Prim.Native.Nat.{_+_, _*_}
 use native.Mathlib.Omega.{arith}
 use lib.ListN.{replicate}
 use Rattle.integers.specs.Sign.{less, equal, greater}
-use Rattle.directions.specs.Numbers.{digitsIn, base3, number, Digits}
+use Rattle.preimages.specs.Numbers.{digitsIn, base3, number, Digits}
 use Rattle.directions.specs.Sets.{ExchangeIn, ReversalIn, SkewIn, SectionIn, AddIn}
-use Rattle.directions.specs.Sources.{SourceIn, JoinedIn, SkewSourceIn, GaveIn, LevelIn}
+use Rattle.preimages.specs.Sources.{SourceIn, JoinedIn, SkewSourceIn, GaveIn, LevelIn}
 use Rattle.directions.specs.Changes.{ComesIn, PulledIn}
 use Rattle.directions.specs.declared.DirectionSet.{DirectionSet}
 use Rattle.directions.specs.declared.Change.the-variants.{Skew, Section}
-use Rattle.directions.proofs.NumberLaws.{vector-digits}
+use Rattle.preimages.proofs.NumberLaws.{vector-digits}
 
 -- ---- numbers
 

@@ -6,7 +6,7 @@ use native.Mathlib.Omega.{arith}
 use native.Mathlib.Nat.{pow-suc, mul-assoc, mul-comm, add-mul}
 use lib.ListN.{length, replicate, length-map}
 use Rattle.integers.specs.Sign.{Sign, equal}
-use Rattle.directions.specs.Numbers.{digit, digitsIn, base3, number}
+use Rattle.preimages.specs.Numbers.{digit, digitsIn, base3, number}
 
 unfoldable pub horner : ℕ → List Sign → ℕ
 horner n [] = n

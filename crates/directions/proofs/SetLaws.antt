@@ -17,10 +17,10 @@ use Rattle.lists.proofs.FlatMapLaws.{flatMap-mem, mem-flatMap}
 use Rattle.model.specs.Ticket.{Step}
 use Rattle.model.specs.Directions.{signVectors}
 use Rattle.model.specs.Steps.{vectors, vectorsAfter}
-use Rattle.directions.specs.Numbers.{number}
-use Rattle.directions.specs.Sets.{marked, vectorsIn}
+use Rattle.preimages.specs.Numbers.{number, marked}
+use Rattle.directions.specs.Sets.{vectorsIn}
 use Rattle.model.proofs.Listing.LineOrderLaws.{signVectors-mem, mem-signVectors}
-use Rattle.directions.proofs.NumberLaws.{number-below, number-injective}
+use Rattle.preimages.proofs.NumberLaws.{number-below, number-injective}
 
 -- ---- members
 

@@ -14,8 +14,9 @@ use Rattle.lists.proofs.TestLaws.{any-some, some-any, any-mem, mem-any, and-bot
 use Rattle.model.specs.Ticket.{skew}
 use Rattle.model.specs.Directions.{sameSign}
 use Rattle.model.specs.Steps.{anySign, sumSigns, headSum, skewSigns, signedSign, vectors, vectorsAfter}
-use Rattle.directions.specs.Sets.{marked, vectorsIn}
-use Rattle.directions.specs.Sources.{mayBe, gave, skewSource}
+use Rattle.preimages.specs.Numbers.{marked}
+use Rattle.directions.specs.Sets.{vectorsIn}
+use Rattle.preimages.specs.Sources.{mayBe, gave, skewSource}
 use Rattle.directions.proofs.VectorLaws.{every-sign}
 use Rattle.model.proofs.Listing.LineLaws.{sign-decides}
 use Rattle.directions.proofs.SetLaws.{after-step}

@@ -14,8 +14,9 @@ use Rattle.lists.proofs.PlaceLaws.{under-length, under-inverse, swapped-swapped
 use Rattle.model.specs.Ticket.{Step, exchange, reversal, section}
 use Rattle.model.specs.Directions.{bySign}
 use Rattle.model.specs.Steps.{anySign, splitSign, splitSigns, vectors, vectorsAfter}
-use Rattle.directions.specs.Sets.{marked, vectorsIn}
-use Rattle.directions.specs.Sources.{joined}
+use Rattle.preimages.specs.Numbers.{marked}
+use Rattle.directions.specs.Sets.{vectorsIn}
+use Rattle.preimages.specs.Sources.{joined}
 use Rattle.directions.proofs.VectorLaws.{every-sign}
 use Rattle.directions.proofs.SetLaws.{after-source}
 

@@ -6,9 +6,8 @@ use Prim.Native.Nat.{ℕ, _+_, _≤_, _<_}
 use lib.ListN.{length}
 use Rattle.integers.specs.Sign.{Sign, turned}
 use Rattle.lists.specs.Place.{under, onHead, swapped}
-use Rattle.directions.specs.Numbers.{number}
-use Rattle.directions.specs.Sets.{marked}
-use Rattle.directions.specs.Sources.{joined, skewSource}
+use Rattle.preimages.specs.Numbers.{number, marked}
+use Rattle.preimages.specs.Sources.{joined, skewSource}
 use Rattle.directions.specs.declared.DirectionSet.{DirectionSet}
 use Rattle.directions.specs.declared.Change.{Change}
 use Rattle.directions.specs.declared.Change.the-variants.{Exchange, Reversal, Skew, Section}

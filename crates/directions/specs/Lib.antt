@@ -1,6 +1,3 @@
--- The direction set as 729 marks: numbers of vectors, what a set of marks stands for and what the functions ask and give, and where each mark
--- of the set after a step is pulled from (Sources, Changes; only the private functions' contracts cite these two).
-pub mod Numbers
+-- What a set of 729 marks stands for and what the functions ask and give; how a set is pulled (Changes; only the private functions' contracts cite it).
 pub mod Sets
-pub mod Sources
 pub mod Changes

@@ -1,9 +1,9 @@
 -- What a set of marks stands for, and what the functions on sets ask and give. Loops are counted from 0.
 use mathlib.Core.Path.{_≡_}
-use mathlib.Core.Bool.{Bool, false}
+use mathlib.Core.Bool.{Bool}
 use mathlib.Core.List.{List, [], _∷_, _++_}
 use Prim.Native.Nat.{ℕ, suc, _≤_, _<_}
-use lib.ListN.{getD, length}
+use lib.ListN.{length}
 use Rattle.integers.specs.Sign.{Sign}
 use Rattle.lists.specs.Membership.{SameMembers}
 use Rattle.lists.specs.Tests.{select}
@@ -11,11 +11,8 @@ use Rattle.model.specs.Ticket.{Step}
 use Rattle.model.specs.Grammar.{depthAfter}
 use Rattle.model.specs.Directions.{signVectors}
 use Rattle.model.specs.Steps.{vectorsAfter}
-use Rattle.directions.specs.Numbers.{number}
+use Rattle.preimages.specs.Numbers.{number, marked}
 use Rattle.directions.specs.declared.DirectionSet.{DirectionSet}
-
-abbrev pub marked : List Bool → List Sign → Bool
-marked marks v = getD marks (number v) false
 
 -- the vectors of d signs that are marked
 unfoldable pub vectorsIn : List Bool → ℕ → List (List Sign)

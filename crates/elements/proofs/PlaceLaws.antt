@@ -22,8 +22,8 @@ use Rattle.model.specs.Grammar.{elements, extents}
 use Rattle.model.specs.Bounds.{subscriptAt, outside, strays}
 use Rattle.model.specs.Machine.{element}
 use Rattle.model.specs.Store.{placeFrom, placeOf}
-use Rattle.space.proofs.LimitLaws.{copied}
-use Rattle.space.specs.Ranges.{Narrow}
+use Rattle.bounds.proofs.LimitLaws.{copied}
+use Rattle.bounds.specs.Ranges.{Narrow}
 use Rattle.elements.specs.Layout.{extentsAt, formAt, formsFrom, accessAt, ArrayIn}
 use Rattle.elements.specs.Search.{off}
 use Rattle.elements.specs.Places.{IndexIn, PlaceIn, placeAt}

@@ -16,8 +16,8 @@ use Rattle.integers.specs.Affine.{affine, Within, AffineIn}
 use Rattle.integers.proofs.RangeLaws.{from-nat}
 use Rattle.integers.proofs.AffineLaws.{within-at, within-take, affine-size, nest-affine}
 use Rattle.model.specs.Bounds.{subscriptAt}
-use Rattle.space.proofs.LimitLaws.{copied, within-drop}
-use Rattle.space.specs.Ranges.{Narrow}
+use Rattle.bounds.proofs.LimitLaws.{copied, within-drop}
+use Rattle.bounds.specs.Ranges.{Narrow}
 use Rattle.elements.specs.Layout.{formAt}
 use Rattle.elements.specs.Search.{off, SubscriptIn}
 

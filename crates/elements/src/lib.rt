@@ -8,7 +8,7 @@ ghost use Rattle.lists.specs.Parts.{rows, put};
 ghost use Rattle.model.specs.Grammar.{elements};
 ghost use Rattle.model.specs.Bounds.{subscriptAt};
 ghost use Rattle.model.specs.Store.{base};
-ghost use Rattle.space.specs.Ranges.{Narrow};
+ghost use Rattle.bounds.specs.Ranges.{Narrow};
 ghost use Rattle.elements.specs.Layout.{extentsAt, arraysOf, formAt, ArrayIn};
 ghost use Rattle.elements.specs.Search.{off, straysAt, SubscriptIn, StrayIn, SearchIn, Searched};
 ghost use Rattle.elements.specs.Places.{BaseIn, IndexIn, PlaceIn, NumberIn, placeAt, placesOf, numbered};

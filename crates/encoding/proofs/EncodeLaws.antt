@@ -15,11 +15,12 @@ use Rattle.model.specs.Shape.{WellFormed}
 use Rattle.model.specs.Ranges.{Small, NestRanges, nestSections}
 use Rattle.model.proofs.Grammar.RoundTripLaws.{encode-length, nest-small}
 use Rattle.nest.specs.declared.Nest.{Nest}
-use Rattle.body.specs.declared.Arrays.{Arrays}
+use Rattle.arrays.specs.declared.Arrays.{Arrays}
 use Rattle.body.specs.declared.Body.{Body}
 use Rattle.encoding.specs.declared.Encoded.the-variants.{Complete}
-use Rattle.encoding.specs.Writing.{Writable, Written}
-use Rattle.encoding.specs.Encoding.{nestOf, Held, Encodable, Encodes}
+use Rattle.writing.specs.Writing.{Writable, Written}
+use Rattle.writing.specs.Held.{nestOf, Held, Encodable}
+use Rattle.encoding.specs.Encoding.{Encodes}
 
 nest-sections : (M : Model.Nest) → nestSections M ++ (pos 0 ∷ []) ≡ nestWords M
 unfolding nestWords

@@ -7,9 +7,9 @@ use lib.ListN.{take}
 use Rattle.model.specs.Encode.{counted, accessWords, statementWords}
 use Rattle.body.specs.Statements.{accessOf, statementOf}
 use Rattle.body.specs.declared.Statement.{Statement}
-use Rattle.encoding.specs.Writing.{Writable, Written}
-use Rattle.encoding.proofs.WritingLaws.{writable-left, writable-right, written-both}
-use Rattle.encoding.proofs.SectionLaws.{statement-parts}
+use Rattle.writing.specs.Writing.{Writable, Written}
+use Rattle.writing.proofs.WritingLaws.{writable-left, writable-right, written-both}
+use Rattle.writing.proofs.SectionLaws.{statement-parts}
 
 -- ---- four parts
 

@@ -11,12 +11,12 @@ use Rattle.nest.specs.Nested.{limitOf, sideOf, loopOf, loopsFrom, loopsOf, Limi
 use Rattle.nest.specs.declared.Limit.{Limit}
 use Rattle.nest.specs.declared.Side.{Side}
 use Rattle.nest.specs.declared.Nest.{Nest}
-use Rattle.body.specs.Arrays.{shapeOf, arraysOf, ShapeIn}
+use Rattle.arrays.specs.Arrays.{shapeOf, arraysOf, ShapeIn}
 use Rattle.body.specs.Statements.{subscriptOf, accessOf, statementOf, statementsOf, SubscriptIn, AccessIn, StatementIn}
-use Rattle.body.specs.declared.Arrays.{Arrays}
+use Rattle.arrays.specs.declared.Arrays.{Arrays}
 use Rattle.body.specs.declared.Access.{Access}
 use Rattle.body.specs.declared.Body.{Body}
-use Rattle.encoding.specs.Encoding.{nestOf, Held, Encodable}
+use Rattle.writing.specs.Held.{nestOf, Held, Encodable}
 
 abbrev limit : Limit
 limit = record { multiplier = 1; constant = pos 0; coefficients = replicate 6 (pos 0) }

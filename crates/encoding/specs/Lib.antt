@@ -1,3 +1,2 @@
--- What writing leaves in the buffer.
-pub mod Writing
+-- What writing a nest leaves in the buffer.
 pub mod Encoding

@@ -21,7 +21,7 @@ use Rattle.steps.specs.declared.Steps.{Steps}
 use Rattle.ticket.specs.declared.Ticket.{Ticket}
 use Rattle.ticket.specs.Ticket as Ticket
 use Rattle.ticket.specs.Ticket.{ticketOf}
-use Rattle.restructure.proofs.SmallLaws.{nest-length}
+use Rattle.small_numbers.proofs.SmallLaws.{nest-length}
 use Rattle.directions.specs.Sets.{vectorsOf}
 use Rattle.directions.specs.declared.DirectionSet.{DirectionSet}
 use Rattle.stepping.specs.Taking.{nestOf}

@@ -27,11 +27,11 @@ use Rattle.reading.specs.declared.Status.{Status}
 use Rattle.reading.specs.declared.Status.the-variants.{Fine}
 use Rattle.ticket.specs.declared.Decoded.{Decoded}
 use Rattle.ticket.specs.Ticket.{nestOf, ticketOf, decoded, Decodes}
-use Rattle.restructure.proofs.SmallLaws.{nest-length}
-use Rattle.directions.specs.Numbers.{number}
+use Rattle.small_numbers.proofs.SmallLaws.{nest-length}
+use Rattle.preimages.specs.Numbers.{number}
 use Rattle.directions.specs.Sets.{vectorsIn}
 use Rattle.directions.specs.declared.DirectionSet.{DirectionSet}
-use Rattle.directions.proofs.NumberLaws.{number-below}
+use Rattle.preimages.proofs.NumberLaws.{number-below}
 use Rattle.directions.proofs.SetLaws.{no-vectors, added-vector}
 use Rattle.judgement.specs.Judgement.{JudgeIn}
 

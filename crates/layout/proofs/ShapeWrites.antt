@@ -9,9 +9,9 @@ use lib.Seq.{length-take-le, take-suc, getD-take}
 use Rattle.lists.specs.Parts.{put}
 use Rattle.lists.proofs.MembershipLaws.{all-getD}
 use Rattle.lists.proofs.PartLaws.{put-put, set-is-put, set-put, length-put}
-use Rattle.body.specs.Arrays.{shapeOf, arraysOf, ShapeIn}
-use Rattle.body.specs.declared.Shape.{Shape}
-use Rattle.body.specs.declared.Arrays.{Arrays}
+use Rattle.arrays.specs.Arrays.{shapeOf, arraysOf, ShapeIn}
+use Rattle.arrays.specs.declared.Shape.{Shape}
+use Rattle.arrays.specs.declared.Arrays.{Arrays}
 use Rattle.layout.specs.Accesses.{layRows}
 use Rattle.layout.specs.Bodies.{shapeWords, LayShapeIn, LayArraysIn}
 use Rattle.layout.proofs.RowLaws.{rows-more}

@@ -20,9 +20,9 @@ use Rattle.model.specs.Shape.{Fits}
 use Rattle.model.specs.Store.{sum}
 use Rattle.nest.specs.Nested.{loopsOf}
 use Rattle.nest.specs.declared.Nest.{Nest}
-use Rattle.body.specs.Arrays.{arraysOf, shapeOf}
+use Rattle.arrays.specs.Arrays.{arraysOf, shapeOf}
 use Rattle.body.specs.Statements.{accessOf, statementOf, statementsOf, StatementIn}
-use Rattle.body.specs.declared.Arrays.{Arrays}
+use Rattle.arrays.specs.declared.Arrays.{Arrays}
 use Rattle.body.specs.declared.Statement.{Statement}
 use Rattle.body.specs.declared.Body.{Body}
 use Rattle.elements.specs.Layout as Flat
@@ -31,11 +31,11 @@ use Rattle.sheet.specs.Sheets.{nestOf, statementsFrom}
 use Rattle.sheet.specs.declared.Sheet.{Sheet}
 use Rattle.layout.specs.Accesses.{layRows, arrayNumbers}
 use Rattle.layout.specs.Bodies.{shapeWords, accessesIn, sizeOf, HeadsLaid, LayBodyIn, BodyLaid}
-use Rattle.layout.specs.Limits.{LayNestIn, NestLaid}
+use Rattle.loop_layout.specs.Limits.{LayNestIn, NestLaid}
 use Rattle.layout.specs.Sheets.{modelOf, LayIn, Laid}
-use Rattle.layout.proofs.StructLaws.{nest-length}
-use Rattle.layout.proofs.LimitLaws.{small-within}
-use Rattle.layout.proofs.NestLaws.{can-lay}
+use Rattle.loop_layout.proofs.StructLaws.{nest-length}
+use Rattle.loop_layout.proofs.LimitLaws.{small-within}
+use Rattle.loop_layout.proofs.NestLaws.{can-lay}
 use Rattle.layout.proofs.RowLaws.{all-replicate, part-take}
 use Rattle.layout.proofs.ArrayBack.{laid-length, used-length, used-arrays, arrays-same, dimensions-at, few-dimensions, small-extents}
 use Rattle.layout.proofs.AccessBack.{Wide, wordsAt, access-back, accesses-length, accesses-at, accesses-small}

@@ -15,9 +15,9 @@ use Rattle.nest.specs.declared.Limit.{Limit}
 use Rattle.nest.specs.declared.Side.{Side}
 use Rattle.nest.specs.declared.Loop.{Loop}
 use Rattle.nest.specs.declared.Nest.{Nest}
-use Rattle.body.specs.Arrays.{shapeOf, arraysOf, ShapeIn, ArraysIn}
+use Rattle.arrays.specs.Arrays.{shapeOf, arraysOf, ShapeIn, ArraysIn}
 use Rattle.body.specs.Statements.{subscriptOf, accessOf, statementOf, statementsOf, SubscriptIn, AccessIn, StatementIn, BodyIn}
-use Rattle.body.specs.declared.Arrays.{Arrays}
+use Rattle.arrays.specs.declared.Arrays.{Arrays}
 use Rattle.body.specs.declared.Access.{Access}
 use Rattle.body.specs.declared.Statement.{Statement}
 use Rattle.body.specs.declared.Body.{Body}

@@ -9,10 +9,10 @@ use Rattle.lists.specs.Parts.{put}
 use Rattle.model.specs.Ticket as Model
 use Rattle.model.specs.Bounds.{accessesOf}
 use Rattle.model.specs.Ranges.{AccessRanges}
-use Rattle.body.specs.Arrays.{ShapeIn, ArraysIn}
+use Rattle.arrays.specs.Arrays.{ShapeIn, ArraysIn}
 use Rattle.body.specs.Statements.{statementsOf, BodyIn}
-use Rattle.body.specs.declared.Shape.{Shape}
-use Rattle.body.specs.declared.Arrays.{Arrays}
+use Rattle.arrays.specs.declared.Shape.{Shape}
+use Rattle.arrays.specs.declared.Arrays.{Arrays}
 use Rattle.body.specs.declared.Statement.{Statement}
 use Rattle.body.specs.declared.Body.{Body}
 use Rattle.layout.specs.Accesses.{layAccesses, arrayNumbers}

@@ -1,5 +1,4 @@
--- What the crate's contracts speak of: flat slices with a nest laid over them, and what may be laid.
-pub mod Limits
+-- Flat slices with accesses, statements and arrays laid over them; what may be laid.
 pub mod Accesses
 pub mod Bodies
 pub mod Sheets

@@ -5,9 +5,9 @@ use Rattle.model.specs.Ranges.{NestRanges}
 use Rattle.model.specs.Shape.{WellFormed}
 use Rattle.nest.specs.Nested.{loopsOf, NestIn}
 use Rattle.nest.specs.declared.Nest.{Nest}
-use Rattle.body.specs.Arrays.{arraysOf, ArraysIn}
+use Rattle.arrays.specs.Arrays.{arraysOf, ArraysIn}
 use Rattle.body.specs.Statements.{statementsOf, BodyIn}
-use Rattle.body.specs.declared.Arrays.{Arrays}
+use Rattle.arrays.specs.declared.Arrays.{Arrays}
 use Rattle.body.specs.declared.Body.{Body}
 use Rattle.sheet.specs.Sheets.{nestOf, SheetIn}
 use Rattle.sheet.specs.declared.Sheet.{Sheet}

@@ -4,81 +4,19 @@ ghost use mathlib.Core.List.{map};
 ghost use Prim.Native.Nat.{_*_};
 ghost use lib.ListN.{length, set};
 ghost use Rattle.lists.specs.Parts.{put};
-ghost use Rattle.model.specs.Encode.{limitWords};
-ghost use Rattle.nest.specs.Nested.{limitOf, sideOf, loopOf};
-ghost use Rattle.body.specs.Arrays.{shapeOf, arraysOf};
+ghost use Rattle.arrays.specs.Arrays.{shapeOf, arraysOf};
 ghost use Rattle.body.specs.Statements.{subscriptOf, accessOf};
 ghost use Rattle.layout.specs.Accesses.{layRows, subscriptWords, layAccess, LaySubscriptIn, LayAccessIn, LayStatementIn, StatementLaid};
 ghost use Rattle.layout.specs.Bodies.{shapeWords, LayShapeIn, LayArraysIn, LayHeadsIn, HeadsLaid, LayBodyIn, BodyLaid};
-ghost use Rattle.layout.specs.Limits.{layLimits, layLoop, layCount, LayLimitIn, LaySideIn, LayLoopIn, LayNestIn, NestLaid};
 ghost use Rattle.layout.specs.Sheets.{LayIn, Laid};
+use arrays::Arrays;
+use arrays::Shape;
 use body::Access;
-use body::Arrays;
 use body::Body;
-use body::Shape;
 use body::Statement;
 use body::Subscript;
-use nest::Limit;
-use nest::Loop;
 use nest::Nest;
-use nest::Side;
 use sheet::Sheet;
-
-// Limit j of all, of a loop with `outer` loops outside.
-fn lay_limit(words: &mut [i64], j: usize, limit: Limit, outer: usize)
-    requires { ⌜ LayLimitIn (length (now words)) j outer limit ⌝ }
-    ensures { λ _. ⌜ now (words .exit) ≡ put (now (words .entry)) (j * 8) (limitWords (limitOf outer limit)) ⌝ }
-{
-    let at = j * 8;
-    let constant = limit.constant;
-    let coefficients = limit.coefficients;
-    words[at] = limit.multiplier as i64;
-    words[at + 1] = constant;
-    space::store(words, at + 2, &coefficients[..outer]);
-}
-
-// The limits of a side, from limit j on.
-fn lay_side(words: &mut [i64], j: usize, side: Side, outer: usize)
-    requires { ⌜ LaySideIn (length (now words)) j outer side ⌝ }
-    ensures { λ _. ⌜ now (words .exit) ≡ layLimits (now (words .entry)) j (sideOf outer side) ⌝ }
-{
-    let count = side.count;
-    let limits = side.limits;
-    let mut i = 0;
-    while i < count {
-        let limit = limits[i];
-        lay_limit(words, j + i, limit, outer);
-        i += 1;
-    }
-}
-
-// Loop k, and how many limits it has on each side.
-fn lay_loop(words: &mut [i64], counts: &mut [usize], k: usize, body: Loop)
-    requires { ⌜ LayLoopIn (length (now words)) (length (now counts)) k body ⌝ }
-    ensures { λ _. ⌜ (now (words .exit) ≡ layLoop (now (words .entry)) k (loopOf k body)) × (now (counts .exit) ≡ layCount (now (counts .entry)) k (loopOf k body)) ⌝ }
-{
-    let lower = body.lower;
-    let upper = body.upper;
-    lay_side(words, k * 32, lower, k);
-    lay_side(words, k * 32 + 16, upper, k);
-    counts[k * 2] = lower.count;
-    counts[k * 2 + 1] = upper.count;
-}
-
-// The loops of a nest, in 1536 words and 12 counts.
-fn lay_nest(words: &mut [i64], counts: &mut [usize], nest: Nest)
-    requires { ⌜ LayNestIn (now words) (length (now counts)) nest ⌝ }
-    ensures { λ _. ⌜ NestLaid nest (now (words .exit)) (now (counts .exit)) ⌝ }
-{
-    let depth = nest.depth;
-    let loops = nest.loops;
-    let mut k = 0;
-    while k < depth {
-        let body = loops[k];
-        lay_loop(words, counts, k, body);
-        k += 1;
-    }
-}
 
 // Subscript j of all.
 fn lay_subscript(words: &mut [i64], j: usize, subscript: Subscript, depth: usize)
@@ -204,7 +142,7 @@ pub fn lay(nest: Nest, arrays: Arrays, body: Body) -> Sheet
     let depth = nest.depth;
     let mut limits = [0i64; 1536];
     let mut counts = [0usize; 12];
-    lay_nest(&mut limits, &mut counts, nest);
+    loop_layout::lay_nest(&mut limits, &mut counts, nest);
     let mut extents = [0usize; 16];
     lay_arrays(&mut extents, arrays);
     let mut sizes = [0usize; 4];

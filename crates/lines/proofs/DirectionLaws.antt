@@ -21,15 +21,15 @@ use Rattle.model.specs.Directions.{Kind, flow, anti, output, Line, allLines}
 use Rattle.model.specs.Judge.{directionsOf}
 use Rattle.model.proofs.Listing.LineOrderLaws.{allLines-mem, mem-allLines}
 use Rattle.model.proofs.Listing.ListingLaws.{linesOf-merged}
-use Rattle.dependence.specs.Numbers as Dependence
-use Rattle.dependence.specs.Numbers.{digit, numberAfter, kindNumber, place}
+use Rattle.vectors.specs.Numbers as Dependence
+use Rattle.vectors.specs.Numbers.{digit, numberAfter, kindNumber, place}
 use Rattle.listing_text.specs.Text as Text
 use Rattle.listing_text.specs.Text.{shown, Marks}
 use Rattle.listing_text.proofs.IndexLaws.{split, count-small}
-use Rattle.directions.specs.Numbers.{number}
-use Rattle.directions.specs.Sets.{marked, vectorsIn, vectorsOf, Empty, Merged}
+use Rattle.preimages.specs.Numbers.{number, marked}
+use Rattle.directions.specs.Sets.{vectorsIn, vectorsOf, Empty, Merged}
 use Rattle.directions.specs.declared.DirectionSet.{DirectionSet}
-use Rattle.directions.proofs.NumberLaws.{number-below}
+use Rattle.preimages.proofs.NumberLaws.{number-below}
 use Rattle.directions.proofs.HornerLaws.{horner, number-horner}
 use Rattle.directions.proofs.SetLaws.{vectorsIn-mem, mem-vectorsIn}
 use Rattle.sheet.specs.declared.Sheet.{Sheet}

@@ -31,8 +31,8 @@ use Rattle.model.proofs.Machine.ElementLaws.{same-decides}
 use Rattle.model.proofs.Points.PointLaws.{iterations-rise}
 use Rattle.model.proofs.Verdict.VerdictLaws.{admitted-accepted}
 use Rattle.model.proofs.Store.PlaceLaws.{Valid, place-injective}
-use Rattle.dependence.specs.Search.{row}
-use Rattle.dependence.specs.Numbers.{place}
+use Rattle.vectors.specs.Candidates.{row}
+use Rattle.vectors.specs.Numbers.{place}
 use Rattle.dependence.specs.Flat.{Flat, flat, statementOf, pointAt, Use, use·of, usesFrom, uses, noUse, useAt, Describes, Ready, Searched}
 use Rattle.dependence.proofs.UseLaws.{uses-of}
 use Rattle.listing_text.specs.Text.{marked, shown, text}

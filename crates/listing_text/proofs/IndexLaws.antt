@@ -11,9 +11,9 @@ use Rattle.lists.specs.Membership.{Mem}
 use Rattle.lists.proofs.FlatMapLaws.{length-flatMap-even}
 use Rattle.lists.proofs.PartLaws.{row-fits}
 use Rattle.model.specs.Directions.{Kind, flow, kinds, Line, upFrom, signVectors, allLines}
-use Rattle.dependence.specs.Numbers.{digit, numberAfter, number, kindNumber, place}
-use Rattle.dependence.specs.Search.{stride, middle}
-use Rattle.dependence.proofs.NumberLaws.{stride-positive, stride-half, number-lt, number-splits}
+use Rattle.vectors.specs.Numbers.{digit, numberAfter, number, kindNumber, place}
+use Rattle.vectors.specs.Candidates.{stride, middle}
+use Rattle.vectors.proofs.NumberLaws.{stride-positive, stride-half, number-lt, number-splits}
 use Rattle.listing_text.specs.Text.{lineAt, lineCount}
 
 -- ---- parts of one width

@@ -18,7 +18,7 @@ use Rattle.lists.proofs.TestLaws.{select-mem}
 use Rattle.model.specs.Directions.{flow, kinds, Line, allLines}
 use Rattle.model.specs.Listing.{letter, lineText}
 use Rattle.model.proofs.Listing.LineOrderLaws.{allLines-mem}
-use Rattle.dependence.specs.Search.{stride, middle}
+use Rattle.vectors.specs.Candidates.{stride, middle}
 use Rattle.listing_text.specs.Text.{marked, shown, lineCount, lineAt}
 use Rattle.listing_text.proofs.IndexLaws.{At, lines-length}
 use Rattle.listing_text.proofs.TextLaws.{line-array, line-length}

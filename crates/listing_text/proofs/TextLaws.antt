@@ -10,8 +10,8 @@ use borrow.Author.Tests.{lt-ltb, le-ltb}
 use Rattle.integers.specs.Sign.{Sign, less, equal, greater}
 use Rattle.model.specs.Directions.{flow, kinds, Line}
 use Rattle.model.specs.Listing.{digits, decimal, letter, signChar, lineText}
-use Rattle.dependence.specs.Numbers.{digit, numberAfter, number}
-use Rattle.dependence.proofs.NumberLaws.{digit-lt}
+use Rattle.vectors.specs.Numbers.{digit, numberAfter, number}
+use Rattle.vectors.proofs.NumberLaws.{digit-lt}
 use Rattle.listing_text.specs.Text.{Field}
 
 -- ---- numbers in decimal

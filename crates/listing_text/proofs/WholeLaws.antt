@@ -18,7 +18,7 @@ use Rattle.model.specs.Points.{iterations}
 use Rattle.model.specs.Machine.{Accesses, accesses}
 use Rattle.model.specs.Directions.{Line, occurs, allLines, lines}
 use Rattle.model.specs.Listing.{decimal, lineText, headText, linesOf, listing}
-use Rattle.dependence.specs.Numbers.{place}
+use Rattle.vectors.specs.Numbers.{place}
 use Rattle.dependence.specs.Flat.{Flat, pointsOf, Describes, Searched}
 use Rattle.listing_text.specs.Text.{marked, shown, text, Field, Written}
 use Rattle.listing_text.proofs.LineLaws.{text-length}

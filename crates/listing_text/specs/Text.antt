@@ -9,8 +9,8 @@ use Rattle.lists.specs.Parts.{put}
 use Rattle.lists.specs.Tests.{select}
 use Rattle.model.specs.Directions.{Line, flow, allLines}
 use Rattle.model.specs.Listing.{decimal, lineText, headText}
-use Rattle.dependence.specs.Numbers.{place}
-use Rattle.dependence.specs.Search.{stride}
+use Rattle.vectors.specs.Numbers.{place}
+use Rattle.vectors.specs.Candidates.{stride}
 
 unfoldable pub marked : List Bool → ℕ → Line → Bool
 marked m n l = getD m (place n l) false

@@ -7,7 +7,7 @@ ghost use Rattle.lists.specs.Parts.{put};
 ghost use Rattle.model.specs.Directions.{flow, kinds};
 ghost use Rattle.model.specs.Listing.{lineText};
 ghost use Rattle.model.specs.Listing.{letter as «letter-of»};
-ghost use Rattle.dependence.specs.Search.{stride, middle};
+ghost use Rattle.vectors.specs.Candidates.{stride, middle};
 ghost use Rattle.listing_text.specs.Text.{marked, shown, lineCount, lineAt, Marks, Field, Written};
 ghost use Rattle.listing_text.specs.Text.{text as «text-of»};
 
@@ -36,7 +36,7 @@ fn line_count(n: usize, depth: usize) -> usize
     requires { ⌜ (n ≤ 4) × (depth ≤ 6) ⌝ }
     ensures { λ r. ⌜ (r ≡ lineCount n depth) × (r ≤ 34992) ⌝ }
 {
-    n * n * 3 * dependence::stride(6 - depth)
+    n * n * 3 * vectors::stride(6 - depth)
 }
 
 // The number of its source, sink and kind.
@@ -44,7 +44,7 @@ fn block(depth: usize, i: usize) -> usize
     requires { ⌜ depth ≤ 6 ⌝ }
     ensures { λ r. ⌜ r ≡ i / stride depth ⌝ }
 {
-    i / dependence::stride(6 - depth)
+    i / vectors::stride(6 - depth)
 }
 
 // The number of its vector.
@@ -52,8 +52,8 @@ fn vector(depth: usize, i: usize) -> usize
     requires { ⌜ depth ≤ 6 ⌝ }
     ensures { λ r. ⌜ (r ≡ i % stride depth * stride (6 - depth) + middle (6 - depth)) × (r < 729) ⌝ }
 {
-    let step = dependence::stride(depth);
-    i % dependence::stride(6 - depth) * step + (step - 1) / 2
+    let step = vectors::stride(depth);
+    i % vectors::stride(6 - depth) * step + (step - 1) / 2
 }
 
 // Whether it is marked.

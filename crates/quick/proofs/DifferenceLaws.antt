@@ -20,13 +20,13 @@ use Rattle.integers.proofs.Linear.{lin, _≐_}
 use Rattle.model.specs.Quick as Model
 use Rattle.model.specs.Quick.{leastTerm, greatestTerm, leastSum, greatestSum, difference, divides, neverZero}
 use Rattle.model.specs.Ticket.{Subscript}
-use Rattle.space.proofs.LimitLaws.{copied}
+use Rattle.bounds.proofs.LimitLaws.{copied}
 use Rattle.elements.specs.Layout.{formAt}
-use Rattle.quick.specs.declared.Range.{Range}
-use Rattle.quick.specs.Ranges.{rangesOf}
+use Rattle.extremes.specs.declared.Range.{Range}
+use Rattle.extremes.specs.Ranges.{rangesOf}
 use Rattle.quick.specs.Differences.{differenceAt, leastDifference, greatestDifference, PairIn, DifferenceIn}
-use Rattle.quick.proofs.TermLaws.{copy}
-use Rattle.quick.proofs.SumLaws.{count-of}
+use Rattle.extremes.proofs.TermLaws.{copy}
+use Rattle.extremes.proofs.SumLaws.{count-of}
 
 -- ---- sums of two lists, and of negatives
 

@@ -20,10 +20,10 @@ use Rattle.integers.proofs.AffineLaws.{within-at}
 use Rattle.integers.proofs.Polynomial.{_⊖_, ⊝, #}
 use Rattle.integers.proofs.Linear.{lin, _≐_}
 use Rattle.model.specs.Quick.{divides, difference}
-use Rattle.space.proofs.LimitLaws.{copied}
+use Rattle.bounds.proofs.LimitLaws.{copied}
 use Rattle.elements.specs.Layout.{formAt}
 use Rattle.quick.specs.Differences.{gcdOnto, differenceAt, WordsIn}
-use Rattle.quick.proofs.TermLaws.{copy}
+use Rattle.extremes.proofs.TermLaws.{copy}
 
 -- ---- absolute values
 

@@ -15,15 +15,15 @@ use lib.Seq.{drop-cons}
 use Rattle.lists.specs.Tests.{any}
 use Rattle.model.specs.Quick as Model
 use Rattle.model.specs.Quick.{ranges, neverZero, someApart, isApart}
-use Rattle.space.specs.Flat.{loopsFrom}
-use Rattle.space.proofs.LimitLaws.{copied}
+use Rattle.bounds.specs.Flat.{loopsFrom}
+use Rattle.bounds.proofs.LimitLaws.{copied}
 use Rattle.elements.specs.Layout.{formsFrom, accessAt}
-use Rattle.quick.specs.declared.Range.{Range}
-use Rattle.quick.specs.Ranges.{rangeAs, rangesOf, isEmpty, NearRange, RangesIn}
-use Rattle.quick.specs.Values.{RangesAre}
+use Rattle.extremes.specs.declared.Range.{Range}
+use Rattle.extremes.specs.Ranges.{rangeAs, rangesOf, isEmpty, NearRange, RangesIn}
+use Rattle.extremes.specs.Values.{RangesAre}
 use Rattle.quick.specs.Differences.{differenceAt, DifferenceIn, FormsIn, TestIn}
-use Rattle.quick.proofs.TermLaws.{copy}
-use Rattle.quick.proofs.SumLaws.{noRange}
+use Rattle.extremes.proofs.TermLaws.{copy}
+use Rattle.extremes.proofs.SumLaws.{noRange}
 
 -- ---- an empty range
 

@@ -8,10 +8,10 @@ use Rattle.integers.specs.Affine.{Within}
 use Rattle.model.specs.Ticket.{Subscript}
 use Rattle.model.specs.Quick as Model
 use Rattle.model.specs.Quick.{leastSum, greatestSum, difference}
-use Rattle.space.specs.Flat.{NestOk}
+use Rattle.bounds.specs.Flat.{NestOk}
 use Rattle.elements.specs.Layout.{formAt, AccessesOk}
-use Rattle.quick.specs.declared.Range.{Range}
-use Rattle.quick.specs.Ranges.{RangesIn}
+use Rattle.extremes.specs.declared.Range.{Range}
+use Rattle.extremes.specs.Ranges.{RangesIn}
 
 -- the greatest common divisor of g and the absolute values of a list
 unfoldable pub gcdOnto : List ℤ → ℕ → ℕ

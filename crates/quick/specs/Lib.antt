@@ -1,4 +1,2 @@
--- What the crate's contracts speak of: ranges in an array, then what each function asks and gives.
-pub mod Ranges
-pub mod Values
+-- What the difference of two subscripts can be, and what each function asks and gives.
 pub mod Differences

@@ -16,7 +16,7 @@ use Rattle.limits.specs.Change.{Allowed, outerAfter, LoopsChange}
 use Rattle.limits.specs.declared.Change.the-variants.{Turn, Swap, Skew, Split}
 use Rattle.limits.proofs.SideLaws.{all-front}
 use Rattle.restructure.specs.After.{StepIn}
-use Rattle.restructure.proofs.SmallLaws.{loops-small, nest-length, nest-at}
+use Rattle.small_numbers.proofs.SmallLaws.{loops-small, nest-length, nest-at}
 use Rattle.restructure.proofs.NestLaws.{loops-inside, all-inside}
 
 -- what stands beyond the loops of an array

@@ -1,5 +1,4 @@
 -- Laws over plain lists that the proofs of the crate's functions cite.
-pub mod SmallLaws
 pub mod NestLaws
 pub mod ChangeLaws
 pub mod StepLaws

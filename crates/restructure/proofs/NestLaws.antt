@@ -22,7 +22,7 @@ use Rattle.nest.specs.declared.Nest.{Nest}
 use Rattle.limits.proofs.SideLaws.{loops-append}
 use Rattle.exchange.specs.Filling.{fewIn}
 use Rattle.exchange.proofs.FillLaws.{side-length}
-use Rattle.restructure.proofs.SmallLaws.{loops-count}
+use Rattle.small_numbers.proofs.SmallLaws.{loops-count}
 
 -- ---- the loops after a place
 

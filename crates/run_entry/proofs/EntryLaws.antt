@@ -31,7 +31,7 @@ use Rattle.judgement.specs.declared.Judged.{Judged}
 use Rattle.judgement.specs.Judgement.{judgedAs, Judges}
 use Rattle.execution.specs.Execution.{Executable}
 use Rattle.execution.proofs.AcceptedLaws.{new-executable}
-use Rattle.run_entry.specs.Outcomes.{tested, outcome, RunIn}
+use Rattle.judged_run.specs.Outcomes.{tested, outcome, RunIn}
 
 -- ---- the model's entry, by its judgement
 

@@ -17,7 +17,7 @@ use Rattle.directions.specs.Sets.{vectorsOf}
 use Rattle.sheet.specs.declared.Sheet.{Sheet}
 use Rattle.sheet.specs.Sheets.{nestOf}
 use Rattle.sheet.proofs.StageLaws.{depth-is}
-use Rattle.layout.proofs.StructLaws.{nest-length}
+use Rattle.loop_layout.proofs.StructLaws.{nest-length}
 use Rattle.lines.specs.Lines.{LinesIn, LinesAre, Shows}
 use Rattle.lines.proofs.MarkLaws.{lines-in}
 use Rattle.lines.proofs.DirectionLaws.{directions-are}

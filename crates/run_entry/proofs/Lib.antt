@@ -1,4 +1,3 @@
 -- Laws that the crate's contracts need.
 pub mod JudgeLaws
-pub mod OutcomeLaws
 pub mod EntryLaws

@@ -1,2 +1,1 @@
 -- What the crate's contracts speak of.
-pub mod Outcomes

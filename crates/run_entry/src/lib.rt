@@ -1,13 +1,10 @@
 // The entry `run`: the nest of a ticket in its new order, on a store.
 ghost use Rattle.model.specs.Entries as Entries;
-ghost use Rattle.sheet.specs.Sheets.{nestOf};
 ghost use Rattle.intake.specs.Intake.{Taken};
 ghost use Rattle.intake.specs.Answers.{Hands};
 ghost use Rattle.judgement.specs.Judgement.{Judges};
-ghost use Rattle.run_entry.specs.Outcomes.{RunIn, tested, outcome};
 use intake::Answer;
 use judgement::Judged;
-use reading::Refusal;
 use reading::Status;
 use sheet::Sheet;
 use ticket::Ticket;
@@ -21,23 +18,6 @@ fn judge(ticket: Ticket, sheet: Sheet, points: &[i64], count: usize) -> Judged
     lines::mark_lines(sheet, points, count, &mut marks);
     let set = lines::directions_of(&marks, sheet.statements, sheet.depth);
     judgement::judge_ticket(ticket, set)
-}
-
-// Refusals 15 and 16 on the ticket's own sheet, then the run on the sheet of its new nest.
-fn run_judged(old: Sheet, new: Sheet, count: usize, store: &mut [u32]) -> Answer
-    requires { ⌜ RunIn old new count ⌝ }
-    ensures { λ r. ⌜ Hands (outcome (tested (nestOf old) (now (store .entry))) (nestOf old) (nestOf new) (now (store .entry))) r (now (store .exit)) ⌝ }
-{
-    let opaque = execution::first_opaque(old);
-    let elements = execution::elements_in(old);
-    if 0 < opaque {
-        return Answer::Refused(Refusal::OpaqueRule(opaque));
-    }
-    if store.len() != elements {
-        return Answer::Refused(Refusal::WrongStoreLength);
-    }
-    execution::execute(new, store);
-    Answer::Accepted(count)
 }
 
 // Judges 1 to 13, then 15 and 16. An accepted run leaves the store that the old order leaves (model, Demands: demand-3, run-store).
@@ -61,5 +41,5 @@ pub fn run(ticket: &[u8], store: &mut [u32]) -> Answer
         Status::Refused(r) => return Answer::Refused(r),
     }
     let new = judged.sheet;
-    run_judged(sheet, new, count, store)
+    judged_run::run_judged(sheet, new, count, store)
 }

@@ -19,7 +19,7 @@ use Rattle.model.specs.Machine.{element}
 use Rattle.model.specs.Store.{placeOf}
 use Rattle.model.specs.Quick.{isApart}
 use Rattle.model.proofs.Store.PlaceLaws.{Valid, element-valid, place-below}
-use Rattle.space.specs.Flat.{loopsFrom}
+use Rattle.bounds.specs.Flat.{loopsFrom}
 use Rattle.space.specs.Surveys as Space
 use Rattle.space.specs.Stored.{PointsIn, Listed}
 use Rattle.space.specs.declared.Verdict.{Verdict}

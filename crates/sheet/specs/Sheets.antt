@@ -1,4 +1,4 @@
--- The nest that a sheet stands for. Its slices are laid out as `space` (specs/Flat) and `elements` (specs/Layout) say; a statement has a size
+-- The nest that a sheet stands for. Its slices are laid out as `bounds` (specs/Flat) and `elements` (specs/Layout) say; a statement has a size
 -- (the number of its accesses, the written one first), a rule and a constant.
 use mathlib.Core.Path.{_≡_}
 use mathlib.Core.List.{List, [], _∷_}
@@ -9,7 +9,7 @@ use Rattle.lists.specs.Membership.{All}
 use Rattle.model.specs.Ticket.{Statement, Nest}
 use Rattle.model.specs.Grammar.{total}
 use Rattle.model.specs.Store.{sum}
-use Rattle.space.specs.Flat.{loopsFrom, NestOk}
+use Rattle.bounds.specs.Flat.{loopsFrom, NestOk}
 use Rattle.elements.specs.Layout.{arraysOf, accessAt, accessesFrom, AccessesOk}
 use Rattle.sheet.specs.declared.Sheet.{Sheet}
 

@@ -13,11 +13,11 @@ use Rattle.lists.proofs.PartLaws.{put-nil, length-put, put-put}
 use Rattle.integers.specs.Difference.{size}
 use Rattle.model.specs.Ticket.{Loop}
 use Rattle.model.specs.Points.{span, ints}
-use Rattle.space.specs.Flat.{NestOk, loopAt, loopsFrom}
-use Rattle.space.specs.Ranges.{RangeIn, Ranged}
+use Rattle.bounds.specs.Flat.{NestOk, loopAt, loopsFrom}
+use Rattle.bounds.specs.Ranges.{RangeIn, Ranged}
 use Rattle.space.specs.Tallies.{through, Near}
 use Rattle.space.specs.Stored.{joined, CollectIn, Collected}
-use Rattle.space.proofs.RangeLaws.{range-in}
+use Rattle.bounds.proofs.RangeLaws.{range-in}
 use Rattle.space.proofs.ThroughLaws.{loops-none, after, through-nil, through-step, turn, no-turn}
 use Rattle.space.proofs.StepLaws.{within-snoc, take-moved, prefix, near-step}
 

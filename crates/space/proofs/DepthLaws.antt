@@ -15,7 +15,7 @@ use Rattle.model.specs.Ticket.{Loop}
 use Rattle.model.specs.Points.{points, partialPoints}
 use Rattle.model.specs.Bounds.{survey}
 use Rattle.space.specs.declared.Tally.{Tally}
-use Rattle.space.specs.Flat.{NestOk, loopsFrom}
+use Rattle.bounds.specs.Flat.{NestOk, loopsFrom}
 use Rattle.space.specs.Tallies.{capped, seen, TallyIn, Tallied}
 use Rattle.space.specs.Surveys.{SurveyIn}
 use Rattle.space.proofs.ThroughLaws.{loops-length, loops-take, partial-are}

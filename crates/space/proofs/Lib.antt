@@ -1,8 +1,5 @@
 -- Laws that the crate's contracts need.
 pub mod Witness
-pub mod LimitLaws
-pub mod SideLaws
-pub mod RangeLaws
 pub mod ThroughLaws
 pub mod EndLaws
 pub mod TallyLaws

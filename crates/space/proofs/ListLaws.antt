@@ -17,7 +17,7 @@ use Rattle.model.specs.Answer.{accepted}
 use Rattle.model.specs.Ticket.{Loop}
 use Rattle.model.specs.Points.{indices, points, partialPoints, iterations}
 use Rattle.model.specs.Bounds.{survey, space}
-use Rattle.space.specs.Flat.{loopsFrom}
+use Rattle.bounds.specs.Flat.{loopsFrom}
 use Rattle.space.specs.Tallies.{through, Near}
 use Rattle.space.specs.Stored.{joined, CollectIn, Collected, PointsIn, Listed}
 use Rattle.space.proofs.ThroughLaws.{through-none, loops-length}

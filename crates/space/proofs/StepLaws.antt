@@ -15,10 +15,10 @@ use Rattle.integers.specs.Affine.{Within}
 use Rattle.integers.proofs.RangeLaws.{back, from-nat, size-add, size-fits}
 use Rattle.model.specs.Ticket.{Loop}
 use Rattle.model.specs.Points.{span}
-use Rattle.space.specs.Flat.{loopAt, loopsFrom}
-use Rattle.space.specs.Ranges.{Narrow, Ranged}
+use Rattle.bounds.specs.Flat.{loopAt, loopsFrom}
+use Rattle.bounds.specs.Ranges.{Narrow, Ranged}
 use Rattle.space.specs.Tallies.{Near}
-use Rattle.space.proofs.LimitLaws.{copied}
+use Rattle.bounds.proofs.LimitLaws.{copied}
 use Rattle.space.proofs.ThroughLaws.{indices-are, loops-step}
 use Rattle.space.proofs.EndLaws.{mem-ints}
 

@@ -19,9 +19,9 @@ use Rattle.model.specs.Ticket.{Loop}
 use Rattle.model.specs.Points.{span, ints}
 use Rattle.model.specs.Bounds.{lastOf, beyond}
 use Rattle.space.specs.declared.Tally.{Tally}
-use Rattle.space.specs.Ranges.{Narrow, Ranged}
+use Rattle.bounds.specs.Ranges.{Narrow, Ranged}
 use Rattle.space.specs.Tallies.{through, capped, outside, seen}
-use Rattle.space.proofs.LimitLaws.{copied}
+use Rattle.bounds.proofs.LimitLaws.{copied}
 use Rattle.space.proofs.ThroughLaws.{through-one, indices-are, length-ints}
 use Rattle.space.proofs.EndLaws.{ends-decide}
 

@@ -9,10 +9,10 @@ use Rattle.integers.specs.Difference.{size}
 use Rattle.model.specs.Ticket.{Loop}
 use Rattle.model.specs.Points.{span, ints}
 use Rattle.space.specs.declared.Tally.{Tally}
-use Rattle.space.specs.Flat.{NestOk, loopAt, loopsFrom}
-use Rattle.space.specs.Ranges.{RangeIn, Ranged}
+use Rattle.bounds.specs.Flat.{NestOk, loopAt, loopsFrom}
+use Rattle.bounds.specs.Ranges.{RangeIn, Ranged}
 use Rattle.space.specs.Tallies.{through, seen, Near, IncludeIn, TallyIn, Tallied}
-use Rattle.space.proofs.RangeLaws.{range-in}
+use Rattle.bounds.proofs.RangeLaws.{range-in}
 use Rattle.space.proofs.ThroughLaws.{loops-step, loops-none, after, through-step, turn, no-turn}
 use Rattle.space.proofs.TallyLaws.{seen-append, seen-none}
 use Rattle.space.proofs.StepLaws.{within-snoc, take-moved, prefix, near-step}

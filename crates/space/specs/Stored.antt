@@ -7,7 +7,7 @@ use lib.ListN.{length, take}
 use Rattle.lists.specs.Parts.{rows, put}
 use Rattle.integers.specs.Affine.{Within}
 use Rattle.model.specs.Points.{iterations}
-use Rattle.space.specs.Flat.{NestOk, loopsFrom}
+use Rattle.bounds.specs.Flat.{NestOk, loopsFrom}
 use Rattle.space.specs.Tallies.{through, Near}
 
 -- the indices of all points, one point after the other

@@ -6,7 +6,7 @@ use lib.IntN.{ℤ}
 use Rattle.model.specs.Answer.{Answer, accepted, refused}
 use Rattle.model.specs.Bounds.{survey}
 use Rattle.space.specs.declared.Verdict.{Verdict}
-use Rattle.space.specs.Flat.{NestOk, loopsFrom}
+use Rattle.bounds.specs.Flat.{NestOk, loopsFrom}
 use Rattle.space.specs.Tallies.{Bounded}
 use Rattle.space.specs.declared.Verdict.the-variants as verdict
 

@@ -15,8 +15,8 @@ use Rattle.model.specs.Ticket.{Loop}
 use Rattle.model.specs.Points.{indices, points}
 use Rattle.model.specs.Bounds.{lastOf, beyond}
 use Rattle.space.specs.declared.Tally.{Tally}
-use Rattle.space.specs.Flat.{NestOk, loopsFrom}
-use Rattle.space.specs.Ranges.{RangeIn}
+use Rattle.bounds.specs.Flat.{NestOk, loopsFrom}
+use Rattle.bounds.specs.Ranges.{RangeIn}
 
 -- the points of the loops N that go on from the indices outside, whole
 unfoldable pub through : List Loop → List ℤ → List (List ℤ)

@@ -23,7 +23,7 @@ use Rattle.steps.specs.Steps.{stepOf}
 use Rattle.steps.specs.declared.Step.{Step}
 use Rattle.restructure.specs.After.{After}
 use Rattle.restructure.specs.declared.Stepped.{Stepped}
-use Rattle.restructure.proofs.SmallLaws.{nest-length}
+use Rattle.small_numbers.proofs.SmallLaws.{nest-length}
 use Rattle.subscripts.specs.After.{smallStatement, BodyStepIn, BodyAfter}
 use Rattle.subscripts.proofs.RangeLaws.{statements-pass}
 use Rattle.stepping.specs.Taking.{nestOf, NestStepIn, TakingIn, Takes}

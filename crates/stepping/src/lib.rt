@@ -53,7 +53,7 @@ fn small_numbers(nest: Nest, body: Body) -> bool
     requires { ⌜ NestIn nest × BodyIn body ⌝ }
     ensures { λ r. ⌜ r ≡ all smallLoop (loopsOf nest) && all smallStatement (statementsOf (nest .depth) body) ⌝ }
 {
-    if !restructure::small_loops(nest) {
+    if !small_numbers::small_loops(nest) {
         return false;
     }
     let depth = nest.depth;

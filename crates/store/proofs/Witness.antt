@@ -15,7 +15,7 @@ use Rattle.model.specs.Points.{largest, smallest, value, firstIndex, lastIndex,
 use Rattle.model.specs.Bounds.{subscriptAt, outside, strays}
 use Rattle.model.specs.Machine.{element}
 use Rattle.model.specs.Store.{base, placeFrom, placeOf, sum}
-use Rattle.space.specs.Flat.{limitAt, limitsAt, loopAt, loopsFrom}
+use Rattle.bounds.specs.Flat.{limitAt, limitsAt, loopAt, loopsFrom}
 use Rattle.space.proofs.DepthLaws.{nest-part}
 use Rattle.space.proofs.Witness.{ones-ok}
 use Rattle.elements.specs.Layout.{extentsAt, arraysFrom, arraysOf, formAt, formsFrom, accessAt, AccessesOk}

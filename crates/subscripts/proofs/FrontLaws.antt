@@ -13,7 +13,7 @@ use Rattle.lists.proofs.MembershipLaws.{all-nil}
 use Rattle.lists.proofs.TestLaws.{all-holds}
 use Rattle.reading.proofs.ReaderLaws.{all-more, all-read}
 use Rattle.limits.proofs.SideLaws.{map-more, all-front-map}
-use Rattle.restructure.proofs.SmallLaws.{all-none, all-next, all-broken}
+use Rattle.small_numbers.proofs.SmallLaws.{all-none, all-next, all-broken}
 
 -- ---- changed: the first k of `to` stand for h of what the first k of `from` stand for
 

@@ -137,28 +137,16 @@ pub fn body_after(body: Body, depth: usize, step: Step) -> Body
 
 // ---- numbers within ±32767
 
-fn small_number(x: i64) -> bool
-    ensures { λ r. ⌜ r ≡ small x ⌝ }
-{
-    if 32767 < x {
-        return false;
-    }
-    if x < -32767 {
-        return false;
-    }
-    true
-}
-
 fn small_subscript(s: Subscript, n: usize) -> bool
     requires { ⌜ n ≤ 6 ⌝ }
     ensures { λ r. ⌜ r ≡ smallSubscript (subscriptOf n s) ⌝ }
 {
     let c = s.constant;
-    if !small_number(c) {
+    if !small_numbers::small_number(c) {
         return false;
     }
     let cs = s.coefficients;
-    restructure::small_row(cs, n)
+    small_numbers::small_row(cs, n)
 }
 
 fn small_access(access: Access, n: usize) -> bool

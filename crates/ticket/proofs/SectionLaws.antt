@@ -17,7 +17,7 @@ use Rattle.reading.specs.declared.Status.the-variants as Status
 use Rattle.reading.proofs.ReaderLaws.{after-value, after-refusal}
 use Rattle.nest.specs.Nested.{loopsFrom, loopsOf, NestIn}
 use Rattle.nest.specs.declared.Loop.{Loop}
-use Rattle.body.specs.Arrays.{arraysOf}
+use Rattle.arrays.specs.Arrays.{arraysOf}
 use Rattle.body.specs.Statements.{statementsOf}
 use Rattle.steps.specs.Steps.{stepsOf}
 use Rattle.ticket.specs.Ticket.{nestOf, ticketOf, sections, firstOf}

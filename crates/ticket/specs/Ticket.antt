@@ -11,7 +11,7 @@ use Rattle.reading.specs.Refusals.{refusal, Reads}
 use Rattle.reading.specs.declared.Status.{Status}
 use Rattle.reading.specs.declared.Status.the-variants as Status
 use Rattle.nest.specs.Nested.{loopsOf, NestIn}
-use Rattle.body.specs.Arrays.{arraysOf, ArraysIn}
+use Rattle.arrays.specs.Arrays.{arraysOf, ArraysIn}
 use Rattle.body.specs.Statements.{statementsOf, BodyIn}
 use Rattle.steps.specs.Steps.{stepsOf, StepsIn}
 use Rattle.ticket.specs.declared.Ticket.{Ticket}

@@ -1,7 +1,7 @@
 // From any byte slice to a ticket, or the first refusal.
 ghost use mathlib.Core.Path.{_≡_};
 ghost use Rattle.ticket.specs.Ticket.{firstOf, ReadsTicket, Decodes};
-use body::Arrays;
+use arrays::Arrays;
 use body::Body;
 use nest::Nest;
 use reading::Refusal;
@@ -32,7 +32,7 @@ fn read_sections(bytes: &[u8]) -> TicketRead
     ensures { λ r. ⌜ ReadsTicket (now (bytes .entry)) r ⌝ }
 {
     let first = nest::read_nest(bytes, 1);
-    let second = body::read_arrays(bytes, first.next);
+    let second = arrays::read_arrays(bytes, first.next);
     let nest = first.nest;
     let arrays = second.arrays;
     let third = body::read_body(bytes, second.next, nest.depth, arrays);

@@ -16,7 +16,7 @@ use Rattle.reading.specs.declared.Refusal.{Refusal}
 use Rattle.reading.specs.declared.Status.{Status}
 use Rattle.reading.specs.declared.Status.the-variants.{Fine, Refused}
 use Rattle.reading.specs.Refusals.{refusal}
-use Rattle.restructure.proofs.SmallLaws.{nest-length}
+use Rattle.small_numbers.proofs.SmallLaws.{nest-length}
 use Rattle.ticket.specs.declared.Ticket.{Ticket}
 use Rattle.ticket.specs.Ticket.{nestOf, ticketOf, decoded}
 use Rattle.directions.specs.Sets.{vectorsOf}

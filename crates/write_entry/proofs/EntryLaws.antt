@@ -14,8 +14,9 @@ use Rattle.reading.specs.declared.Status.{Status}
 use Rattle.reading.specs.declared.Status.the-variants as Status
 use Rattle.reading.specs.Refusals.{refusal}
 use Rattle.ticket.specs.Ticket.{ticketOf}
-use Rattle.encoding.specs.Encoding as Encoding
-use Rattle.encoding.specs.Encoding.{Encodable, Encodes}
+use Rattle.writing.specs.Held as Held
+use Rattle.writing.specs.Held.{Encodable}
+use Rattle.encoding.specs.Encoding.{Encodes}
 use Rattle.encoding.specs.declared.Encoded.{Encoded}
 use Rattle.encoding.specs.declared.Encoded.the-variants.{Complete, TooShort}
 use Rattle.encoding.proofs.EncodeLaws.{ranges-encodable}
@@ -41,19 +42,19 @@ module _ (b : List ℕ) (d : Decided) (h : Decides b d) (o : List ℕ) where
 
   module _ (s : d .status ≡ Status.Fine) where
     pub encodable : Encodable (d .nest) (d .ticket .arrays) (d .body)
-    unfolding Encoding.nestOf modelOf
+    unfolding Held.nestOf modelOf
     encodable = let q = h .settled s in
         ranges-encodable (d .nest) (d .ticket .arrays) (d .body) (record { nest = q .new .nest; arrays = q .within .arrays; body = q .new .body }) (q .new .ranges) (q .new .formed)
 
-    same-nest : Encoding.nestOf (d .nest) (d .ticket .arrays) (d .body) ≡ newOf d
-    unfolding Encoding.nestOf modelOf
+    same-nest : Held.nestOf (d .nest) (d .ticket .arrays) (d .body) ≡ newOf d
+    unfolding Held.nestOf modelOf
     same-nest = refl
 
     accepted-out : handOut (accepted (encode (newOf d))) o ≡ write b o
     unfolding _>>=_
     accepted-out = sym (ap (λ (x : Status). handOut (bytes x) o) s) ∙ whole
 
-    module _ (e : List ℕ) (r : Encoded) (g : Encodes (Encoding.nestOf (d .nest) (d .ticket .arrays) (d .body)) o e r) where
+    module _ (e : List ℕ) (r : Encoded) (g : Encodes (Held.nestOf (d .nest) (d .ticket .arrays) (d .body)) o e r) where
       given : Encodes (newOf d) o e r
       given = subst (λ (N : Model.Nest). Encodes N o e r) same-nest g
 

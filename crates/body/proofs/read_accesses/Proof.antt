@@ -13,11 +13,11 @@ use Rattle.model.specs.Grammar.{times}
 use Rattle.reading.specs.Refusals.{Reached}
 use Rattle.reading.specs.Words.{naturalAnswer, OnNatural}
 use Rattle.reading.proofs.ReaderLaws.{seen, known-of, read-value, read-refusal, refused-here, after-value, after-refusal, before, times-start, times-no, fill-more, fill-done, all-more, all-read}
-use Rattle.body.specs.Arrays.{arraysOf}
+use Rattle.arrays.specs.Arrays.{arraysOf}
 use Rattle.body.specs.Statements as Statements
 use Rattle.body.specs.Statements.{accessOf, AccessIn}
 use Rattle.body.specs.declared.Access.{Access}
-use Rattle.body.specs.declared.Arrays.{Arrays}
+use Rattle.arrays.specs.declared.Arrays.{Arrays}
 use Rattle.body.proofs.read_accesses.Statement.{statement}
 use Rattle.body.proofs.read_accesses.Tie as tie
 

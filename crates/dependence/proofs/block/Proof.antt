@@ -1,7 +1,7 @@
 -- `block`: the place of the first mark.
 use Prim.Native.Nat.{_+_, _*_, _≤_}
 use native.Mathlib.Omega.{arith}
-use Rattle.dependence.specs.Numbers.{placeOf}
+use Rattle.vectors.specs.Numbers.{placeOf}
 use Rattle.dependence.proofs.FlatLaws.{block-fits}
 use Rattle.dependence.proofs.block.Statement.{statement}
 use Rattle.dependence.proofs.block.Tie as tie

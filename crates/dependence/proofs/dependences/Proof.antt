@@ -6,7 +6,7 @@ use native.Mathlib.Omega.{arith}
 use lib.ListN.{length}
 use borrow.Author.Needs.{needs}
 use Rattle.dependence.specs.Flat.{Flat, flat, setFrom}
-use Rattle.dependence.proofs.SomeLaws.{Gathered, gathered-none, Done, gathered-turn}
+use Rattle.chains.proofs.SomeLaws.{Gathered, gathered-none, Done, gathered-turn}
 use Rattle.dependence.proofs.FlatLaws.{listed, ready-still, alike-from}
 use Rattle.dependence.proofs.MarkLaws.{searched}
 use Rattle.dependence.proofs.dependences.Statement.{statement}

@@ -6,7 +6,7 @@ use native.Mathlib.Omega.{arith}
 use lib.ListN.{length}
 use borrow.Author.Needs.{needs}
 use Rattle.dependence.specs.Flat.{Flat, flat, setBy, setFrom}
-use Rattle.dependence.proofs.SomeLaws.{Gathered, gathered-none, Done, gathered-turn}
+use Rattle.chains.proofs.SomeLaws.{Gathered, gathered-none, Done, gathered-turn}
 use Rattle.dependence.proofs.FlatLaws.{listed, ready-still, alike-sink}
 use Rattle.dependence.proofs.from_access.Statement.{statement}
 use Rattle.dependence.proofs.from_access.Tie as tie

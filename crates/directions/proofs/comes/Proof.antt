@@ -7,11 +7,11 @@ use lib.ListN.{getD}
 use borrow.Author.Needs.{needs}
 use Rattle.integers.specs.Sign.{turned}
 use Rattle.lists.specs.Place.{under, onHead, swapped}
-use Rattle.directions.specs.Sources.{joined}
+use Rattle.preimages.specs.Sources.{joined}
 use Rattle.directions.specs.Changes.{ComesIn, Comes}
 use Rattle.directions.specs.declared.Change.{Change}
 use Rattle.directions.specs.declared.Change.the-variants.{Exchange, Reversal, Skew, Section}
-use Rattle.directions.proofs.SourceLaws.{source-mark}
+use Rattle.preimages.proofs.SourceLaws.{source-mark}
 use Rattle.directions.proofs.comes.Statement.{statement}
 use Rattle.directions.proofs.comes.Tie as tie
 

@@ -4,7 +4,7 @@ use Prim.Native.Nat.{_≤_, _-_}
 use native.Mathlib.Omega.{arith}
 use borrow.Author.Needs.{needs}
 use borrow.Author.Tests.{eq-eqb, ne-eqb}
-use Rattle.directions.specs.Sources.{levelFrom}
+use Rattle.preimages.specs.Sources.{levelFrom}
 use Rattle.directions.proofs.BackLaws.{level-next, level-end}
 use Rattle.directions.proofs.level_from.Statement.{statement}
 use Rattle.directions.proofs.level_from.Tie as tie

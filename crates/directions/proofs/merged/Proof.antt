@@ -7,7 +7,7 @@ use native.Mathlib.Omega.{arith}
 use lib.ListN.{getD}
 use borrow.Author.Needs.{needs}
 use Rattle.integers.specs.Sign.{Sign}
-use Rattle.directions.specs.Sets.{marked}
+use Rattle.preimages.specs.Numbers.{marked}
 use Rattle.directions.proofs.SetLaws.{Filling, fill-first, fill-next, fill-all, merged-row}
 use Rattle.directions.proofs.merged.Statement.{statement}
 use Rattle.directions.proofs.merged.Tie as tie

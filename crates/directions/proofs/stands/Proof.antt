@@ -1,8 +1,8 @@
 -- `stands`: the digits are looked at only where the number is marked.
 use mathlib.Core.Path.{_∙_, ap}
 use borrow.Author.Needs.{needs}
-use Rattle.directions.specs.Sources.{levelFrom, counts}
-use Rattle.directions.proofs.SourceLaws.{these-digits}
+use Rattle.preimages.specs.Sources.{levelFrom, counts}
+use Rattle.preimages.proofs.SourceLaws.{these-digits}
 use Rattle.directions.proofs.stands.Statement.{statement}
 use Rattle.directions.proofs.stands.Tie as tie
 

@@ -3,10 +3,10 @@ use borrow.Author.Needs.{needs}
 use mathlib.Core.List.{[]}
 use Prim.Native.Nat.{_-_}
 use native.Mathlib.Omega.{arith}
-use Rattle.encoding.proofs.WritingLaws.{written-length, Filling, fill-next, fill-more, head-room, head-start, head-done, all-at}
+use Rattle.writing.proofs.WritingLaws.{written-length, Filling, fill-next, fill-more, head-room, head-start, head-done, all-at}
 use Rattle.body.specs.Statements.{subscriptOf, SubscriptIn}
-use Rattle.encoding.specs.Encoding.{subscriptWords}
-use Rattle.encoding.proofs.SectionLaws.{access-parts, access-array}
+use Rattle.writing.specs.Held.{subscriptWords}
+use Rattle.writing.proofs.SectionLaws.{access-parts, access-array}
 use Rattle.encoding.proofs.put_access.Statement.{statement}
 use Rattle.encoding.proofs.put_access.Tie as tie
 

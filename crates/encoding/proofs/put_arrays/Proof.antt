@@ -3,10 +3,10 @@ use borrow.Author.Needs.{needs}
 use mathlib.Core.List.{[]}
 use Prim.Native.Nat.{_-_}
 use native.Mathlib.Omega.{arith}
-use Rattle.encoding.proofs.WritingLaws.{written-length, Filling, fill-next, fill-more, head-room, head-start, head-done, all-at}
+use Rattle.writing.proofs.WritingLaws.{written-length, Filling, fill-next, fill-more, head-room, head-start, head-done, all-at}
 use Rattle.model.specs.Encode.{arrayWords}
-use Rattle.body.specs.Arrays.{shapeOf, ShapeIn}
-use Rattle.encoding.proofs.SectionLaws.{arrays-parts}
+use Rattle.arrays.specs.Arrays.{shapeOf, ShapeIn}
+use Rattle.writing.proofs.SectionLaws.{arrays-parts}
 use Rattle.encoding.proofs.put_arrays.Statement.{statement}
 use Rattle.encoding.proofs.put_arrays.Tie as tie
 

@@ -3,9 +3,9 @@ use mathlib.Core.List.{[], _∷_}
 use lib.IntN.{pos}
 use Rattle.model.specs.Encode.{counted, loopWords, arrayWords, statementWords, nestWords}
 use Rattle.nest.specs.Nested.{loopsOf}
-use Rattle.body.specs.Arrays.{arraysOf}
+use Rattle.arrays.specs.Arrays.{arraysOf}
 use Rattle.body.specs.Statements.{statementsOf}
-use Rattle.encoding.specs.Encoding.{nestOf}
+use Rattle.writing.specs.Held.{nestOf}
 use Rattle.encoding.proofs.StatementLaws.{first, second, third, fourth, four}
 use borrow.Author.Needs.{needs}
 use Rattle.encoding.proofs.put_nest.Statement.{statement}

@@ -4,8 +4,8 @@ use mathlib.Core.List.{[], _∷_}
 use Prim.Native.Nat.{_-_}
 use native.Mathlib.Omega.{arith}
 use lib.IntN.{pos}
-use Rattle.encoding.proofs.WritingLaws.{written-length, Filling, fill-next, fill-more, head-room, head-start, head-done}
-use Rattle.encoding.proofs.SectionLaws.{shape-parts}
+use Rattle.writing.proofs.WritingLaws.{written-length, Filling, fill-next, fill-more, head-room, head-start, head-done}
+use Rattle.writing.proofs.SectionLaws.{shape-parts}
 use Rattle.encoding.proofs.put_shape.Statement.{statement}
 use Rattle.encoding.proofs.put_shape.Tie as tie
 

@@ -1,5 +1,5 @@
 -- `put_statement`: the rule, the constant, the write, the reads.
-use Rattle.encoding.proofs.WritingLaws.{written-length}
+use Rattle.writing.proofs.WritingLaws.{written-length}
 use Rattle.encoding.proofs.StatementLaws.{statement-first, statement-second, statement-third, statement-fourth, statement-whole}
 use Rattle.encoding.proofs.put_statement.Statement.{statement}
 use Rattle.encoding.proofs.put_statement.Tie as tie

@@ -3,10 +3,10 @@ use borrow.Author.Needs.{needs}
 use mathlib.Core.List.{[]}
 use Prim.Native.Nat.{_-_}
 use native.Mathlib.Omega.{arith}
-use Rattle.encoding.proofs.WritingLaws.{written-length, Filling, fill-next, fill-more, head-room, head-start, head-done, all-at}
+use Rattle.writing.proofs.WritingLaws.{written-length, Filling, fill-next, fill-more, head-room, head-start, head-done, all-at}
 use Rattle.model.specs.Encode.{statementWords}
 use Rattle.body.specs.Statements.{statementOf, StatementIn}
-use Rattle.encoding.proofs.SectionLaws.{statements-parts}
+use Rattle.writing.proofs.SectionLaws.{statements-parts}
 use Rattle.encoding.proofs.put_statements.Statement.{statement}
 use Rattle.encoding.proofs.put_statements.Tie as tie
 

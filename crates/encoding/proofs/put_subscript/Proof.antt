@@ -1,8 +1,8 @@
 -- `put_subscript`: the constant, the coefficients.
 use mathlib.Core.List.{[], _∷_}
-use Rattle.encoding.proofs.WritingLaws.{written-length, kept-room, kept-written, writable-right, written-both}
+use Rattle.writing.proofs.WritingLaws.{written-length, kept-room, kept-written, writable-right, written-both}
 use Rattle.body.specs.Statements.{subscriptOf}
-use Rattle.encoding.specs.Encoding.{subscriptWords}
+use Rattle.writing.specs.Held.{subscriptWords}
 use Rattle.encoding.proofs.put_subscript.Statement.{statement}
 use Rattle.encoding.proofs.put_subscript.Tie as tie
 

@@ -2,8 +2,8 @@
 use mathlib.Core.Path.{_≡_}
 use Prim.Native.Nat.{_+_, _*_, _-_, _/_, _%_, _<_}
 use native.Mathlib.Omega.{arith}
-use Rattle.dependence.specs.Search.{stride, middle}
-use Rattle.dependence.proofs.NumberLaws.{stride-positive}
+use Rattle.vectors.specs.Candidates.{stride, middle}
+use Rattle.vectors.proofs.NumberLaws.{stride-positive}
 use Rattle.listing_text.proofs.IndexLaws.{power-is, vector-is}
 use borrow.Author.Needs.{needs}
 use Rattle.listing_text.proofs.vector.Statement.{statement}

@@ -6,8 +6,8 @@ use Rattle.quick.proofs.greatest_difference.Tie as tie
 use Rattle.quick.proofs.greatest_difference.Reads as reads
 use Rattle.quick.proofs.greatest_difference.Lts as lts
 use Rattle.quick.proofs.constant_difference.Reads as constant-difference-reads
-use Rattle.quick.proofs.greatest_sum.Reads as greatest-sum-reads
-use Rattle.quick.proofs.least_sum.Reads as least-sum-reads
+use Rattle.extremes.proofs.greatest_sum.Reads as greatest-sum-reads
+use Rattle.extremes.proofs.least_sum.Reads as least-sum-reads
 
 -- src/lib.rt:307:9
 constant-difference-requires : tie.Need-constant-difference-requires

@@ -6,7 +6,7 @@ use Rattle.quick.proofs.is_apart.Statement.{statement}
 use Rattle.quick.proofs.is_apart.Tie as tie
 use Rattle.quick.proofs.is_apart.Reads as reads
 use Rattle.quick.proofs.is_apart.Lts as lts
-use Rattle.quick.proofs.ranges.Reads as ranges-reads
+use Rattle.extremes.proofs.ranges.Reads as ranges-reads
 use Rattle.quick.proofs.some_apart.Reads as some-apart-reads
 use Rattle.quick.proofs.some_empty.Reads as some-empty-reads
 

@@ -1,5 +1,5 @@
 -- `never_zero`: by the divisor, or by the range.
-use Rattle.quick.specs.Ranges.{rangesOf}
+use Rattle.extremes.specs.Ranges.{rangesOf}
 use Rattle.quick.proofs.DifferenceLaws.{divisor-asks, never-divided, never-reached}
 use borrow.Author.Needs.{needs}
 use Rattle.quick.proofs.never_zero.Statement.{statement}

@@ -1,7 +1,7 @@
 -- `some_apart`: the dimensions from i on are left.
 use Prim.Native.Nat.{_-_, _≤_}
 use native.Mathlib.Omega.{arith}
-use Rattle.quick.specs.Ranges.{rangesOf}
+use Rattle.extremes.specs.Ranges.{rangesOf}
 use Rattle.quick.proofs.SearchLaws.{FormsLeft, all-forms-left, form-pair-in, apart-found, fewer-forms-left, no-form-left}
 use Rattle.quick.proofs.some_apart.Statement.{statement}
 use Rattle.quick.proofs.some_apart.Tie as tie

@@ -1,7 +1,7 @@
 -- `some_empty`: the ranges from i on are left.
 use Prim.Native.Nat.{_-_, _≤_}
 use native.Mathlib.Omega.{arith}
-use Rattle.quick.proofs.SumLaws.{range-near}
+use Rattle.extremes.proofs.SumLaws.{range-near}
 use Rattle.quick.proofs.SearchLaws.{RangesLeft, all-ranges-left, empty-found, fewer-ranges-left, no-range-left}
 use Rattle.quick.proofs.some_empty.Statement.{statement}
 use Rattle.quick.proofs.some_empty.Tie as tie

@@ -11,9 +11,9 @@ use borrow.Fn.PlainCycle.{Measures, is, falls, and}
 use Rattle.space.proofs.collect.Reads as collect
 use Rattle.space.proofs.collect.Kinds as collect-kinds
 use Rattle.space.proofs.+collect.Lts-collect as collect-lts
-use Rattle.space.proofs.count.Reads as count-reads
+use Rattle.bounds.proofs.count.Reads as count-reads
 use Rattle.space.proofs.moved.Reads as moved-reads
-use Rattle.space.proofs.range.Reads as range-reads
+use Rattle.bounds.proofs.range.Reads as range-reads
 use Rattle.space.proofs.store.Reads as store-reads
 use Rattle.space.proofs.+collect.{statement}
 use Rattle.space.proofs.+collect.Tie.{close}

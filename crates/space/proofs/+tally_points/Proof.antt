@@ -13,10 +13,10 @@ use borrow.Fn.PlainCycle.{Measures, is, falls, and}
 use Rattle.space.proofs.tally_points.Reads as tally-points
 use Rattle.space.proofs.tally_points.Kinds as tally-points-kinds
 use Rattle.space.proofs.+tally_points.Lts-tally_points as tally-points-lts
-use Rattle.space.proofs.count.Reads as count-reads
+use Rattle.bounds.proofs.count.Reads as count-reads
 use Rattle.space.proofs.include.Reads as include-reads
 use Rattle.space.proofs.moved.Reads as moved-reads
-use Rattle.space.proofs.range.Reads as range-reads
+use Rattle.bounds.proofs.range.Reads as range-reads
 use Rattle.space.proofs.+tally_points.{statement}
 use Rattle.space.proofs.+tally_points.Tie.{close}
 

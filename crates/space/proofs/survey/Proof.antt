@@ -1,7 +1,7 @@
 -- `survey`: every depth before `level` keeps its bounds.
 use Prim.Native.Nat.{_+_, _-_, _≤_}
 use native.Mathlib.Omega.{arith}
-use Rattle.space.specs.Flat.{loopsFrom}
+use Rattle.bounds.specs.Flat.{loopsFrom}
 use Rattle.space.proofs.DepthLaws.{Passed, tally-in, passes, far-answer, crowded-answer, admitted-answer}
 use Rattle.space.proofs.survey.Statement.{statement}
 use Rattle.space.proofs.survey.Tie as tie

@@ -1,0 +1,2 @@
+-- Laws of arrays that the code's proofs cite.
+pub mod ArrayLaws

@@ -1,0 +1,4 @@
+-- Laws that the crate's contracts need.
+pub mod LimitLaws
+pub mod SideLaws
+pub mod RangeLaws

@@ -1,0 +1,69 @@
+-- `first_from`: r is what the limits from limit j + i on allow.
+use mathlib.Core.Path.{_≡_, _∙_}
+use Prim.Native.Nat.{_+_, _-_, _<_}
+use native.Mathlib.Omega.{arith}
+use Rattle.bounds.specs.Ranges.{Narrow, firstFrom}
+use Rattle.bounds.proofs.LimitLaws.{copied}
+use Rattle.bounds.proofs.SideLaws.{divisor-at, first-last, first-before, first-all}
+use Rattle.bounds.proofs.first_from.Statement.{statement}
+use Rattle.bounds.proofs.first_from.Tie as tie
+
+abbrev Inv-loop : tie.InvT-loop
+Inv-loop nest j n outer i₀ r₀ i r = (i < n) × (r .value ≡ firstFrom nest (j + i) (n - i) outer) × Narrow (r .value)
+
+abbrev μ-loop : tie.MeasureT-loop
+μ-loop nest j n outer i₀ r₀ i r = i
+
+sub-i : tie.Need-sub-i Inv-loop μ-loop
+sub-i c = c .pre .some
+
+add-low-at : tie.Need-add-low-at Inv-loop μ-loop
+add-low-at c = let v = c .pre .inside in omega arith
+
+low-at-requires : tie.Need-low-at-requires Inv-loop μ-loop
+low-at-requires c κs = let h = c .pre .some in divisor-at (c .pre) (c .args .n - 1) (omega arith)
+
+loop-holds : tie.Need-loop-holds Inv-loop μ-loop
+loop-holds c = let s = c .before in let h = s .pre .some in let e = copied (c .low-at .result) (c .low-at .ensures .1) in
+    (omega arith, e ∙ c .low-at .ensures .0 ∙ first-last (s .pre), rw e (c .low-at .ensures .1))
+
+sub-i-2 : tie.Need-sub-i-2 Inv-loop μ-loop
+sub-i-2 c = c .loop-test .taken
+
+add-low-at-2 : tie.Need-add-low-at-2 Inv-loop μ-loop
+add-low-at-2 c = let v = c .before .before .before .pre .inside in omega arith
+
+low-at-requires-2 : tie.Need-low-at-requires-2 Inv-loop μ-loop
+low-at-requires-2 c κs = let s = c .before .before .before in divisor-at (s .pre) (c .before .loop .i - 1) (omega arith)
+
+larger-requires : tie.Need-larger-requires Inv-loop μ-loop
+larger-requires c κs = let e = copied (c .low-at2 .result) (c .low-at2 .ensures .1) in (rw e (c .low-at2 .ensures .1), c .before .before .loop .inv .2)
+
+loop-less : tie.Need-loop-less Inv-loop μ-loop
+loop-less c = let h = c .before .before .loop-test .taken in omega arith
+
+loop-again : tie.Need-loop-again Inv-loop μ-loop
+loop-again c = let s = c .before .before .before .before .before in let l = c .before .before .before .loop in let v = c .before .low-at2 in let e = copied (v .result) (v .ensures .1) in
+    (omega arith, c .larger .ensures .0 ∙ first-before (s .pre) (c .before .before .loop-test .taken) (l .inv .0) (l .r .value) _ (l .inv .1) (e ∙ v .ensures .0), c .larger .ensures .1)
+
+returns : tie.Need-returns Inv-loop μ-loop
+returns c = let s = c .before .before .before .before in let l = c .before .before .loop in
+    first-all (s .pre) (l .i) (omega (arith, c .before .loop-test .left)) (l .r .value) (l .inv .1) (l .inv .2)
+
+pub first-from-spec : {M : Type 1} → statement M
+first-from-spec =
+    tie.close
+    (tie.spec
+    Inv-loop
+    μ-loop
+    sub-i
+    add-low-at
+    low-at-requires
+    loop-holds
+    sub-i-2
+    add-low-at-2
+    low-at-requires-2
+    larger-requires
+    loop-less
+    loop-again
+    returns)

@@ -1,0 +1,74 @@
+-- The search of two accesses, sink by sink.
+use mathlib.Core.Path.{_≡_, refl, ap, _∙_}
+use mathlib.Core.Bool.{Bool, false, _||_}
+use mathlib.Core.List.{List}
+use Prim.Native.Nat.{ℕ, _+_, _≤_, _<_}
+use native.Mathlib.Nat.{mul-le-mul-right}
+use native.Mathlib.Omega.{arith}
+use lib.Dec.{eqb}
+use lib.IntN.{ℤ}
+use lib.ListN.{length, getD}
+use Rattle.lists.proofs.PartLaws.{row-fits}
+use Rattle.vectors.specs.Candidates.{code}
+use Rattle.chains.specs.Search.{some, latest, upTo, Links, hit, found, Adds, walked, Walkable, Searchable}
+use Rattle.chains.proofs.SomeLaws.{gathered-none, gathered-more}
+use Rattle.chains.proofs.ChainLaws.{latest-le, upTo-le, links-fall, along-finds}
+
+module _ (s : List ℤ) (d : ℕ) (from to : List ℕ) (own : Bool) (base : ℕ) where
+  -- the marks of all sinks below y are set
+  pub record Searching (next start : List ℕ) (m₀ m : List Bool) (spent y : ℕ) : Type 0 where
+    pub inside : y ≤ length from
+    pub light : spent ≤ 729
+    pub same-length : length m ≡ length m₀
+    pub table : length next ≡ 4096
+    pub nexts : Links from from false next
+    pub starts : Links from to own start
+    pub adds : Adds m₀ m (found d s y from to own base)
+
+  pub search-begins : (next start : List ℕ) (m : List Bool) → length next ≡ 4096 → Links from from false next → Links from to own start → Searching next start m m 0 0
+  unfolding found
+  search-begins next start m l n k = record {
+    inside = omega arith;
+    light = omega arith;
+    same-length = refl;
+    table = l;
+    nexts = n;
+    starts = k;
+    adds = gathered-none m (λ y j. some (upTo own y) (hit d s from to base j y));
+  }
+
+  module _ (next start : List ℕ) (m₀ m : List Bool) (spent y first : ℕ) (h : y < length from) (e : first ≡ getD start y 0) (w : Searching next start m₀ m spent y) where
+    is-latest : first ≡ latest from (getD to y 0) (upTo own y)
+    is-latest = e ∙ w .starts y h
+
+    pub first-le : first ≤ length from
+    first-le = let a = latest-le from (getD to y 0) (upTo own y) in let b = upTo-le own y (length from) h in let c = is-latest in omega arith
+
+    pub walkable : Searchable s d from to base m₀ → Walkable s d y first next base m
+    walkable ok = let a = first-le in let f = ok .few in let t = w .table in let p = ok .stored in let r = ok .room in let l = w .same-length in record {
+      shallow = ok .shallow;
+      sources = (let b = mul-le-mul-right d a in omega arith);
+      sink = (let b = row-fits d y (length from) h in omega arith);
+      linked = omega arith;
+      falling = λ x k. links-fall from next (w .nexts) x (omega arith);
+      room = omega arith;
+    }
+
+    walked-is : (j : ℕ) → walked d s next base y first j ≡ some (upTo own y) (hit d s from to base j y)
+    unfolding walked hit
+    walked-is j = along-finds from next (getD to y 0) (λ x. eqb (base + code d s x y) j) (w .nexts) first (upTo own y) first (upTo-le own y (length from) h) is-latest (le-refl first)
+      where
+        le-refl : (n : ℕ) → n ≤ n
+        le-refl n = omega arith
+
+    pub search-turns : (m′ : List Bool) (spent′ : ℕ) → length m′ ≡ length m → spent′ ≤ 729 → Adds m m′ (walked d s next base y first) → Searching next start m₀ m′ spent′ (y + 1)
+    unfolding found
+    search-turns m′ spent′ l t a = record {
+      inside = omega arith;
+      light = t;
+      same-length = l ∙ w .same-length;
+      table = w .table;
+      nexts = w .nexts;
+      starts = w .starts;
+      adds = gathered-more m₀ m m′ y (λ y j. some (upTo own y) (hit d s from to base j y)) (w .adds) (λ j. a j ∙ ap (getD m j false ||_) (walked-is j));
+    }

@@ -1,0 +1,141 @@
+-- `link` meets its contract. The loop's invariant: the heads are those of the places before y, and the links before y are there.
+use mathlib.Core.Path.{_≡_, refl}
+use mathlib.Core.Logic.{⊎-elim, inl, inr}
+use Prim.Native.Nat.{ℕ, _+_, _-_, _≤_, _<_}
+use native.Mathlib.Omega.{arith}
+use lib.ListN.{length, getD, set, length-set, length-replicate}
+use borrow.Author.Needs.{needs}
+use borrow.Author.Count.{below-none}
+use Rattle.chains.specs.Search.{latest, upTo}
+use Rattle.chains.proofs.ChainLaws.{Heads, heads-none, heads-more, links-more, link-turn}
+use Rattle.chains.proofs.link.Statement.{statement}
+use Rattle.chains.proofs.link.Tie as tie
+
+abbrev Inv-loop : tie.InvT-loop
+Inv-loop from to own out₀ head₀ y₀ out head y = (y ≤ length from) × (length head ≡ 16384) × (length out ≡ length out₀) × Heads from head y × ((k : ℕ) → k < y → getD out k 0 ≡ latest from (getD to k 0) (upTo own k))
+
+abbrev μ-loop : tie.MeasureT-loop
+μ-loop from to own out₀ head₀ y₀ out head y = length from - y
+
+-- the two elements
+e-lt : (c : tie.After-wide Inv-loop μ-loop) → c .wide .result < 16384
+e-lt c = let s = c .before .before .before .before .before .before .before in let l = c .before .before .before .loop in
+    let h = s .pre .sinks (l .y) (omega (arith, s .pre .both, c .before .before .loop-test .taken)) in let e = c .wide .ensures in omega arith
+
+f-lt : (c : tie.After-wide2 Inv-loop μ-loop) → c .wide2 .result < 16384
+f-lt c = let s = c .before .before .before .before .before .before .before .before .before .before in let l = c .before .before .before .before .before .before .loop in
+    let h = s .pre .sources (l .y) (c .before .before .before .before .before .loop-test .taken) in let e = c .wide2 .ensures in omega arith
+
+-- the heads with y
+heads-next : (c : tie.After-wide2 Inv-loop μ-loop) → (let l = c .before .before .before .before .before .before .loop in Heads (c .before .before .before .before .before .before .before .before .before .before .args .from .now) (set (l .head) (c .wide2 .result) (c .before .before .narrow .result)) (l .y + 1))
+heads-next c = let s = c .before .before .before .before .before .before .before .before .before .before in let l = c .before .before .before .before .before .before .loop in
+    heads-more (s .args .from .now) (l .head) (l .y) (c .wide2 .result) (c .before .before .narrow .result) (l .inv .1) (f-lt c) (c .wide2 .ensures) (c .before .before .narrow .ensures) (l .inv .3)
+
+-- the link of y
+link-is : (c : tie.Joined1 Inv-loop μ-loop) → (let s = c .before .before .before .before .before .before .before .before .before .before .before in let l = c .before .before .before .before .before .before .before .loop in c .if1 .l ≡ latest (s .args .from .now) (getD (s .args .to .now) (l .y) 0) (upTo (s .args .own) (l .y)))
+link-is c = let s = c .before .before .before .before .before .before .before .before .before .before .before in let l = c .before .before .before .before .before .before .before .loop in
+    let w = c .before .before .before .before .wide in
+    link-turn (s .args .from .now) (l .head) (set (l .head) (c .before .wide2 .result) (c .before .before .before .narrow .result)) (s .args .own) (l .y) (w .result) (getD (s .args .to .now) (l .y) 0) (c .if1 .l) (e-lt (c .before .before .before .before)) (w .ensures) (l .inv .3) (heads-next (c .before))
+    (⊎-elim (λ w. inl (w .0 .taken, w .1)) (λ w. inr (w .0 .left, w .1)) (c .if1 .came))
+
+loop-holds : tie.Need-loop-holds Inv-loop μ-loop
+loop-holds c = let s = c .before .before .before in (omega arith, length-replicate {A = ℕ} 16384 0, refl, heads-none (s .args .from .now), below-none _)
+
+mul-wide : tie.Need-mul-wide Inv-loop μ-loop
+mul-wide c = search needs
+
+shared-slice-read-wide : tie.Need-shared-slice-read-wide Inv-loop μ-loop
+shared-slice-read-wide c = search needs
+
+wide-requires : tie.Need-wide-requires Inv-loop μ-loop
+wide-requires c κs = search needs
+
+mul-l : tie.Need-mul-l Inv-loop μ-loop
+mul-l c = let h = e-lt c in omega arith
+
+array-read-l : tie.Need-array-read-l Inv-loop μ-loop
+array-read-l c = e-lt c
+
+add-narrow : tie.Need-add-narrow Inv-loop μ-loop
+add-narrow c = search needs
+
+narrow-requires : tie.Need-narrow-requires Inv-loop μ-loop
+narrow-requires c κs = search needs
+
+mul-wide-2 : tie.Need-mul-wide-2 Inv-loop μ-loop
+mul-wide-2 c = search needs
+
+shared-slice-read-wide-2 : tie.Need-shared-slice-read-wide-2 Inv-loop μ-loop
+shared-slice-read-wide-2 c = search needs
+
+wide-requires-2 : tie.Need-wide-requires-2 Inv-loop μ-loop
+wide-requires-2 c κs = search needs
+
+mul-head : tie.Need-mul-head Inv-loop μ-loop
+mul-head c = let h = f-lt c in omega arith
+
+array-write-head : tie.Need-array-write-head Inv-loop μ-loop
+array-write-head c = f-lt c
+
+mul-l-2 : tie.Need-mul-l-2 Inv-loop μ-loop
+mul-l-2 c = let h = e-lt (c .before .before .before .before) in omega arith
+
+array-read-l-2 : tie.Need-array-read-l-2 Inv-loop μ-loop
+array-read-l-2 c = e-lt (c .before .before .before .before)
+
+mul-out : tie.Need-mul-out Inv-loop μ-loop
+mul-out c = search needs
+
+slice-write-out : tie.Need-slice-write-out Inv-loop μ-loop
+slice-write-out c = search needs
+
+add-y : tie.Need-add-y Inv-loop μ-loop
+add-y c = search needs
+
+loop-less : tie.Need-loop-less Inv-loop μ-loop
+loop-less c = search needs
+
+loop-again : tie.Need-loop-again Inv-loop μ-loop
+loop-again c = let s = c .before .before .before .before .before .before .before .before .before .before .before in let l = c .before .before .before .before .before .before .before .loop in
+    let t = c .before .before .before .before .before .before .loop-test .taken in (
+      omega arith,
+      simp length-set (l .inv .1),
+      simp length-set (l .inv .2),
+      heads-next (c .before),
+      links-more (s .args .from .now) (s .args .to .now) (s .args .own) (l .out) (l .y) (c .if1 .l) (omega (arith, s .pre .room, l .inv .2)) (link-is c) (l .inv .4),
+    )
+
+same-length : tie.Need-same-length Inv-loop μ-loop
+same-length c = search needs
+
+returns : tie.Need-returns Inv-loop μ-loop
+returns c = λ y h. c .before .loop .inv .4 y (let t = c .loop-test .left in omega arith)
+
+pub link-spec : {M : Type 1} → statement M
+link-spec =
+    tie.close
+    (tie.spec
+    Inv-loop
+    μ-loop
+    loop-holds
+    mul-wide
+    shared-slice-read-wide
+    wide-requires
+    mul-l
+    array-read-l
+    add-narrow
+    narrow-requires
+    mul-wide-2
+    shared-slice-read-wide-2
+    wide-requires-2
+    mul-head
+    array-write-head
+    mul-l-2
+    array-read-l-2
+    mul-out
+    slice-write-out
+    add-y
+    loop-less
+    loop-again
+    same-length
+    returns)

@@ -1,0 +1,2 @@
+-- What the search of two accesses asks and sets.
+pub mod Search

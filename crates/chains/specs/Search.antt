@@ -1,0 +1,92 @@
+-- Which marks the conflicts of two accesses set. Points are rows of a store; an access has an element number at each point.
+use mathlib.Core.Path.{_≡_}
+use mathlib.Core.Bool.{Bool, cond, false, true, _&&_, _||_}
+use mathlib.Core.List.{List}
+use Prim.Native.Nat.{ℕ, zero, suc, _+_, _*_, _≤_, _<_}
+use lib.Dec.{eqb}
+use lib.IntN.{ℤ}
+use lib.ListN.{length, getD}
+use Rattle.lists.specs.Order.{Ordered}
+use Rattle.lists.specs.Parts.{rows}
+use Rattle.model.specs.Inside.{Earlier}
+use Rattle.vectors.specs.Candidates.{code}
+
+-- some number below n passes
+unfoldable pub some : ℕ → (ℕ → Bool) → Bool
+some zero p = false
+some (suc k) p = p k || some k p
+
+-- ---- chains: from a place to the latest before it with the same element
+
+-- one more than the last place below k that has e, or 0
+unfoldable pub latest : List ℕ → ℕ → ℕ → ℕ
+latest numbers e zero = 0
+latest numbers e (suc k) = cond (eqb (getD numbers k 0) e) (suc k) (latest numbers e k)
+
+-- the places before y, and y itself if `own`
+unfoldable pub upTo : Bool → ℕ → ℕ
+upTo own y = cond own (y + 1) y
+
+abbrev pub Below : ℕ → List ℕ → Type 0
+Below m numbers = (i : ℕ) → i < length numbers → getD numbers i 0 < m
+
+-- at each y the last place up to it at which `from` has the element that `to` has at y
+abbrev pub Links : List ℕ → List ℕ → Bool → List ℕ → Type 0
+Links from to own out = (y : ℕ) → y < length from → getD out y 0 ≡ latest from (getD to y 0) (upTo own y)
+
+pub record Linkable (from to out : List ℕ) : Type 0 where
+  pub few : length from ≤ 4096
+  pub both : length to ≡ length from
+  pub sources : Below 16384 from
+  pub sinks : Below 16384 to
+  pub room : length from ≤ length out
+
+-- ---- marks
+
+-- x and y name one element, and the mark of their vector is j
+unfoldable pub hit : ℕ → List ℤ → List ℕ → List ℕ → ℕ → ℕ → ℕ → ℕ → Bool
+hit d s from to base j y x = eqb (getD from x 0) (getD to y 0) && eqb (base + code d s x y) j
+
+-- some sink y below n and some source x up to it set the mark j
+unfoldable pub found : ℕ → List ℤ → ℕ → List ℕ → List ℕ → Bool → ℕ → ℕ → Bool
+found d s n from to own base j = some n (λ y. some (upTo own y) (hit d s from to base j y))
+
+-- the marks m′ are those of m and those that f sets
+abbrev pub Adds : List Bool → List Bool → (ℕ → Bool) → Type 0
+Adds m m′ f = (j : ℕ) → getD m′ j false ≡ (getD m j false || f j)
+
+-- some place of the chain from l on passes; the chain has at most f places
+unfoldable pub along : ℕ → List ℕ → ℕ → (ℕ → Bool) → Bool
+along zero next l p = false
+along (suc f) next zero p = false
+along (suc f) next (suc x) p = p x || along f next (getD next x 0) p
+
+-- some source of the chain from l on sets the mark j with the sink y
+unfoldable pub walked : ℕ → List ℤ → List ℕ → ℕ → ℕ → ℕ → ℕ → Bool
+walked d s next base y l j = along l next l (λ x. eqb (base + code d s x y) j)
+
+pub record Walkable (s : List ℤ) (d y first : ℕ) (next : List ℕ) (base : ℕ) (marks : List Bool) : Type 0 where
+  pub shallow : d ≤ 6
+  pub sources : first * d ≤ length s
+  pub sink : y * d + d ≤ length s
+  pub linked : first ≤ length next
+  pub falling : (x : ℕ) → x < first → getD next x 0 ≤ x
+  pub room : base + 729 ≤ length marks
+
+-- ---- all marks that two accesses can set
+
+-- every possible vector that does not point backwards is marked, that of = alone only where it can be
+abbrev pub Full : List Bool → Bool → ℕ → List Bool → Type 0
+Full possible own base m = (v : ℕ) → v < upTo own 364 → getD possible v false ≡ true → getD m (base + v) false ≡ true
+
+-- ---- what the search of two accesses asks
+
+pub record Searchable (s : List ℤ) (d : ℕ) (from to : List ℕ) (base : ℕ) (marks : List Bool) : Type 0 where
+  pub few : length from ≤ 4096
+  pub both : length to ≡ length from
+  pub shallow : d ≤ 6
+  pub stored : length from * d ≤ length s
+  pub rising : Ordered Earlier (rows d (length from) s)
+  pub sources : Below 16384 from
+  pub sinks : Below 16384 to
+  pub room : base + 729 ≤ length marks

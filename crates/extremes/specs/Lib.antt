@@ -1,0 +1,3 @@
+-- Ranges in an array, and what each function asks and gives.
+pub mod Ranges
+pub mod Values

@@ -1,0 +1,221 @@
+// The least and the greatest value of every loop, and of sums over them.
+use bounds::Whole;
+ghost use mathlib.Core.Path.{_≡_};
+ghost use Prim.Native.Nat.{suc, _+_, _*_, _≤_};
+ghost use lib.IntN.{_+ℤ_};
+ghost use lib.ListN.{take, drop};
+ghost use Rattle.integers.specs.Difference.{size};
+ghost use Rattle.model.specs.Quick.{leastTerm, greatestTerm, leastSum, greatestSum, rangeOf};
+ghost use Rattle.bounds.specs.Flat.{NestOk, limitAt, loopAt};
+ghost use Rattle.extremes.specs.Ranges.{rangeAs, rangesOf, TermIn, SumIn};
+ghost use Rattle.extremes.specs.Values.{leastOf, greatestOf, largestFrom, smallestFrom, rangeAt, LimitIn, SideIn, LoopIn, RangesAre};
+
+// The least and the greatest value of an index.
+pub struct Range {
+    pub least: i64,
+    pub greatest: i64,
+}
+
+// The sum and the least that a coefficient times its index can be.
+fn plus_least(sum: Whole, c: i64, over: Range) -> Whole
+    requires { ⌜ TermIn (sum .value) c over ⌝ }
+    ensures { λ s. ⌜ s .value ≡ sum .value +ℤ leastTerm c (rangeAs over) ⌝ }
+{
+    if 0 < c {
+        return Whole {
+            value: sum.value + c * over.least,
+        };
+    }
+    Whole {
+        value: sum.value + c * over.greatest,
+    }
+}
+
+// The sum and the greatest that a coefficient times its index can be.
+fn plus_greatest(sum: Whole, c: i64, r: Range) -> Whole
+    requires { ⌜ TermIn (sum .value) c r ⌝ }
+    ensures { λ s. ⌜ s .value ≡ sum .value +ℤ greatestTerm c (rangeAs r) ⌝ }
+{
+    if 0 < c {
+        return Whole {
+            value: sum.value + c * r.greatest,
+        };
+    }
+    Whole {
+        value: sum.value + c * r.least,
+    }
+}
+
+// The least that n coefficients from place at on, times their indices, can sum to.
+pub fn least_sum(words: &[i64], at: usize, n: usize, ranges: [Range; 6]) -> Whole
+    requires { ⌜ SumIn (now words) at n ranges ⌝ }
+    ensures { λ r. ⌜ (r .value ≡ leastSum (take n (drop at (now (words .entry)))) (rangesOf n ranges)) × (size (r .value) ≤ 6442057734) ⌝ }
+{
+    let mut sum = Whole { value: 0 };
+    let mut i = 0;
+    while i < n {
+        sum = plus_least(sum, words[at + i], ranges[i]);
+        i += 1;
+    }
+    sum
+}
+
+// The greatest that they can sum to.
+pub fn greatest_sum(words: &[i64], at: usize, n: usize, ranges: [Range; 6]) -> Whole
+    requires { ⌜ SumIn (now words) at n ranges ⌝ }
+    ensures { λ r. ⌜ (r .value ≡ greatestSum (take n (drop at (now (words .entry)))) (rangesOf n ranges)) × (size (r .value) ≤ 6442057734) ⌝ }
+{
+    let mut sum = Whole { value: 0 };
+    let mut i = 0;
+    while i < n {
+        sum = plus_greatest(sum, words[at + i], ranges[i]);
+        i += 1;
+    }
+    sum
+}
+
+// The least index that lower limit j allows over the ranges of the k loops outside.
+fn least_of(nest: &[i64], j: usize, k: usize, outer: [Range; 6]) -> i64
+    requires { ⌜ LimitIn (now nest) j k outer ⌝ }
+    ensures { λ r. ⌜ (r ≡ leastOf (rangesOf k outer) (limitAt (now (nest .entry)) k j)) × (size r ≤ 34359738368) ⌝ }
+{
+    let e = least_sum(nest, j * 8 + 2, k, outer);
+    integers::ceil_div(nest[j * 8 + 1] + e.value, nest[j * 8])
+}
+
+// The greatest index that upper limit j allows.
+fn greatest_of(nest: &[i64], j: usize, k: usize, outer: [Range; 6]) -> i64
+    requires { ⌜ LimitIn (now nest) j k outer ⌝ }
+    ensures { λ r. ⌜ (r ≡ greatestOf (rangesOf k outer) (limitAt (now (nest .entry)) k j)) × (size r ≤ 34359738368) ⌝ }
+{
+    let e = greatest_sum(nest, j * 8 + 2, k, outer);
+    integers::floor_div(nest[j * 8 + 1] + e.value, nest[j * 8])
+}
+
+// The largest of what n lower limits from limit j on allow, the last one first.
+fn largest_from(nest: &[i64], j: usize, n: usize, k: usize, outer: [Range; 6]) -> Whole
+    requires { ⌜ SideIn (now nest) j n k outer ⌝ }
+    ensures { λ r. ⌜ (r .value ≡ largestFrom (now (nest .entry)) k j n (rangesOf k outer)) × (size (r .value) ≤ 34359738368) ⌝ }
+{
+    let mut i = n - 1;
+    let mut r = Whole {
+        value: least_of(nest, j + i, k, outer),
+    };
+    while 0 < i {
+        i -= 1;
+        r = bounds::larger(least_of(nest, j + i, k, outer), r);
+    }
+    r
+}
+
+// The smallest of what n upper limits from limit j on allow.
+fn smallest_from(nest: &[i64], j: usize, n: usize, k: usize, outer: [Range; 6]) -> Whole
+    requires { ⌜ SideIn (now nest) j n k outer ⌝ }
+    ensures { λ r. ⌜ (r .value ≡ smallestFrom (now (nest .entry)) k j n (rangesOf k outer)) × (size (r .value) ≤ 34359738368) ⌝ }
+{
+    let mut i = n - 1;
+    let mut r = Whole {
+        value: greatest_of(nest, j + i, k, outer),
+    };
+    while 0 < i {
+        i -= 1;
+        r = bounds::smaller(greatest_of(nest, j + i, k, outer), r);
+    }
+    r
+}
+
+// Cut to ±32767.
+fn cut(x: Whole) -> Whole
+    requires { ⌜ size (x .value) ≤ 34359738368 ⌝ }
+    ensures { λ r. ⌜ (r .value ≡ Rattle.model.specs.Quick.cut (x .value)) × (size (r .value) ≤ 32767) ⌝ }
+{
+    if 32767 < x.value {
+        return Whole { value: 32767 };
+    }
+    if x.value < -32767 {
+        return Whole { value: -32767 };
+    }
+    x
+}
+
+// The least value of loop k, from the ranges of the loops outside.
+fn least_over(nest: &[i64], counts: &[usize], k: usize, outer: [Range; 6]) -> Whole
+    requires { ⌜ LoopIn (now nest) (now counts) k outer ⌝ }
+    ensures { λ r. ⌜ (r .value ≡ rangeOf (rangesOf k outer) (loopAt (now (nest .entry)) (now (counts .entry)) k) .least) × (size (r .value) ≤ 32767) ⌝ }
+{
+    cut(largest_from(nest, k * 32, counts[k * 2], k, outer))
+}
+
+// The greatest value of loop k.
+fn greatest_over(nest: &[i64], counts: &[usize], k: usize, outer: [Range; 6]) -> Whole
+    requires { ⌜ LoopIn (now nest) (now counts) k outer ⌝ }
+    ensures { λ r. ⌜ (r .value ≡ rangeOf (rangesOf k outer) (loopAt (now (nest .entry)) (now (counts .entry)) k) .greatest) × (size (r .value) ≤ 32767) ⌝ }
+{
+    cut(smallest_from(nest, k * 32 + 16, counts[k * 2 + 1], k, outer))
+}
+
+// The least value of loop k.
+pub fn least_value(nest: &[i64], counts: &[usize], k: usize) -> Whole
+    requires { ⌜ NestOk (now nest) (now counts) (suc k) ⌝ }
+    ensures { λ r. ⌜ (r .value ≡ rangeAt (now (nest .entry)) (now (counts .entry)) k .least) × (size (r .value) ≤ 32767) ⌝ }
+{
+    let mut outer = [Range {
+        least: 0,
+        greatest: 0,
+    }; 6];
+    let mut i = 0;
+    while i < k {
+        let least = least_value(nest, counts, i);
+        let greatest = greatest_value(nest, counts, i);
+        outer[i] = Range {
+            least: least.value,
+            greatest: greatest.value,
+        };
+        i += 1;
+    }
+    least_over(nest, counts, k, outer)
+}
+
+// The greatest value of loop k.
+pub fn greatest_value(nest: &[i64], counts: &[usize], k: usize) -> Whole
+    requires { ⌜ NestOk (now nest) (now counts) (suc k) ⌝ }
+    ensures { λ r. ⌜ (r .value ≡ rangeAt (now (nest .entry)) (now (counts .entry)) k .greatest) × (size (r .value) ≤ 32767) ⌝ }
+{
+    let mut outer = [Range {
+        least: 0,
+        greatest: 0,
+    }; 6];
+    let mut i = 0;
+    while i < k {
+        let least = least_value(nest, counts, i);
+        let greatest = greatest_value(nest, counts, i);
+        outer[i] = Range {
+            least: least.value,
+            greatest: greatest.value,
+        };
+        i += 1;
+    }
+    greatest_over(nest, counts, k, outer)
+}
+
+// The ranges of the first n loops.
+pub fn ranges(nest: &[i64], counts: &[usize], n: usize) -> [Range; 6]
+    requires { ⌜ NestOk (now nest) (now counts) n ⌝ }
+    ensures { λ r. ⌜ RangesAre (now (nest .entry)) (now (counts .entry)) n r ⌝ }
+{
+    let mut r = [Range {
+        least: 0,
+        greatest: 0,
+    }; 6];
+    let mut i = 0;
+    while i < n {
+        let least = least_value(nest, counts, i);
+        let greatest = greatest_value(nest, counts, i);
+        r[i] = Range {
+            least: least.value,
+            greatest: greatest.value,
+        };
+        i += 1;
+    }
+    r
+}

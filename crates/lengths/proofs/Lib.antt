@@ -1,0 +1,2 @@
+-- Laws of lengths.
+pub mod LengthLaws

@@ -1,0 +1,53 @@
+-- What `lay_limit` writes: two words, and the coefficients after them.
+use mathlib.Core.Path.{_≡_, ap, ap₂, _∙_}
+use mathlib.Core.List.{List, [], _∷_}
+use Prim.Native.Nat.{ℕ, _+_, _*_, _≤_, _<_}
+use native.Mathlib.Omega.{arith}
+use lib.IntN.{ℤ, pos}
+use lib.ListN.{length, take, set, length-set}
+use lib.Seq.{length-take-le}
+use mir.Syntax.{w64}
+use mir.Val.{SFits, toZ, ofZ}
+use Rattle.lists.specs.Parts.{put}
+use Rattle.lists.proofs.PartLaws.{put-put, set-is-put, set-put, length-put}
+use Rattle.integers.proofs.RangeLaws.{back, from-nat, size-fits, size-natAbs}
+use Rattle.model.specs.Encode.{limitWords}
+use Rattle.nest.specs.Nested.{limitOf}
+use Rattle.nest.specs.declared.Limit.{Limit}
+use Rattle.loop_layout.specs.Limits.{LayLimitIn}
+
+-- two words and a row are written as one part
+two-and-row : (o : List ℤ) (p : ℕ) (a b : ℤ) (xs : List ℤ) → p + 2 ≤ length o → put (set (set o p a) (p + 1) b) (p + 2) xs ≡ put o p (a ∷ b ∷ xs)
+two-and-row o p a b xs h =
+    ap (λ l. put (set l (p + 1) b) (p + 2) xs) (set-is-put o p a (omega arith))
+    ∙ ap (λ l. put l (p + 2) xs) (set-put o p (a ∷ []) b (omega arith))
+    ∙ put-put o p (a ∷ b ∷ []) xs h
+
+module _ (o : List ℤ) (j outer : ℕ) (l : Limit) (p : LayLimitIn (length o) j outer l) where
+  small : l .multiplier ≤ 32767
+  unfolding limitOf
+  small = p .ranges .multiplier .high
+
+  pub multiplier-fits : SFits w64 (pos (l .multiplier))
+  multiplier-fits = let h = small in size-fits {n = 32767} (omega arith) (omega arith)
+
+  constant-fits : SFits w64 (l .constant)
+  unfolding limitOf
+  constant-fits = size-fits {n = 32767} (omega (arith, p .ranges .constant, size-natAbs (l .constant))) (omega arith)
+
+  pub row-length : length (take outer (l .coefficients)) ≡ outer
+  row-length = let h = p .shallow in let r = p .within .room in length-take-le outer (l .coefficients) (omega arith)
+
+  pub constant-room : (a : ℤ) → j * 8 + 1 < length (set o (j * 8) a)
+  constant-room a = let h = p .fits in simp length-set (omega arith)
+
+  pub wrote : (e : List ℤ) → e ≡ put (set (set o (j * 8) (toZ w64 (l .multiplier))) (j * 8 + 1) (toZ w64 (ofZ w64 (l .constant)))) (j * 8 + 2) (take outer (l .coefficients))
+      → e ≡ put o (j * 8) (limitWords (limitOf outer l))
+  unfolding limitWords limitOf
+  wrote e q = let h = p .fits in let g = small in
+      q ∙ ap₂ (λ a b. put (set (set o (j * 8) a) (j * 8 + 1) b) (j * 8 + 2) (take outer (l .coefficients))) (from-nat (omega arith)) (back constant-fits)
+      ∙ two-and-row o (j * 8) (pos (l .multiplier)) (l .constant) (take outer (l .coefficients)) (omega arith)
+
+  pub wrote-length : (e : List ℤ) → e ≡ put o (j * 8) (limitWords (limitOf outer l)) → length e ≡ length o
+  unfolding limitWords limitOf
+  wrote-length e q = let h = p .fits in let g = p .shallow in let n = row-length in ap length q ∙ length-put o (j * 8) (limitWords (limitOf outer l)) (omega arith)

@@ -1,0 +1,2 @@
+-- Flat slices with the loops of a nest laid over them.
+pub mod Limits

@@ -1,0 +1,145 @@
+// Which vector a step makes into the one with a number: the numbers of vectors before a step, digit by digit.
+ghost use mathlib.Core.Path.{_≡_};
+ghost use mathlib.Core.Bool.{false};
+ghost use Prim.Native.Nat.{_+_, _-_, _<_};
+ghost use Rattle.integers.specs.Sign.{turned};
+ghost use Rattle.lists.specs.Place.{«under», onHead, swapped};
+ghost use Rattle.preimages.specs.Numbers.{base3, digitsOf, Digits};
+ghost use Rattle.preimages.specs.Sources.{SourceIn, Source, joined, JoinedIn, joinedDigit, mayBeDigit, Signed, GaveIn, gaveDigits, SkewSourceIn, SkewSource};
+
+// ---- numbers
+
+// The signs of the vector with number n, as digits: < is 0, = is 1, > is 2.
+pub fn digits(n: usize) -> [usize; 6]
+    requires { ⌜ n < 729 ⌝ }
+    ensures { λ r. ⌜ r ≡ digitsOf n ⌝ }
+{
+    [n / 243, n / 81 % 3, n / 27 % 3, n / 9 % 3, n / 3 % 3, n % 3]
+}
+
+// The number of the vector with these digits.
+fn value(d: [usize; 6]) -> usize
+    requires { ⌜ Digits d ⌝ }
+    ensures { λ r. ⌜ r ≡ base3 d ⌝ }
+{
+    ((((d[0] * 3 + d[1]) * 3 + d[2]) * 3 + d[3]) * 3 + d[4]) * 3 + d[5]
+}
+
+// ---- exchange
+
+// The number of the vector that the exchange of loops a and a + 1 turns into the one with number n.
+pub fn exchange_source(n: usize, a: usize) -> usize
+    requires { ⌜ SourceIn n (a + 2) ⌝ }
+    ensures { λ r. ⌜ Source («under» a swapped) (a + 2) n r ⌝ }
+{
+    let mut d = digits(n);
+    let s = d[a];
+    d[a] = d[a + 1];
+    d[a + 1] = s;
+    value(d)
+}
+
+// ---- reversal
+
+// The number of the vector that the reversal of loop a turns into the one with number n.
+pub fn reversal_source(n: usize, a: usize) -> usize
+    requires { ⌜ SourceIn n (a + 1) ⌝ }
+    ensures { λ r. ⌜ Source («under» a (onHead turned)) (a + 1) n r ⌝ }
+{
+    let mut d = digits(n);
+    d[a] = 2 - d[a];
+    value(d)
+}
+
+// ---- skew
+
+// Whether the sum of the signs t and s may have the sign r: any sign, where one is < and the other >.
+fn may_be(t: usize, s: usize, r: usize) -> bool
+    ensures { λ b. ⌜ b ≡ mayBeDigit t s r ⌝ }
+{
+    if t == 1 {
+        return r == s;
+    }
+    if s == 1 {
+        return r == t;
+    }
+    if s == t {
+        return r == t;
+    }
+    true
+}
+
+// The sign x, or turned over.
+fn signed(x: usize, plus: bool) -> usize
+    requires { ⌜ x < 3 ⌝ }
+    ensures { λ s. ⌜ Signed plus x s ⌝ }
+{
+    if plus {
+        return x;
+    }
+    2 - x
+}
+
+// Whether the vector with t at b was marked and may have d[b] there with s added.
+fn gave(old: &[bool; 729], d: [usize; 6], b: usize, s: usize, t: usize) -> bool
+    requires { ⌜ GaveIn d b s t ⌝ }
+    ensures { λ r. ⌜ r ≡ gaveDigits (now (old .entry)) d b s t ⌝ }
+{
+    if may_be(t, s, d[b]) {
+        let mut e = d;
+        e[b] = t;
+        return old[value(e)];
+    }
+    false
+}
+
+// Whether the skew of loop b by loop a turns some marked vector into the one with number n.
+pub fn skew_source(old: &[bool; 729], n: usize, a: usize, b: usize, plus: bool) -> bool
+    requires { ⌜ SkewSourceIn a b n ⌝ }
+    ensures { λ r. ⌜ SkewSource (now (old .entry)) a b plus n r ⌝ }
+{
+    let d = digits(n);
+    let s = signed(d[a], plus);
+    if gave(old, d, b, s, 0) {
+        return true;
+    }
+    if gave(old, d, b, s, 1) {
+        return true;
+    }
+    gave(old, d, b, s, 2)
+}
+
+// ---- section
+
+// The digit at place i before the section of loop a, from the digits after it: those of a and a + 1 come from one.
+fn joined_digit(d: [usize; 6], a: usize, i: usize) -> usize
+    requires { ⌜ JoinedIn a i ⌝ }
+    ensures { λ r. ⌜ r ≡ joinedDigit d a i ⌝ }
+{
+    if i < a {
+        return d[i];
+    }
+    if a < i {
+        return d[i + 1];
+    }
+    if d[a] == 1 {
+        return d[a + 1];
+    }
+    d[a]
+}
+
+// The number of the vector that the section of loop a turns into the one with number n.
+pub fn section_source(n: usize, a: usize) -> usize
+    requires { ⌜ SourceIn n (a + 2) ⌝ }
+    ensures { λ r. ⌜ Source («under» a joined) (a + 2) n r ⌝ }
+{
+    let d = digits(n);
+    value([
+        joined_digit(d, a, 0),
+        joined_digit(d, a, 1),
+        joined_digit(d, a, 2),
+        joined_digit(d, a, 3),
+        joined_digit(d, a, 4),
+        1,
+    ])
+}

@@ -1,0 +1,2 @@
+-- Laws over plain lists that the proofs of the crate's functions cite.
+pub mod SmallLaws

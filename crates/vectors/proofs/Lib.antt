@@ -1,0 +1,4 @@
+-- Laws of what `specs` defines.
+pub mod NumberLaws
+pub mod VectorLaws
+pub mod CandidateLaws

@@ -1,0 +1,59 @@
+-- `vary`. The loop's invariant: every loop before k that is not said to vary is constant.
+use mathlib.Core.Path.{_≡_, refl, _∙_}
+use Prim.Native.Nat.{_-_, _≤_, _<_}
+use native.Mathlib.Omega.{arith}
+use lib.ListN.{length, length-set}
+use borrow.Author.Needs.{needs}
+use Rattle.vectors.specs.Candidates.{ConstantElse}
+use Rattle.vectors.proofs.CandidateLaws.{constant-more}
+use Rattle.vectors.proofs.vary.Statement.{statement}
+use Rattle.vectors.proofs.vary.Tie as tie
+
+abbrev Inv-loop : tie.InvT-loop
+Inv-loop points depth count varying₀ k₀ varying k = (k ≤ depth) × (length varying ≡ length varying₀) × ConstantElse depth points count k varying
+
+abbrev μ-loop : tie.MeasureT-loop
+μ-loop points depth count varying₀ k₀ varying k = depth - k
+
+room : (c : tie.After-varies Inv-loop μ-loop) → c .before .before .loop .k < length (c .before .before .loop .varying)
+room c = let l = c .before .before .loop .inv .1 in let p = c .before .before .before .before .pre .1 in let t = c .before .loop-test .taken in omega arith
+
+loop-holds : tie.Need-loop-holds Inv-loop μ-loop
+loop-holds c = (omega arith, refl, λ k h. absurd (omega arith))
+
+varies-requires : tie.Need-varies-requires Inv-loop μ-loop
+varies-requires c κs = (c .loop-test .taken, c .before .before .before .pre .0)
+
+slice-write-varying : tie.Need-slice-write-varying Inv-loop μ-loop
+slice-write-varying c = room c
+
+add-k : tie.Need-add-k Inv-loop μ-loop
+add-k c = search needs
+
+loop-less : tie.Need-loop-less Inv-loop μ-loop
+loop-less c = search needs
+
+loop-again : tie.Need-loop-again Inv-loop μ-loop
+loop-again c = let s = c .before .before .before .before .args in let l = c .before .before .loop in let t = c .before .loop-test .taken in
+    (omega arith, length-set (l .varying) (l .k) (c .varies .result) ∙ l .inv .1, constant-more (s .depth) (s .points .now) (s .count) (l .k) (l .varying) (c .varies .result) (room c) (c .varies .ensures) (l .inv .2))
+
+same-length : tie.Need-same-length Inv-loop μ-loop
+same-length c = c .before .loop .inv .1
+
+returns : tie.Need-returns Inv-loop μ-loop
+returns c = λ k h. c .before .loop .inv .2 k (let t = c .loop-test .left in omega arith)
+
+pub vary-spec : {M : Type 1} → statement M
+vary-spec =
+    tie.close
+    (tie.spec
+    Inv-loop
+    μ-loop
+    loop-holds
+    varies-requires
+    slice-write-varying
+    add-k
+    loop-less
+    loop-again
+    same-length
+    returns)

@@ -1,0 +1,38 @@
+-- `vector`: the digits, then one = for each missing loop.
+use mathlib.Core.Path.{_≡_}
+use Prim.Native.Nat.{_+_, _*_, _-_, _/_, _<_}
+use native.Mathlib.Omega.{arith}
+use lib.ListN.{length}
+use Rattle.model.specs.Directions.{signs}
+use Rattle.vectors.specs.Numbers.{number}
+use Rattle.vectors.proofs.NumberLaws.{stride-positive}
+use Rattle.vectors.proofs.VectorLaws.{number-padded}
+use borrow.Author.Needs.{needs}
+use Rattle.vectors.proofs.vector.Statement.{statement}
+use Rattle.vectors.proofs.vector.Tie as tie
+
+whole : (c : tie.After-digits) → (let s = c .before .before in let w = c .digits .result in let t = c .before .stride .result in
+    (w * t + (t - 1) / 2 ≡ number (signs (s .args .p .now) (s .args .q .now))) × (w * t + (t - 1) / 2 < 729))
+whole c = let s = c .before .before in number-padded (s .args .p .now) (s .args .q .now) (s .pre .0) (s .pre .1) (c .digits .result) (c .before .stride .result) (c .digits .ensures) (c .before .stride .ensures .0)
+
+stride-requires : tie.Need-stride-requires
+stride-requires c κs = search needs
+
+digits-requires : tie.Need-digits-requires
+digits-requires c κs = search needs
+
+mul-result : tie.Need-mul-result
+mul-result c = let h = whole c .1 in omega arith
+
+sub-result : tie.Need-sub-result
+sub-result c = let s = c .before .before in let h = stride-positive (6 - length (s .args .p .now)) in let e = c .before .stride .ensures .0 in omega arith
+
+add-result : tie.Need-add-result
+add-result c = let h = whole c .1 in omega arith
+
+returns : tie.Need-returns
+returns c = whole c .0
+
+pub vector-spec : {M : Type 1} → statement M
+vector-spec =
+    tie.close (tie.spec stride-requires digits-requires mul-result sub-result add-result returns)

@@ -1,0 +1,138 @@
+// The numbers of vectors, and those that two stored points can have.
+ghost use mathlib.Core.Path.{_≡_};
+ghost use mathlib.Core.Bool.{true, false};
+ghost use Prim.Native.Nat.{_+_, _*_, _-_, _≤_, _<_};
+ghost use lib.ListN.{length};
+ghost use Rattle.integers.specs.Sign.{sign as «sign-of»};
+ghost use Rattle.model.specs.Directions.{signs};
+ghost use Rattle.vectors.specs.Numbers.{digit, numberAfter, number};
+ghost use Rattle.vectors.specs.Candidates.{code};
+ghost use Rattle.vectors.specs.Candidates.{Constant, ConstantElse, Candidate, Covers};
+ghost use Rattle.vectors.specs.Candidates.{stride as «stride-of»};
+
+// ---- vectors
+
+// The digit of a source index and a sink index: 0 is <, 1 is = and 2 is >.
+fn sign(a: i64, b: i64) -> usize
+    ensures { λ r. ⌜ r ≡ digit («sign-of» a b) ⌝ }
+{
+    if a < b {
+        return 0;
+    }
+    if b < a {
+        return 2;
+    }
+    1
+}
+
+// The signs of two points as base-three digits, the outermost most significant.
+fn digits(p: &[i64], q: &[i64]) -> usize
+    requires { ⌜ (length (now p) ≤ 6) × (length (now p) ≡ length (now q)) ⌝ }
+    ensures { λ r. ⌜ r ≡ numberAfter 0 (signs (now (p .entry)) (now (q .entry))) ⌝ }
+{
+    let mut v = 0;
+    let mut k = 0;
+    while k < p.len() {
+        v = v * 3 + sign(p[k], q[k]);
+        k += 1;
+    }
+    v
+}
+
+// How far the numbers of vectors of so many loops are from one another: 3 for each missing loop.
+pub fn stride(depth: usize) -> usize
+    requires { ⌜ depth ≤ 6 ⌝ }
+    ensures { λ r. ⌜ (r ≡ «stride-of» (6 - depth)) × (r ≤ 729) ⌝ }
+{
+    match depth {
+        0 => 729,
+        1 => 243,
+        2 => 81,
+        3 => 27,
+        4 => 9,
+        5 => 3,
+        _ => 1,
+    }
+}
+
+// The number of the vector of two points of at most six indices: missing loops are =.
+pub fn vector(p: &[i64], q: &[i64]) -> usize
+    requires { ⌜ (length (now p) ≤ 6) × (length (now p) ≡ length (now q)) ⌝ }
+    ensures { λ r. ⌜ r ≡ number (signs (now (p .entry)) (now (q .entry))) ⌝ }
+{
+    let step = stride(p.len());
+    digits(p, q) * step + (step - 1) / 2
+}
+
+// The number of the vector of the stored points x and y.
+pub fn pair(points: &[i64], depth: usize, x: usize, y: usize) -> usize
+    requires { ⌜ (depth ≤ 6) × (x * depth + depth ≤ length (now points)) × (y * depth + depth ≤ length (now points)) ⌝ }
+    ensures { λ r. ⌜ (r ≡ code depth (now (points .entry)) x y) × (r < 729) ⌝ }
+{
+    vector(
+        &points[x * depth..x * depth + depth],
+        &points[y * depth..y * depth + depth],
+    )
+}
+
+// ---- vectors that two points can have
+
+// Whether the index of loop k differs at two points.
+fn varies(points: &[i64], depth: usize, count: usize, k: usize) -> bool
+    requires { ⌜ (k < depth) × (count * depth ≤ length (now points)) ⌝ }
+    ensures { λ r. ⌜ (r ≡ false → Constant depth (now (points .entry)) count k) ⌝ }
+{
+    let mut x = 0;
+    while x < count {
+        if sign(points[k], points[x * depth + k]) != 1 {
+            return true;
+        }
+        x += 1;
+    }
+    false
+}
+
+// Which loops have indices that differ.
+fn vary(points: &[i64], depth: usize, count: usize, varying: &mut [bool])
+    requires { ⌜ (count * depth ≤ length (now points)) × (depth ≤ length (now varying)) ⌝ }
+    ensures { λ _. ⌜ ConstantElse depth (now (points .entry)) count depth (now (varying .exit)) ⌝ }
+{
+    let mut k = 0;
+    while k < depth {
+        varying[k] = varies(points, depth, count, k);
+        k += 1;
+    }
+}
+
+// Whether v is the number of a vector that has = at every loop that does not vary.
+fn candidate(v: usize, varying: &[bool]) -> bool
+    requires { ⌜ length (now varying) ≡ 6 ⌝ }
+    ensures { λ r. ⌜ Candidate (now (varying .entry)) v r ⌝ }
+{
+    let mut w = v;
+    let mut k = 6;
+    while 0 < k {
+        k -= 1;
+        if !varying[k] {
+            if w % 3 != 1 {
+                return false;
+            }
+        }
+        w = w / 3;
+    }
+    true
+}
+
+// Sets the number of every vector that two of the points can have.
+pub fn candidates(points: &[i64], depth: usize, count: usize, possible: &mut [bool])
+    requires { ⌜ (depth ≤ 6) × (count * depth ≤ length (now points)) × (729 ≤ length (now possible)) ⌝ }
+    ensures { λ _. ⌜ Covers depth (now (points .entry)) count (now (possible .exit)) ⌝ }
+{
+    let mut varying = [false; 6];
+    vary(points, depth, count, &mut varying);
+    let mut v = 0;
+    while v < 729 {
+        possible[v] = candidate(v, &varying);
+        v += 1;
+    }
+}
