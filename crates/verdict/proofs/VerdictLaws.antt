@@ -92,16 +92,17 @@ module _ (b : List ℕ) (o e : List ℤ) (a : Intake) (h : Admits b o e a) where
     }
 
     pub decided : (j : Judged) → Judges (a .ticket) j
-        → Decides b (record { status = j .status; ticket = a .ticket; own = a .sheet; count = a .count; nest = j .nest; body = j .body; sheet = j .sheet })
+        → Decides b (record { status = j .status; ticket = a .ticket; count = a .count; nest = j .nest; body = j .body })
     unfolding _>>=_
     decided j g = record {
       same = g .same ∙ sym (ap (λ (x : Status). decoded x (ticketOf (a .ticket)) >>= judgeTicket) s) ∙ whole;
       settled = λ f. record {
         within = t .within;
         admitted-is = t .admitted-is;
-        own-is = t .same;
-        own-sheet = t .sheet;
         count = t .points-are .count ∙ ap (λ (N : Model.Nest). length (iterations (N .loops))) (t .same);
-        new = g .fine f;
+        nest = g .fine f .nest;
+        body = g .fine f .body;
+        formed = g .fine f .formed;
+        ranges = g .fine f .ranges;
       };
     }

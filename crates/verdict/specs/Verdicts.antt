@@ -1,4 +1,4 @@
--- From bytes to a verdict: the model's `judged`, with the old and the new nest on their sheets.
+-- From bytes to a verdict: the model's `judged`.
 use mathlib.Core.Path.{_≡_}
 use mathlib.Core.List.{List}
 use Prim.Native.Nat.{ℕ}
@@ -9,9 +9,12 @@ use Rattle.model.specs.Answer.{accepted}
 use Rattle.model.specs.Ticket as Model
 use Rattle.model.specs.Points.{iterations}
 use Rattle.model.specs.Bounds.{admitted}
+use Rattle.model.specs.Ranges.{NestRanges}
 use Rattle.model.specs.Shape.{WellFormed}
 use Rattle.model.specs.Judge.{directionsOf, judged}
 use Rattle.reading.specs.declared.Status.the-variants.{Fine}
+use Rattle.nest.specs.Nested.{NestIn}
+use Rattle.body.specs.Statements.{BodyIn}
 use Rattle.ticket.specs.Ticket.{nestOf, ticketOf, TicketIn}
 use Rattle.directions.specs.Sets.{vectorsOf}
 use Rattle.directions.specs.declared.DirectionSet.{DirectionSet}
@@ -20,8 +23,7 @@ use Rattle.sheet.specs.Sheets as Sheet
 use Rattle.sheet.specs.Sheets.{SheetIn}
 use Rattle.sheet.specs.Stages.{PointsAre}
 use Rattle.layout.specs.Sheets.{modelOf}
-use Rattle.judgement.specs.Judgement.{judgedAs, New}
-use Rattle.judgement.specs.declared.Judged as Struct
+use Rattle.judgement.specs.Judgement.{judgedAs}
 use Rattle.verdict.specs.declared.Decided.{Decided}
 
 -- an admitted nest on its sheet, and its points
@@ -36,20 +38,18 @@ pub record DirectionsAre (P : Sheet) (s : DirectionSet) : Type 0 where
   pub vectors : SameMembers (vectorsOf s) (directionsOf (Sheet.nestOf P))
 
 -- the new nest of the answer
-abbrev pub judgedOf : Decided → Struct.Judged
-judgedOf r = record { status = r .status; nest = r .nest; body = r .body; sheet = r .sheet }
-
 abbrev pub newOf : Decided → Model.Nest
 newOf r = modelOf (r .nest) (r .ticket .arrays) (r .body)
 
--- an accepted ticket: its own nest and the new one, each on its sheet
+-- an accepted ticket, and its new nest
 pub record Settled (r : Decided) : Type 0 where
   pub within : TicketIn (r .ticket)
   pub admitted-is : admitted (nestOf (r .ticket)) ≡ accepted tt
-  pub own-is : Sheet.nestOf (r .own) ≡ nestOf (r .ticket)
-  pub own-sheet : SheetIn (r .own)
   pub count : r .count ≡ length (iterations (nestOf (r .ticket) .loops))
-  pub new : New (r .ticket) (judgedOf r)
+  pub nest : NestIn (r .nest)
+  pub body : BodyIn (r .body)
+  pub ranges : NestRanges 6 16 (newOf r)
+  pub formed : WellFormed (newOf r)
 
 -- 1 to 13
 pub record Decides (b : List ℕ) (r : Decided) : Type 0 where

@@ -10,18 +10,16 @@ use reading::Status;
 use sheet::Sheet;
 use ticket::Ticket;
 
-// Where the status is Fine: the ticket, its own nest on a sheet and how many iterations that has; the new nest, its statements and its sheet.
+// Where the status is Fine: the ticket and how many iterations it has; the new nest and its statements.
 pub struct Decided {
     pub status: Status,
     pub ticket: Ticket,
-    pub own: Sheet,
     pub count: usize,
     pub nest: Nest,
     pub body: Body,
-    pub sheet: Sheet,
 }
 
-fn refused(r: Refusal, ticket: Ticket, sheet: Sheet) -> Decided
+fn refused(r: Refusal, ticket: Ticket) -> Decided
     ensures { λ q. ⌜ q .status ≡ Refused r ⌝ }
 {
     let nest = ticket.nest;
@@ -29,11 +27,9 @@ fn refused(r: Refusal, ticket: Ticket, sheet: Sheet) -> Decided
     Decided {
         status: Status::Refused(r),
         ticket: ticket,
-        own: sheet,
         count: 0,
         nest: nest,
         body: body,
-        sheet: sheet,
     }
 }
 
@@ -53,26 +49,23 @@ pub fn decide(bytes: &[u8]) -> Decided
     let mut points = [0i64; 16384];
     let all = intake::admit(bytes, &mut points);
     let ticket = all.ticket;
-    let own = all.sheet;
+    let sheet = all.sheet;
     let count = all.count;
     let status = all.status;
     match status {
         Status::Fine => {}
-        Status::Refused(r) => return refused(r, ticket, own),
+        Status::Refused(r) => return refused(r, ticket),
     }
-    let set = directions_in(own, &points, count);
+    let set = directions_in(sheet, &points, count);
     let new = judgement::judge_ticket(ticket, set);
     let verdict = new.status;
     let nest = new.nest;
     let body = new.body;
-    let sheet = new.sheet;
     Decided {
         status: verdict,
         ticket: ticket,
-        own: own,
         count: count,
         nest: nest,
         body: body,
-        sheet: sheet,
     }
 }

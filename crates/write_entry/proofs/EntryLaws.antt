@@ -44,7 +44,7 @@ module _ (b : List ℕ) (d : Decided) (h : Decides b d) (o : List ℕ) where
     pub encodable : Encodable (d .nest) (d .ticket .arrays) (d .body)
     unfolding Held.nestOf modelOf
     encodable = let q = h .settled s in
-        ranges-encodable (d .nest) (d .ticket .arrays) (d .body) (record { nest = q .new .nest; arrays = q .within .arrays; body = q .new .body }) (q .new .ranges) (q .new .formed)
+        ranges-encodable (d .nest) (d .ticket .arrays) (d .body) (record { nest = q .nest; arrays = q .within .arrays; body = q .body }) (q .ranges) (q .formed)
 
     same-nest : Held.nestOf (d .nest) (d .ticket .arrays) (d .body) ≡ newOf d
     unfolding Held.nestOf modelOf

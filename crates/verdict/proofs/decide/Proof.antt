@@ -32,7 +32,7 @@ judge-ticket-requires : tie.Need-judge-ticket-requires
 judge-ticket-requires c κs = let a = c .before .before .before .before .before .before .before .admit in judge-in _ _ _ (a .result) (a .ensures) (c .before .before .enum-told .given .1) (c .directions-in .result) (c .directions-in .ensures)
 
 returns-2 : tie.Need-returns-2
-returns-2 c = let a = c .before .before .before .before .before .before .before .before .before .before .before .admit in let j = c .before .before .before .judge-ticket in decided _ _ _ (a .result) (a .ensures) (c .before .before .before .before .before .before .enum-told .given .1) (j .result) (j .ensures)
+returns-2 c = let a = c .before .before .before .before .before .before .before .before .before .before .admit in let j = c .before .before .judge-ticket in decided _ _ _ (a .result) (a .ensures) (c .before .before .before .before .before .enum-told .given .1) (j .result) (j .ensures)
 
 pub decide-spec : {M : Type 1} → statement M
 decide-spec =
