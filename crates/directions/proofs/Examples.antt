@@ -8,7 +8,7 @@ use lib.ListN.{replicate}
 use Rattle.integers.specs.Sign.{less, equal, greater}
 use Rattle.preimages.specs.Numbers.{digitsIn, base3, number, Digits}
 use Rattle.directions.specs.Sets.{ExchangeIn, ReversalIn, SkewIn, SectionIn, AddIn}
-use Rattle.preimages.specs.Sources.{SourceIn, JoinedIn, SkewSourceIn, GaveIn, LevelIn}
+use Rattle.preimages.specs.Sources.{SourceIn, JoinedIn, SkewSourceIn, GaveIn}
 use Rattle.directions.specs.Changes.{ComesIn, PulledIn}
 use Rattle.directions.specs.declared.DirectionSet.{DirectionSet}
 use Rattle.directions.specs.declared.Change.the-variants.{Skew, Section}
@@ -74,9 +74,6 @@ skewSource-met = record { below = omega arith; outer = omega arith; few = omega 
 
 gave-met : GaveIn (digitsIn 6 (less ∷ [])) 5 2 2
 gave-met = record { digits = digits-met; inside = omega arith; added = omega arith; replaced = omega arith }
-
-levelled-met : LevelIn (digitsIn 6 (less ∷ [])) 1
-levelled-met = record { digits = digits-met; few = omega arith }
 
 comes-met : ComesIn (Skew 0 5 true) 728
 comes-met = record { below = omega arith; few = omega arith; outer = omega arith }

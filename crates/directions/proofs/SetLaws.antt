@@ -5,7 +5,7 @@ use mathlib.Core.Logic.{⊎-elim}
 use mathlib.Core.List.{List, [], _∷_, _++_, List·Memᴰ·head, List·Memᴰ·tail, List·Memᴰ·cases-cons, List·Memᴰ·append-cases, Memᴰ·append-left, Memᴰ·append-right}
 use Prim.Native.Nat.{ℕ, _+_, _≤_, _<_}
 use native.Mathlib.Omega.{arith}
-use native.Mathlib.Decide.{ℕ-discrete}
+use native.Mathlib.Decide.{ℕ-discrete, decLt}
 use lib.Dec.{T}
 use lib.ListN.{length, getD, set, replicate, length-set, length-replicate, getD-replicate}
 use lib.Seq.{getD-set-same, getD-set-other}
@@ -40,24 +40,30 @@ no-vectors d = no-members (vectorsIn (replicate 729 false) d)
 
 -- up to number n each vector of depth d is marked as g says
 pub record Filling (g : List Sign → Bool) (d : ℕ) (marks : List Bool) (n : ℕ) : Type 0 where
-  pub bound : n ≤ 729
   pub whole : length marks ≡ 729
   pub filled : (v : List Sign) → length v ≡ d → number v < n → marked marks v ≡ g v
 
 module _ (g : List Sign → Bool) (d : ℕ) (marks : List Bool) where
-  pub fill-first : marks ≡ replicate 729 false → Filling g d marks 0
-  fill-first e = record { bound = omega arith; whole = ap length e ∙ length-replicate 729 false; filled = λ v l h. absurd (omega arith) }
+  -- no vector has a lesser number than n
+  pub fill-first : (n : ℕ) → marks ≡ replicate 729 false → ((v : List Sign) → length v ≡ d → n ≤ number v) → Filling g d marks n
+  fill-first n e f = record { whole = ap length e ∙ length-replicate 729 false; filled = λ v l h. let a = f v l in absurd (omega arith) }
 
-  pub fill-next : (n : ℕ) (b : Bool) → n < 729 → ((v : List Sign) → length v ≡ d → number v ≡ n → b ≡ g v) → Filling g d marks n
-      → Filling g d (set marks n b) (n + 1)
-  fill-next n b h f p = let w = p .whole in record {
-    bound = omega arith;
+  -- no vector has a number between n and m
+  pub fill-next : (n m : ℕ) (b : Bool) → n < 729 → ((v : List Sign) → length v ≡ d → n < number v → m ≤ number v)
+      → ((v : List Sign) → length v ≡ d → number v ≡ n → b ≡ g v) → Filling g d marks n → Filling g d (set marks n b) m
+  fill-next n m b h gap f p = let w = p .whole in record {
     whole = length-set marks n b ∙ p .whole;
     filled = λ v l k. elim (ℕ-discrete (number v) n) [
       | yes e ↦ rw e (getD-set-same marks n b false (omega arith)) ∙ f v l e
-      | no q ↦ getD-set-other marks n (number v) b false q ∙ p .filled v l (omega arith)
+      | no q ↦ getD-set-other marks n (number v) b false q ∙ p .filled v l (below v l k q)
     ];
   }
+    where
+      below : (v : List Sign) → length v ≡ d → number v < m → (number v ≡ n → ⊥) → number v < n
+      below v l k q = elim (decLt n (number v)) [
+        | yes a ↦ let z = gap v l a in absurd (omega arith)
+        | no a ↦ omega arith
+      ]
 
   pub fill-all : (n : ℕ) → 729 ≤ n → Filling g d marks n → (v : List Sign) → length v ≡ d → marked marks v ≡ g v
   fill-all n h p v l = p .filled v l (omega (arith, number-below v))

@@ -7,7 +7,6 @@ ghost use Rattle.model.specs.Ticket.{exchange, reversal, skew, section};
 ghost use Rattle.model.specs.Steps.{somePointsBack};
 ghost use Rattle.directions.specs.Sets.{vectorsOf, ExchangeIn, ReversalIn, SkewIn, SectionIn, After, Empty, AddIn, Added, Merged};
 ghost use Rattle.directions.specs.Changes.{ComesIn, Comes, PulledIn, Pulled};
-ghost use Rattle.preimages.specs.Sources.{SourceIn, LevelIn, levelFrom, counts};
 
 // 729 marks, one for each vector of six signs by its number, and the loops that there are. A loop that is missing has the sign =.
 pub struct DirectionSet {
@@ -95,17 +94,18 @@ fn comes(old: &[bool; 729], n: usize, change: Change) -> bool
     }
 }
 
-// The set that a change makes of another, with its depth: each mark is pulled from where it comes from.
+// The set that a change makes of another, with its depth: each mark is pulled from where it comes from. Only numbers of vectors of the depth are visited.
 fn pulled(s: DirectionSet, change: Change, depth: usize) -> DirectionSet
     requires { ⌜ PulledIn change depth ⌝ }
     ensures { λ r. ⌜ Pulled change depth s r ⌝ }
 {
     let old = s.marks;
     let mut marks = no_marks();
-    let mut n = 0;
+    let step = vectors::stride(depth);
+    let mut n = (step - 1) / 2;
     while n < 729 {
         marks[n] = comes(&old, n, change);
-        n += 1;
+        n += step;
     }
     DirectionSet {
         marks: marks,
@@ -155,45 +155,20 @@ pub fn sectioned(s: DirectionSet, a: usize) -> DirectionSet
 
 // ---- the backward test
 
-// Whether the signs from a depth on are =.
-fn level_from(d: [usize; 6], depth: usize) -> bool
-    requires { ⌜ LevelIn d depth ⌝ }
-    ensures { λ r. ⌜ r ≡ levelFrom d depth ⌝ }
-{
-    let mut i = depth;
-    while i < 6 {
-        if d[i] != 1 {
-            return false;
-        }
-        i += 1;
-    }
-    true
-}
-
-// Whether a number is marked, and that of a vector of the depth.
-fn stands(marks: &[bool; 729], depth: usize, n: usize) -> bool
-    requires { ⌜ SourceIn n depth ⌝ }
-    ensures { λ r. ⌜ r ≡ counts (now (marks .entry)) depth n ⌝ }
-{
-    if marks[n] {
-        return level_from(preimages::digits(n), depth);
-    }
-    false
-}
-
-// Whether a vector of the set points backwards. 364 is the number of the vector whose signs are all =.
+// Whether a vector of the set points backwards. 364 is the number of the vector whose signs are all =, and those beyond it point backwards.
 pub fn points_back(s: DirectionSet) -> bool
     requires { ⌜ s .depth ≤ 6 ⌝ }
     ensures { λ r. ⌜ r ≡ somePointsBack (vectorsOf s) ⌝ }
 {
     let marks = s.marks;
     let depth = s.depth;
-    let mut n = 365;
+    let step = vectors::stride(depth);
+    let mut n = 364 + step;
     while n < 729 {
-        if stands(&marks, depth, n) {
+        if marks[n] {
             return true;
         }
-        n += 1;
+        n += step;
     }
     false
 }

@@ -1,16 +1,16 @@
--- The vectors of all rows of marks are those of the lines that are marked. In order: one number of a vector for both crates; a row of marks;
--- rows merged one by one; the rows of all lines; the directions of a nest.
+-- The vectors of all rows of marks are those of the lines that are marked. In order: a row of marks; rows merged one by one; the rows of all
+-- lines; the directions of a nest.
 use mathlib.Core.Path.{_≡_, refl, sym, _∙_, ap, ap₂, subst}
 use mathlib.Core.Bool.{Bool, false}
 use mathlib.Core.Logic.{⊎-elim}
-use mathlib.Core.List.{List, [], _∷_, _++_, map, flatMap, List·Memᴰ·append-cases, Memᴰ·append-left, Memᴰ·append-right, Memᴰ·map, Memᴰ·of-map}
+use mathlib.Core.List.{List, [], _++_, map, flatMap, List·Memᴰ·append-cases, Memᴰ·append-left, Memᴰ·append-right, Memᴰ·map, Memᴰ·of-map}
 use Prim.Native.Nat.{ℕ, zero, suc, _+_, _*_, _-_, _/_, _%_, _≤_, _<_}
 use native.Mathlib.Omega.{arith}
 use native.Mathlib.Numerals.{add-one}
 use lib.Dec.{T}
-use lib.ListN.{length, getD, take, drop, replicate, length-take, length-drop}
+use lib.ListN.{length, getD, take, drop, length-take, length-drop}
 use lib.Seq.{getD-take, getD-drop}
-use Rattle.integers.specs.Sign.{Sign, less, equal, greater}
+use Rattle.integers.specs.Sign.{Sign}
 use Rattle.lists.specs.Membership.{Mem, SameMembers}
 use Rattle.lists.specs.Parts.{rows}
 use Rattle.lists.proofs.MembershipLaws.{mem-getD, getD-mem, members-trans}
@@ -22,7 +22,7 @@ use Rattle.model.specs.Judge.{directionsOf}
 use Rattle.model.proofs.Listing.LineOrderLaws.{allLines-mem, mem-allLines}
 use Rattle.model.proofs.Listing.ListingLaws.{linesOf-merged}
 use Rattle.vectors.specs.Numbers as Dependence
-use Rattle.vectors.specs.Numbers.{digit, numberAfter, kindNumber, place}
+use Rattle.vectors.specs.Numbers.{kindNumber, place}
 use Rattle.listing_text.specs.Text as Text
 use Rattle.listing_text.specs.Text.{shown, Marks}
 use Rattle.listing_text.proofs.IndexLaws.{split, count-small}
@@ -30,24 +30,11 @@ use Rattle.preimages.specs.Numbers.{number, marked}
 use Rattle.directions.specs.Sets.{vectorsIn, vectorsOf, Empty, Merged}
 use Rattle.directions.specs.declared.DirectionSet.{DirectionSet}
 use Rattle.preimages.proofs.NumberLaws.{number-below}
-use Rattle.directions.proofs.HornerLaws.{horner, number-horner}
+use Rattle.directions.proofs.HornerLaws.{one-number}
 use Rattle.directions.proofs.SetLaws.{vectorsIn-mem, mem-vectorsIn}
 use Rattle.sheet.specs.declared.Sheet.{Sheet}
 use Rattle.sheet.specs.Sheets.{nestOf}
 use Rattle.lines.specs.Lines.{LinesAre, Shows}
-
--- ---- the number of a vector
-
-horner-after : (n : ℕ) (v : List Sign) → horner n v ≡ numberAfter n v
-unfolding horner numberAfter digit
-horner-after n [] = refl
-horner-after n (less ∷ v) = horner-after (n * 3 + 0) v
-horner-after n (equal ∷ v) = horner-after (n * 3 + 1) v
-horner-after n (greater ∷ v) = horner-after (n * 3 + 2) v
-
-one-number : (v : List Sign) → length v ≤ 6 → number v ≡ Dependence.number v
-unfolding Dependence.number
-one-number v h = number-horner v h ∙ horner-after 0 (v ++ replicate (6 - length v) equal)
 
 -- ---- a row of marks
 

@@ -161,16 +161,6 @@ pub length-vectorOf : (d n : ℕ) → d ≤ 6 → length (vectorOf d n) ≡ d
 unfolding vectorOf digitsOf
 length-vectorOf d n h = length-take-le d (map signOf (digitsOf n)) h
 
-digitsIn-level : (k : ℕ) (v : List Sign) → Level (length v) (digitsIn k v)
-unfolding digitsIn
-digitsIn-level zero [] = all-nil (λ x. x ≡ 1)
-digitsIn-level zero (s ∷ v) = all-nil (λ x. x ≡ 1)
-digitsIn-level (suc k) [] = all-cons (λ x. x ≡ 1) refl (digitsIn-level k [])
-digitsIn-level (suc k) (s ∷ v) = digitsIn-level k v
-
-pub number-level : (v : List Sign) → Level (length v) (digitsOf (number v))
-number-level v = rw (digitsOf-number v) (digitsIn-level 6 v)
-
 -- every number below 729 is that of one vector of six signs
 pub number-six : (n : ℕ) → n < 729 → (v : List Sign) × (length v ≡ 6) × (number v ≡ n) × ((u : List Sign) → length u ≡ 6 → number u ≡ n → u ≡ v)
 number-six n h =

@@ -4,12 +4,12 @@ use mathlib.Core.Bool.{Bool, true, false, cond, _&&_}
 use mathlib.Core.List.{List, [], _∷_}
 use Prim.Native.Nat.{ℕ, _+_, _≤_, _<_}
 use lib.Dec.{eqb, ltb}
-use lib.ListN.{length, getD, set, drop}
+use lib.ListN.{length, getD, set}
 use Rattle.integers.specs.Sign.{Sign, less, equal, greater}
-use Rattle.lists.specs.Tests.{any, all}
+use Rattle.lists.specs.Tests.{any}
 use Rattle.model.specs.Directions.{bySign, sameSign}
 use Rattle.model.specs.Steps.{anySign, sumSigns, signedSign}
-use Rattle.preimages.specs.Numbers.{digit, number, base3, digitsOf, Digits, marked}
+use Rattle.preimages.specs.Numbers.{digit, number, base3, Digits, marked}
 
 -- a number, and a nest of at most six loops that has the loops named
 pub record SourceIn (n loops : ℕ) : Type 0 where
@@ -79,18 +79,3 @@ pub record GaveIn (d : List ℕ) (b s t : ℕ) : Type 0 where
 
 unfoldable pub gaveDigits : List Bool → List ℕ → ℕ → ℕ → ℕ → Bool
 gaveDigits old d b s t = mayBeDigit t s (getD d b 0) && getD old (base3 (set d b t)) false
-
--- ---- the backward test
-
--- what the code holds of a vector, and a depth
-pub record LevelIn (d : List ℕ) (depth : ℕ) : Type 0 where
-  pub digits : Digits d
-  pub few : depth ≤ 6
-
--- the signs from a depth on are =
-unfoldable pub levelFrom : List ℕ → ℕ → Bool
-levelFrom d depth = all (λ x. eqb x 1) (drop depth d)
-
--- the number is marked, and that of a vector of the depth
-unfoldable pub counts : List Bool → ℕ → ℕ → Bool
-counts marks depth n = getD marks n false && levelFrom (digitsOf n) depth

@@ -10,7 +10,7 @@ ghost use Rattle.preimages.specs.Sources.{SourceIn, Source, joined, Join
 // ---- numbers
 
 // The signs of the vector with number n, as digits: < is 0, = is 1, > is 2.
-pub fn digits(n: usize) -> [usize; 6]
+fn digits(n: usize) -> [usize; 6]
     requires { ⌜ n < 729 ⌝ }
     ensures { λ r. ⌜ r ≡ digitsOf n ⌝ }
 {

@@ -16,8 +16,9 @@ use Rattle.integers.proofs.SignLaws.{Means, sign-means, sign-self}
 use Rattle.lists.proofs.PartLaws.{row-fits}
 use Rattle.model.specs.Directions.{signs}
 use Rattle.vectors.specs.Numbers.{digit, numberAfter, number}
-use Rattle.vectors.specs.Candidates.{row, code, Constant, ConstantElse, Steady, Candidate, Covers}
-use Rattle.vectors.proofs.NumberLaws.{digit-lt, digit-unique, after-append, padded, number-lt, signs-short}
+use Rattle.vectors.specs.Candidates.{row, code, stride, Constant, ConstantElse, Steady, Candidate, Covers}
+use Rattle.vectors.proofs.NumberLaws.{digit-lt, digit-unique, after-append, padded, number-lt, signs-length, signs-short}
+use Rattle.vectors.proofs.DepthLaws.{OfDepth, depth-number, depth-least, depth-apart}
 use Rattle.vectors.proofs.VectorLaws.{row-length, row-short}
 
 -- ---- loops that do not vary
@@ -111,25 +112,34 @@ module _ (v k w : ℕ) (h : 0 < k) (g : k ≤ 6) (outer : Outer v k w) where
 
 -- ---- the table
 
--- the numbers below v are set
-abbrev pub Filled : List Bool → List Bool → ℕ → Type 0
-Filled varying possible v = (u : List Sign) → length u ≤ 6 → Steady varying u → number u < v → getD possible (number u) false ≡ true
+-- the numbers below v are set, of vectors of d loops
+abbrev pub Filled : ℕ → List Bool → List Bool → ℕ → Type 0
+Filled d varying possible v = (u : List Sign) → length u ≡ d → Steady varying u → number u < v → getD possible (number u) false ≡ true
 
-pub filled-none : (varying possible : List Bool) → Filled varying possible 0
-filled-none varying possible u l steady h = absurd (omega arith)
+module _ (d s : ℕ) (few : d ≤ 6) (e : s ≡ stride (6 - d)) (varying possible : List Bool) where
+  pub filled-none : Filled d varying possible ((s - 1) / 2)
+  filled-none u l steady h = let a = depth-least d s e (number u) (depth-number u d l) in absurd (omega arith)
 
-pub filled-more : (varying possible : List Bool) (v : ℕ) (b : Bool) → v < length possible → Candidate varying v b → Filled varying possible v → Filled varying (set possible v b) (v + 1)
-filled-more varying possible v b h c f u l steady g = ⊎-elim
-    (λ e. subst (λ z. getD (set possible v b) z false ≡ true) (sym e) (getD-set-same possible v b false h ∙ c u l steady e))
-    (λ i. getD-set-other possible v (number u) b false (lt-other i) ∙ f u l steady i)
-    (eq-or-lt-of-le (let z : number u ≤ v = omega arith in z))
+  pub filled-more : (v : ℕ) (b : Bool) → OfDepth d v → v < length possible → Candidate varying v b → Filled d varying possible v → Filled d varying (set possible v b) (v + s)
+  filled-more v b o h c f u l steady g = ⊎-elim
+      (λ i. ⊎-elim
+      (λ q. subst (λ z. getD (set possible v b) z false ≡ true) (sym q) (getD-set-same possible v b false h ∙ c u (omega arith) steady q))
+      (λ j. getD-set-other possible v (number u) b false (lt-other j) ∙ f u l steady j)
+      (eq-or-lt-of-le i))
+      (λ i. let a = depth-apart d s e v (number u) o (depth-number u d l) i in absurd (omega arith))
+      (le-cases (number u) v)
 
-pub covered : (d n : ℕ) (s : List ℤ) (varying possible : List Bool) → d ≤ 6 → n * d ≤ length s → ConstantElse d s n d varying → 729 ≤ length possible → Filled varying possible 729 → Covers d s n possible
+pub covered : (d n : ℕ) (s : List ℤ) (varying possible : List Bool) (v : ℕ) → d ≤ 6 → n * d ≤ length s → ConstantElse d s n d varying → 729 ≤ length possible → 729 ≤ v
+    → Filled d varying possible v → Covers d s n possible
 unfolding code
-covered d n s varying possible shallow stored else room f = record {
+covered d n s varying possible v shallow stored else room end f = record {
   numbers = room;
-  vectors = λ x y h g. f (signs (row d s x) (row d s y)) (short x y) (steady d n s stored varying else x y h g) (number-lt (signs (row d s x) (row d s y)) (short x y));
+  vectors = λ x y h g. let l = whole x y h g in let b = number-lt (signs (row d s x) (row d s y)) (omega arith) in
+      f (signs (row d s x) (row d s y)) l (steady d n s stored varying else x y h g) (omega arith);
 }
   where
-    short : (x y : ℕ) → length (signs (row d s x) (row d s y)) ≤ 6
-    short x y = let a = signs-short (row d s x) (row d s y) in let b = row-short d s x in omega arith
+    rows : (x : ℕ) → x < n → length (row d s x) ≡ d
+    rows x h = row-length d s x (let a = row-fits d x n h in omega arith)
+
+    whole : (x y : ℕ) → x < n → y < n → length (signs (row d s x) (row d s y)) ≡ d
+    whole x y h g = signs-length (row d s x) (row d s y) (rows x h ∙ sym (rows y g)) ∙ rows x h

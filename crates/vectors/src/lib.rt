@@ -123,16 +123,17 @@ fn candidate(v: usize, varying: &[bool]) -> bool
     true
 }
 
-// Sets the number of every vector that two of the points can have.
+// Sets the number of every vector that two of the points can have. Only numbers of vectors of the depth are visited.
 pub fn candidates(points: &[i64], depth: usize, count: usize, possible: &mut [bool])
     requires { ⌜ (depth ≤ 6) × (count * depth ≤ length (now points)) × (729 ≤ length (now possible)) ⌝ }
     ensures { λ _. ⌜ Covers depth (now (points .entry)) count (now (possible .exit)) ⌝ }
 {
     let mut varying = [false; 6];
     vary(points, depth, count, &mut varying);
-    let mut v = 0;
+    let step = stride(depth);
+    let mut v = (step - 1) / 2;
     while v < 729 {
         possible[v] = candidate(v, &varying);
-        v += 1;
+        v += step;
     }
 }

@@ -2,7 +2,7 @@
 use mathlib.Core.Path.{refl, sym, _∙_, ap}
 use mathlib.Core.Bool.{Bool, false, _||_}
 use mathlib.Core.List.{List}
-use Prim.Native.Nat.{_-_}
+use Prim.Native.Nat.{_+_, _-_}
 use native.Mathlib.Omega.{arith}
 use lib.ListN.{getD}
 use borrow.Author.Needs.{needs}
@@ -25,7 +25,7 @@ no-marks-requires : tie.Need-no-marks-requires Inv-loop μ-loop
 no-marks-requires c κs = search needs
 
 loop-holds : tie.Need-loop-holds Inv-loop μ-loop
-loop-holds c = let s = c .before .before .before in fill-first (wanted s) (s .args .s .depth) (c .no-marks .result) (c .no-marks .ensures)
+loop-holds c = let s = c .before .before .before in fill-first (wanted s) (s .args .s .depth) (c .no-marks .result) 0 (c .no-marks .ensures) (λ v k. omega arith)
 
 array-read-either : tie.Need-array-read-either Inv-loop μ-loop
 array-read-either c = c .loop-test .taken
@@ -47,7 +47,7 @@ loop-less c = search needs
 
 loop-again : tie.Need-loop-again Inv-loop μ-loop
 loop-again c = let s = c .before .before .before .before .before .before .before in let l = c .before .before .before .loop in
-    fill-next (wanted s) (s .args .s .depth) (l .marks) (l .n) (c .either .result) (c .before .before .loop-test .taken)
+    fill-next (wanted s) (s .args .s .depth) (l .marks) (l .n) (l .n + 1) (c .either .result) (c .before .before .loop-test .taken) (λ v k h. omega arith)
     (λ v k e. c .either .ensures ∙ ap (λ m. getD (s .args .s .marks) m false || getD (s .args .row .now) m false) (sym e))
     (l .inv)
 

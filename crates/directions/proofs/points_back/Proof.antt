@@ -1,51 +1,70 @@
--- `points_back`: no number from 365 on that was passed counts.
-use mathlib.Core.Path.{sym, _∙_}
-use Prim.Native.Nat.{_≤_, _-_}
+-- `points_back`: n is a number of the depth beyond 364, and none that was passed is marked.
+use Prim.Native.Nat.{_-_, _<_}
 use native.Mathlib.Omega.{arith}
-use borrow.Author.Needs.{needs}
+use Rattle.vectors.proofs.DepthLaws.{OfDepth, depth-positive, depth-middle, depth-next}
 use Rattle.directions.proofs.BackLaws.{NoneBack, none-first, none-next, one-back, no-back}
 use Rattle.directions.proofs.points_back.Statement.{statement}
 use Rattle.directions.proofs.points_back.Tie as tie
 
 abbrev Inv-loop : tie.InvT-loop
-Inv-loop marks depth n₀ n = (n ≤ 729) × (365 ≤ n) × NoneBack marks depth n
+Inv-loop marks depth step n₀ n = (364 < n) × OfDepth depth n × NoneBack marks depth n
 
 abbrev μ-loop : tie.MeasureT-loop
-μ-loop marks depth n₀ n = 729 - n
+μ-loop marks depth step n₀ n = 729 - n
+
+abbrev start : tie.After-stride Inv-loop μ-loop → tie.Start Inv-loop μ-loop
+start c = c .before .before
+
+positive : (c : tie.After-stride Inv-loop μ-loop) → 0 < c .stride .result
+positive c = depth-positive (start c .args .s .depth) (c .stride .result) (c .stride .ensures .0)
+
+stride-requires : tie.Need-stride-requires Inv-loop μ-loop
+stride-requires c κs = c .before .pre
+
+add-n : tie.Need-add-n Inv-loop μ-loop
+add-n c = let b = c .stride .ensures .1 in omega arith
 
 loop-holds : tie.Need-loop-holds Inv-loop μ-loop
-loop-holds c = let s = c .before .args .s in (omega arith, omega arith, none-first (s .marks) (s .depth))
+loop-holds c =
+    let s = start c .args .s in
+    let few = start c .pre in
+    let w = c .stride .result in
+    let e = c .stride .ensures .0 in
+    let p = positive c in
+    (omega arith, depth-next (s .depth) w e 364 (depth-middle (s .depth) few), none-first (s .marks) (s .depth) few w e)
 
-stands-requires : tie.Need-stands-requires Inv-loop μ-loop
-stands-requires c κs = record { below = c .before .loop-test .taken; few = c .before .before .before .before .pre }
+array-read-if1 : tie.Need-array-read-if1 Inv-loop μ-loop
+array-read-if1 c = c .loop-test .taken
 
 returns : tie.Need-returns Inv-loop μ-loop
 returns c =
-    let s = c .before .before .before .before .before .before in
-    let l = c .before .before .before .before .loop in
-    one-back (s .args .s .marks) (s .args .s .depth) (s .pre) (l .n) (l .inv .1) (c .before .before .before .loop-test .taken) (sym (c .before .stands .ensures) ∙ c .if1 .taken)
+    let a = c .before .before .before in
+    let s = start a .args .s in
+    let l = c .before .before .loop in
+    one-back (s .marks) (s .depth) (start a .pre) (l .n) (l .inv .1) (l .inv .0) (c .before .loop-test .taken) (c .if1 .taken)
 
-add-n : tie.Need-add-n Inv-loop μ-loop
-add-n c = search needs
+add-n-2 : tie.Need-add-n-2 Inv-loop μ-loop
+add-n-2 c = let t = c .before .loop-test .taken in let b = c .before .before .before .stride .ensures .1 in omega arith
 
 loop-less : tie.Need-loop-less Inv-loop μ-loop
-loop-less c = search needs
+loop-less c = let t = c .before .loop-test .taken in let p = positive (c .before .before .before) in omega arith
 
 loop-again : tie.Need-loop-again Inv-loop μ-loop
 loop-again c =
-    let s = c .before .before .before .before .before .before in
-    let l = c .before .before .before .before .loop in
-    let t = c .before .before .before .loop-test .taken in (
-      omega arith,
-      omega arith,
-      none-next (s .args .s .marks) (s .args .s .depth) (l .n) (sym (c .before .stands .ensures) ∙ c .if1 .left) (l .inv .2),
-    )
+    let a = c .before .before .before in
+    let s = start a .args .s in
+    let l = c .before .before .loop in
+    let w = a .stride .result in
+    let e = a .stride .ensures .0 in
+    let h = l .inv .0 in
+    (omega arith, depth-next (s .depth) w e (l .n) (l .inv .1), none-next (s .marks) (s .depth) (start a .pre) w e (l .n) (l .inv .1) (c .if1 .left) (l .inv .2))
 
 returns-2 : tie.Need-returns-2 Inv-loop μ-loop
 returns-2 c =
-    let s = c .before .before .before in
+    let a = c .before .before in
+    let s = start a .args .s in
     let l = c .before .loop in
-    no-back (s .args .s .marks) (s .args .s .depth) (s .pre) (l .n) (c .loop-test .left) (l .inv .2)
+    no-back (s .marks) (s .depth) (start a .pre) (l .n) (c .loop-test .left) (l .inv .2)
 
 pub points-back-spec : {M : Type 1} → statement M
 points-back-spec =
@@ -53,10 +72,12 @@ points-back-spec =
     (tie.spec
     Inv-loop
     μ-loop
-    loop-holds
-    stands-requires
-    returns
+    stride-requires
     add-n
+    loop-holds
+    array-read-if1
+    returns
+    add-n-2
     loop-less
     loop-again
     returns-2)
