@@ -4,16 +4,16 @@ use mathlib.Core.Path.{_≡_, refl, sym, ap, _∙_}
 use mathlib.Core.Bool.{Bool, true, false, cond, _&&_, _||_}
 use mathlib.Core.Logic.{_⊎_, inl, inr, ⊎-elim}
 use mathlib.Core.List.{List}
-use Prim.Native.Nat.{ℕ, zero, suc, _+_, _≤_, _<_}
+use Prim.Native.Nat.{ℕ, zero, suc, _+_, _-_, _≤_, _<_}
 use native.Mathlib.Nat.{eq-or-lt-of-le}
 use native.Mathlib.Numerals.{add-one}
 use native.Mathlib.Omega.{arith}
 use lib.Dec.{T, eqb}
-use lib.ListN.{length, getD, set, replicate, getD-replicate}
+use lib.ListN.{length, getD, set}
 use lib.Seq.{getD-set-same, getD-set-other}
 use borrow.Author.Count.{below-more}
 use borrow.Author.Tests.{eq-eqb, eqb-true, eqb-false}
-use Rattle.chains.specs.Search.{some, latest, upTo, Links, along}
+use Rattle.chains.specs.Search.{some, latest, upTo, Links, Clear, ClearElse, along}
 
 -- ---- chains
 
@@ -72,17 +72,35 @@ cases-upTo false x y (inr h) = absurd (h .1)
 abbrev pub Heads : List ℕ → List ℕ → ℕ → Type 0
 Heads from head y = (e : ℕ) → e < 16384 → getD head e 0 ≡ latest from e y
 
-pub heads-none : (from : List ℕ) → Heads from (replicate 16384 0) 0
+pub heads-none : (from head : List ℕ) → Clear head → Heads from head 0
 unfolding latest
-heads-none from e h = getD-replicate 16384 e 0 0 h
+heads-none from head h = h
 
-pub heads-more : (from head : List ℕ) (y f v : ℕ) → length head ≡ 16384 → f < 16384 → f ≡ getD from y 0 → v ≡ y + 1 → Heads from head y → Heads from (set head f v) (y + 1)
+pub heads-more : (from head : List ℕ) (y f v : ℕ) → 16384 ≤ length head → f < 16384 → f ≡ getD from y 0 → v ≡ y + 1 → Heads from head y → Heads from (set head f v) (y + 1)
 unfolding latest
 heads-more from head y f v l b i n h e k = rw (n, add-one y) (go (eqb (getD from y 0) e) refl)
   where
     go : (t : Bool) → eqb (getD from y 0) e ≡ t → getD (set head f (suc y)) e 0 ≡ cond (eqb (getD from y 0) e) (suc y) (latest from e y)
     go true g = let a : f ≡ e = i ∙ eqb-true (getD from y 0) e g in rw (g, a) (getD-set-same head e (suc y) 0 (omega arith))
     go false g = rw g (getD-set-other head f e (suc y) 0 (λ a. eqb-false (getD from y 0) e g (sym i ∙ sym a)) ∙ h e k)
+
+-- the heads are taken away again, the latest place first
+
+pub heads-else : (from head : List ℕ) (y : ℕ) → Heads from head y → ClearElse from head y
+heads-else from head y h e k l = h e k ∙ l
+
+pub clear-less : (from head : List ℕ) (y f : ℕ) → 16384 ≤ length head → 0 < y → f ≡ getD from (y - 1) 0 → ClearElse from head y → ClearElse from (set head f 0) (y - 1)
+unfolding latest
+clear-less from head y f l p i h e k none = go (eqb (getD from (y - 1) 0) e) refl
+  where
+    go : (t : Bool) → eqb (getD from (y - 1) 0) e ≡ t → getD (set head f 0) e 0 ≡ 0
+    go true g = let a : f ≡ e = i ∙ eqb-true (getD from (y - 1) 0) e g in rw a (getD-set-same head e 0 0 (omega arith))
+    go false g = getD-set-other head f e 0 0 (λ a. eqb-false (getD from (y - 1) 0) e g (sym i ∙ sym a))
+        ∙ h e k (let j : y ≡ suc (y - 1) = (let z : y ≡ (y - 1) + 1 = omega arith in z) ∙ add-one (y - 1) in ap (latest from e) j ∙ ap (λ b. cond b (suc (y - 1)) (latest from e (y - 1))) g ∙ none)
+
+pub clear-all : (from head : List ℕ) (y : ℕ) → y ≤ 0 → ClearElse from head y → Clear head
+unfolding latest
+clear-all from head y l h e k = h e k (ap (latest from e) (let z : y ≡ 0 = omega arith in z))
 
 -- ---- links
 

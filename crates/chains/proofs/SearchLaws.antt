@@ -20,12 +20,12 @@ module _ (s : List ℤ) (d : ℕ) (from to : List ℕ) (own : Bool) (base : ℕ)
     pub inside : y ≤ length from
     pub light : spent ≤ 729
     pub same-length : length m ≡ length m₀
-    pub table : length next ≡ 4096
+    pub table : length from ≤ length next
     pub nexts : Links from from false next
     pub starts : Links from to own start
     pub adds : Adds m₀ m (found d s y from to own base)
 
-  pub search-begins : (next start : List ℕ) (m : List Bool) → length next ≡ 4096 → Links from from false next → Links from to own start → Searching next start m m 0 0
+  pub search-begins : (next start : List ℕ) (m : List Bool) → length from ≤ length next → Links from from false next → Links from to own start → Searching next start m m 0 0
   unfolding found
   search-begins next start m l n k = record {
     inside = omega arith;

@@ -34,11 +34,21 @@ Below m numbers = (i : ℕ) → i < length numbers → getD numbers i 0 < m
 abbrev pub Links : List ℕ → List ℕ → Bool → List ℕ → Type 0
 Links from to own out = (y : ℕ) → y < length from → getD out y 0 ≡ latest from (getD to y 0) (upTo own y)
 
-pub record Linkable (from to out : List ℕ) : Type 0 where
+-- no element has a head
+abbrev pub Clear : List ℕ → Type 0
+Clear head = (e : ℕ) → e < 16384 → getD head e 0 ≡ 0
+
+-- no element has a head but those that `from` has below y
+abbrev pub ClearElse : List ℕ → List ℕ → ℕ → Type 0
+ClearElse from head y = (e : ℕ) → e < 16384 → latest from e y ≡ 0 → getD head e 0 ≡ 0
+
+pub record Linkable (from to head out : List ℕ) : Type 0 where
   pub few : length from ≤ 4096
   pub both : length to ≡ length from
   pub sources : Below 16384 from
   pub sinks : Below 16384 to
+  pub heads : 16384 ≤ length head
+  pub clear : Clear head
   pub room : length from ≤ length out
 
 -- ---- marks
@@ -90,3 +100,18 @@ pub record Searchable (s : List ℤ) (d : ℕ) (from to : List ℕ) (base : ℕ)
   pub sources : Below 16384 from
   pub sinks : Below 16384 to
   pub room : base + 729 ≤ length marks
+
+-- the links of the sources are there; a head for each element is lent, and room for the links of the sinks
+pub record Linked (from next head start : List ℕ) : Type 0 where
+  pub nexts : Links from from false next
+  pub table : length from ≤ length next
+  pub heads : 16384 ≤ length head
+  pub clear : Clear head
+  pub room : length from ≤ length start
+
+-- the links of the sources and of the sinks are there
+pub record Followable (from to : List ℕ) (own : Bool) (next start : List ℕ) : Type 0 where
+  pub nexts : Links from from false next
+  pub starts : Links from to own start
+  pub table : length from ≤ length next
+  pub room : length from ≤ length start

@@ -12,8 +12,8 @@ use borrow.Author.Tests.{lt-ltb, le-ltb}
 use Rattle.lists.proofs.PartLaws.{row-fits}
 use Rattle.vectors.specs.Numbers.{placeOf}
 use Rattle.vectors.specs.Candidates.{Covers}
-use Rattle.chains.specs.Search.{some, Below, found, Adds, Searchable}
-use Rattle.dependence.specs.Flat.{Flat, numberAt, statementOf, writesAt, Ready, kindOf, numbersOf, setBy, setFrom, Listed, Alike}
+use Rattle.chains.specs.Search.{some, Below, Links, Clear, Linkable, Linked, found, Adds, Searchable}
+use Rattle.dependence.specs.Flat.{Flat, numberAt, statementOf, writesAt, Ready, kindOf, numbersOf, setBy, setFrom, Listed, Alike, Lent}
 
 -- ---- places of marks
 
@@ -67,6 +67,25 @@ module _ (F : Flat) (marks : List Bool) (ok : Ready F marks) where
       → Covers (F .depth) (F .points) (length (take (a * 4096 + F .count - a * 4096) (drop (a * 4096) (F .numbers)))) possible
   call-covers a possible h c = rw (part-is (F .count) (F .numbers) a, numbers-length a h) c
 
+  -- the links of a source access
+
+  pub call-linkable : (a : ℕ) (next head start : List ℕ) → a < length (F .statements) → Lent (F .count) next head start
+      → Linkable (take (a * 4096 + F .count - a * 4096) (drop (a * 4096) (F .numbers))) (take (a * 4096 + F .count - a * 4096) (drop (a * 4096) (F .numbers))) head next
+  call-linkable a next head start h l = rw (part-is (F .count) (F .numbers) a) (linkable (numbers-length a h))
+    where
+      linkable : length (numbersOf (F .count) (F .numbers) a) ≡ F .count → Linkable (numbersOf (F .count) (F .numbers) a) (numbersOf (F .count) (F .numbers) a) head next
+      linkable e = let p = ok .few in let r = l .nexts in record { few = omega arith; both = refl; sources = numbers-below a h; sinks = numbers-below a h; heads = l .heads; clear = l .clear; room = omega arith }
+
+  pub linked : (a : ℕ) (next head start next′ head′ : List ℕ) → a < length (F .statements) → Lent (F .count) next head start
+      → Links (take (a * 4096 + F .count - a * 4096) (drop (a * 4096) (F .numbers))) (take (a * 4096 + F .count - a * 4096) (drop (a * 4096) (F .numbers))) false next′
+      → length next′ ≡ length next → length head′ ≡ length head → Clear head′ → Linked (numbersOf (F .count) (F .numbers) a) next′ head′ start
+  linked a next head start next′ head′ h l k m n c = let e = numbers-length a h in let p = l .nexts in let q = l .heads in let r = l .starts in
+      record { nexts = rw (part-is (F .count) (F .numbers) a) at k; table = omega arith; heads = omega arith; clear = c; room = omega arith }
+
+  pub call-linked : (a : ℕ) (next head start : List ℕ) → Linked (numbersOf (F .count) (F .numbers) a) next head start
+      → Linked (take (a * 4096 + F .count - a * 4096) (drop (a * 4096) (F .numbers))) next head start
+  call-linked a next head start l = rw (part-is (F .count) (F .numbers) a) l
+
   call-found : (a b k base : ℕ) → a < length (F .statements) → k ≡ kindOf (writesAt F a) (writesAt F b) → k < 3 → base ≡ placeOf (F .body) (statementOf F a) (statementOf F b) k 0
       → (j : ℕ) → found (F .depth) (F .points) (length (take (a * 4096 + F .count - a * 4096) (drop (a * 4096) (F .numbers)))) (take (a * 4096 + F .count - a * 4096) (drop (a * 4096) (F .numbers))) (take (b * 4096 + F .count - b * 4096) (drop (b * 4096) (F .numbers)))
       (ltb (statementOf F a) (statementOf F b)) base j ≡ setBy F a b j
@@ -85,6 +104,9 @@ module _ (F : Flat) (marks : List Bool) (ok : Ready F marks) where
   unfolding setBy
   no-call a b k e l j = let t : ltb (kindOf (writesAt F a) (writesAt F b)) 3 ≡ false = le-ltb (kindOf (writesAt F a) (writesAt F b)) 3 (rw e at l) in
       rw t (sym (or-false (getD marks j false)))
+
+pub linked-still : (from next head start head′ start′ : List ℕ) → length head′ ≡ length head → Clear head′ → length start′ ≡ length start → Linked from next head start → Linked from next head′ start′
+linked-still from next head start head′ start′ e c f l = let h = l .heads in let r = l .room in record { nexts = l .nexts; table = l .table; heads = omega arith; clear = c; room = omega arith }
 
 -- marks of the same length
 pub ready-still : (F : Flat) (m m′ : List Bool) → length m′ ≡ length m → Ready F m → Ready F m′

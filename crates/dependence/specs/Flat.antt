@@ -15,7 +15,7 @@ use Rattle.model.specs.Directions.{Line, occurs, allLines}
 use Rattle.model.specs.Inside.{Earlier}
 use Rattle.vectors.specs.Numbers.{place, placeOf}
 use Rattle.vectors.specs.Candidates.{row}
-use Rattle.chains.specs.Search.{some, found}
+use Rattle.chains.specs.Search.{some, found, Clear}
 
 -- ---- flat data
 
@@ -137,3 +137,12 @@ pub record Alike (n : ℕ) (numbers statements : List ℕ) (writes : List Bool) 
 pub record FirstLike (n : ℕ) (numbers statements : List ℕ) (writes : List Bool) (a r : ℕ) : Type 0 where
   pub earlier : r ≤ a
   pub alike : r < a → Alike n numbers statements writes r a
+
+-- ---- what is lent for links
+
+-- room for the links of n sources and n sinks, and a head for each element, of which none is there
+pub record Lent (n : ℕ) (next head start : List ℕ) : Type 0 where
+  pub nexts : n ≤ length next
+  pub heads : 16384 ≤ length head
+  pub clear : Clear head
+  pub starts : n ≤ length start

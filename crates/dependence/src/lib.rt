@@ -4,9 +4,9 @@ ghost use mathlib.Core.Bool.{true, false};
 ghost use Prim.Native.Nat.{_+_, _*_, _-_, _^_, _≤_, _<_};
 ghost use lib.ListN.{length};
 ghost use Rattle.vectors.specs.Numbers.{placeOf};
-ghost use Rattle.chains.specs.Search.{Adds};
+ghost use Rattle.chains.specs.Search.{Adds, Clear, Linked};
 ghost use Rattle.vectors.specs.Candidates.{Covers};
-ghost use Rattle.dependence.specs.Flat.{flat, Ready, Searched, kindOf, setBy, setFrom, Listed, Alike, FirstLike};
+ghost use Rattle.dependence.specs.Flat.{flat, Ready, Searched, kindOf, numbersOf, setBy, setFrom, Lent, Listed, Alike, FirstLike};
 
 // ---- accesses that are searched once
 
@@ -96,7 +96,7 @@ fn block(body: usize, s: usize, t: usize, k: usize) -> usize
     ((s * body + t) * 3 + k) * 729
 }
 
-// Marks the conflicts of access a, as the source, with access b.
+// Marks the conflicts of access a, as the source, with access b. The links of a are lent.
 fn between(
     points: &[i64],
     depth: usize,
@@ -108,10 +108,13 @@ fn between(
     body: usize,
     a: usize,
     b: usize,
+    next: &[u16],
+    head: &mut [u16],
+    start: &mut [u16],
     marks: &mut [bool],
 )
-    requires { ⌜ Ready (flat (now points) depth count (now numbers) (now statements) (now writes) body) (now marks) × (a < length (now statements)) × (b < length (now statements)) × Covers depth (now points) count (now possible) ⌝ }
-    ensures { λ _. ⌜ Adds (now (marks .entry)) (now (marks .exit)) (setBy (flat (now (points .entry)) depth count (now (numbers .entry)) (now (statements .entry)) (now (writes .entry)) body) a b) ⌝ }
+    requires { ⌜ Ready (flat (now points) depth count (now numbers) (now statements) (now writes) body) (now marks) × (a < length (now statements)) × (b < length (now statements)) × Covers depth (now points) count (now possible) × Linked (numbersOf count (now numbers) a) (now next) (now head) (now start) ⌝ }
+    ensures { λ _. ⌜ Adds (now (marks .entry)) (now (marks .exit)) (setBy (flat (now (points .entry)) depth count (now (numbers .entry)) (now (statements .entry)) (now (writes .entry)) body) a b) × Clear (now (head .exit)) ⌝ }
 {
     let k = kind(writes[a], writes[b]);
     if k < 3 {
@@ -125,6 +128,9 @@ fn between(
             &numbers[b * 4096..b * 4096 + count],
             s < t,
             block(body, s, t, k),
+            next,
+            head,
+            start,
             marks,
         );
     }
@@ -141,11 +147,21 @@ fn from_access(
     writes: &[bool],
     body: usize,
     a: usize,
+    next: &mut [u16],
+    head: &mut [u16],
+    start: &mut [u16],
     marks: &mut [bool],
 )
-    requires { ⌜ Ready (flat (now points) depth count (now numbers) (now statements) (now writes) body) (now marks) × (a < length (now statements)) × Covers depth (now points) count (now possible) ⌝ }
-    ensures { λ _. ⌜ Adds (now (marks .entry)) (now (marks .exit)) (setFrom (flat (now (points .entry)) depth count (now (numbers .entry)) (now (statements .entry)) (now (writes .entry)) body) a) ⌝ }
+    requires { ⌜ Ready (flat (now points) depth count (now numbers) (now statements) (now writes) body) (now marks) × (a < length (now statements)) × Covers depth (now points) count (now possible) × Lent count (now next) (now head) (now start) ⌝ }
+    ensures { λ _. ⌜ Adds (now (marks .entry)) (now (marks .exit)) (setFrom (flat (now (points .entry)) depth count (now (numbers .entry)) (now (statements .entry)) (now (writes .entry)) body) a) × Clear (now (head .exit)) ⌝ }
 {
+    chains::link(
+        &numbers[a * 4096..a * 4096 + count],
+        &numbers[a * 4096..a * 4096 + count],
+        false,
+        head,
+        next,
+    );
     let mut b = 0;
     while b < statements.len() {
         if first_like(count, numbers, statements, writes, b) == b {
@@ -160,6 +176,9 @@ fn from_access(
                 body,
                 a,
                 b,
+                next,
+                head,
+                start,
                 marks,
             );
         }
@@ -183,6 +202,9 @@ pub fn dependences(
 {
     let mut possible = [false; 729];
     vectors::candidates(points, depth, count, &mut possible);
+    let mut next = [0u16; 4096];
+    let mut head = [0u16; 16384];
+    let mut start = [0u16; 4096];
     let mut a = 0;
     while a < statements.len() {
         if first_like(count, numbers, statements, writes, a) == a {
@@ -196,6 +218,9 @@ pub fn dependences(
                 writes,
                 body,
                 a,
+                &mut next,
+                &mut head,
+                &mut start,
                 marks,
             );
         }

@@ -1,45 +1,49 @@
 -- `link` meets its contract. The loop's invariant: the heads are those of the places before y, and the links before y are there.
-use mathlib.Core.Path.{_≡_, refl}
+use mathlib.Core.Path.{_≡_, refl, _∙_, subst}
 use mathlib.Core.Logic.{⊎-elim, inl, inr}
 use Prim.Native.Nat.{ℕ, _+_, _-_, _≤_, _<_}
 use native.Mathlib.Omega.{arith}
-use lib.ListN.{length, getD, set, length-set, length-replicate}
+use lib.ListN.{length, getD, set, length-set}
 use borrow.Author.Needs.{needs}
 use borrow.Author.Count.{below-none}
-use Rattle.chains.specs.Search.{latest, upTo}
-use Rattle.chains.proofs.ChainLaws.{Heads, heads-none, heads-more, links-more, link-turn}
+use Rattle.chains.specs.Search.{latest, upTo, ClearElse}
+use Rattle.chains.proofs.ChainLaws.{Heads, heads-none, heads-more, heads-else, links-more, link-turn}
 use Rattle.chains.proofs.link.Statement.{statement}
 use Rattle.chains.proofs.link.Tie as tie
 
 abbrev Inv-loop : tie.InvT-loop
-Inv-loop from to own out₀ head₀ y₀ out head y = (y ≤ length from) × (length head ≡ 16384) × (length out ≡ length out₀) × Heads from head y × ((k : ℕ) → k < y → getD out k 0 ≡ latest from (getD to k 0) (upTo own k))
+Inv-loop from to own head₀ out₀ y₀ head out y = (y ≤ length from) × (length head ≡ length head₀) × (length out ≡ length out₀) × Heads from head y × ((k : ℕ) → k < y → getD out k 0 ≡ latest from (getD to k 0) (upTo own k))
 
 abbrev μ-loop : tie.MeasureT-loop
-μ-loop from to own out₀ head₀ y₀ out head y = length from - y
+μ-loop from to own head₀ out₀ y₀ head out y = length from - y
 
 -- the two elements
 e-lt : (c : tie.After-wide Inv-loop μ-loop) → c .wide .result < 16384
-e-lt c = let s = c .before .before .before .before .before .before .before in let l = c .before .before .before .loop in
+e-lt c = let s = c .before .before .before .before .before .before .before .before in let l = c .before .before .before .loop in
     let h = s .pre .sinks (l .y) (omega (arith, s .pre .both, c .before .before .loop-test .taken)) in let e = c .wide .ensures in omega arith
 
 f-lt : (c : tie.After-wide2 Inv-loop μ-loop) → c .wide2 .result < 16384
-f-lt c = let s = c .before .before .before .before .before .before .before .before .before .before in let l = c .before .before .before .before .before .before .loop in
-    let h = s .pre .sources (l .y) (c .before .before .before .before .before .loop-test .taken) in let e = c .wide2 .ensures in omega arith
+f-lt c = let s = c .before .before .before .before .before .before .before .before .before .before .before .before in let l = c .before .before .before .before .before .before .before .loop in
+    let h = s .pre .sources (l .y) (c .before .before .before .before .before .before .loop-test .taken) in let e = c .wide2 .ensures in omega arith
+
+-- a head for each element
+room : (c : tie.At-loop Inv-loop μ-loop) → 16384 ≤ length (c .loop .head)
+room c = let r = c .before .before .before .before .before .pre .heads in let e = c .loop .inv .1 in omega arith
 
 -- the heads with y
-heads-next : (c : tie.After-wide2 Inv-loop μ-loop) → (let l = c .before .before .before .before .before .before .loop in Heads (c .before .before .before .before .before .before .before .before .before .before .args .from .now) (set (l .head) (c .wide2 .result) (c .before .before .narrow .result)) (l .y + 1))
-heads-next c = let s = c .before .before .before .before .before .before .before .before .before .before in let l = c .before .before .before .before .before .before .loop in
-    heads-more (s .args .from .now) (l .head) (l .y) (c .wide2 .result) (c .before .before .narrow .result) (l .inv .1) (f-lt c) (c .wide2 .ensures) (c .before .before .narrow .ensures) (l .inv .3)
+heads-next : (c : tie.After-wide2 Inv-loop μ-loop) → (let l = c .before .before .before .before .before .before .before .loop in Heads (c .before .before .before .before .before .before .before .before .before .before .before .before .args .from .now) (set (l .head) (c .wide2 .result) (c .before .before .narrow .result)) (l .y + 1))
+heads-next c = let s = c .before .before .before .before .before .before .before .before .before .before .before .before in let l = c .before .before .before .before .before .before .before .loop in
+    heads-more (s .args .from .now) (l .head) (l .y) (c .wide2 .result) (c .before .before .narrow .result) (room (c .before .before .before .before .before .before .before)) (f-lt c) (c .wide2 .ensures) (c .before .before .narrow .ensures) (l .inv .3)
 
 -- the link of y
-link-is : (c : tie.Joined1 Inv-loop μ-loop) → (let s = c .before .before .before .before .before .before .before .before .before .before .before in let l = c .before .before .before .before .before .before .before .loop in c .if1 .l ≡ latest (s .args .from .now) (getD (s .args .to .now) (l .y) 0) (upTo (s .args .own) (l .y)))
-link-is c = let s = c .before .before .before .before .before .before .before .before .before .before .before in let l = c .before .before .before .before .before .before .before .loop in
-    let w = c .before .before .before .before .wide in
-    link-turn (s .args .from .now) (l .head) (set (l .head) (c .before .wide2 .result) (c .before .before .before .narrow .result)) (s .args .own) (l .y) (w .result) (getD (s .args .to .now) (l .y) 0) (c .if1 .l) (e-lt (c .before .before .before .before)) (w .ensures) (l .inv .3) (heads-next (c .before))
-    (⊎-elim (λ w. inl (w .0 .taken, w .1)) (λ w. inr (w .0 .left, w .1)) (c .if1 .came))
+link-is : (c : tie.Joined1 Inv-loop μ-loop) → (let s = c .before .before .before .before .before .before .before .before .before .before .before .before .before in let l = c .before .before .before .before .before .before .before .before .loop in c .if1 .l ≡ latest (s .args .from .now) (getD (s .args .to .now) (l .y) 0) (upTo (s .args .own) (l .y)))
+link-is c = let s = c .before .before .before .before .before .before .before .before .before .before .before .before .before in let l = c .before .before .before .before .before .before .before .before .loop in
+    let w = c .before .before .before .before .before .wide in
+    link-turn (s .args .from .now) (l .head) (set (l .head) (c .before .wide2 .result) (c .before .before .before .narrow .result)) (s .args .own) (l .y) (w .result) (getD (s .args .to .now) (l .y) 0) (c .if1 .l) (e-lt (c .before .before .before .before .before)) (w .ensures) (l .inv .3) (heads-next (c .before))
+    (⊎-elim (λ w. inl (w .0 .taken, w .2)) (λ w. inr (w .0 .left, w .1)) (c .if1 .came))
 
 loop-holds : tie.Need-loop-holds Inv-loop μ-loop
-loop-holds c = let s = c .before .before .before in (omega arith, length-replicate {A = ℕ} 16384 0, refl, heads-none (s .args .from .now), below-none _)
+loop-holds c = let s = c .before .before .before .before in (omega arith, refl, refl, heads-none (s .args .from .now) (s .args .head .now) (s .pre .clear), below-none _)
 
 mul-wide : tie.Need-mul-wide Inv-loop μ-loop
 mul-wide c = search needs
@@ -53,8 +57,8 @@ wide-requires c κs = search needs
 mul-l : tie.Need-mul-l Inv-loop μ-loop
 mul-l c = let h = e-lt c in omega arith
 
-array-read-l : tie.Need-array-read-l Inv-loop μ-loop
-array-read-l c = e-lt c
+slice-read-l : tie.Need-slice-read-l Inv-loop μ-loop
+slice-read-l c = let h = e-lt (c .before) in let r = room (c .before .before .before .before) in omega arith
 
 add-narrow : tie.Need-add-narrow Inv-loop μ-loop
 add-narrow c = search needs
@@ -74,14 +78,14 @@ wide-requires-2 c κs = search needs
 mul-head : tie.Need-mul-head Inv-loop μ-loop
 mul-head c = let h = f-lt c in omega arith
 
-array-write-head : tie.Need-array-write-head Inv-loop μ-loop
-array-write-head c = f-lt c
+slice-write-head : tie.Need-slice-write-head Inv-loop μ-loop
+slice-write-head c = let h = f-lt c in let r = room (c .before .before .before .before .before .before .before) in omega arith
 
 mul-l-2 : tie.Need-mul-l-2 Inv-loop μ-loop
-mul-l-2 c = let h = e-lt (c .before .before .before .before) in omega arith
+mul-l-2 c = let h = e-lt (c .before .before .before .before .before) in omega arith
 
-array-read-l-2 : tie.Need-array-read-l-2 Inv-loop μ-loop
-array-read-l-2 c = e-lt (c .before .before .before .before)
+slice-read-l-2 : tie.Need-slice-read-l-2 Inv-loop μ-loop
+slice-read-l-2 c = let h = e-lt (c .before .before .before .before .before .before) in let r = room (c .before .before .before .before .before .before .before .before .before) in simp length-set (omega arith)
 
 mul-out : tie.Need-mul-out Inv-loop μ-loop
 mul-out c = search needs
@@ -96,8 +100,8 @@ loop-less : tie.Need-loop-less Inv-loop μ-loop
 loop-less c = search needs
 
 loop-again : tie.Need-loop-again Inv-loop μ-loop
-loop-again c = let s = c .before .before .before .before .before .before .before .before .before .before .before in let l = c .before .before .before .before .before .before .before .loop in
-    let t = c .before .before .before .before .before .before .loop-test .taken in (
+loop-again c = let s = c .before .before .before .before .before .before .before .before .before .before .before .before .before in let l = c .before .before .before .before .before .before .before .before .loop in
+    let t = c .before .before .before .before .before .before .before .loop-test .taken in (
       omega arith,
       simp length-set (l .inv .1),
       simp length-set (l .inv .2),
@@ -105,11 +109,18 @@ loop-again c = let s = c .before .before .before .before .before .before .before
       links-more (s .args .from .now) (s .args .to .now) (s .args .own) (l .out) (l .y) (c .if1 .l) (omega (arith, s .pre .room, l .inv .2)) (link-is c) (l .inv .4),
     )
 
+clear-requires : tie.Need-clear-requires Inv-loop μ-loop
+clear-requires c κs = let s = c .before .before .before .before .before .before .before in let l = c .before .before .loop in let i = l .inv .0 in let t = c .before .loop-test .left in let e : l .y ≡ length (s .args .from .now) = omega arith in
+    (s .pre .sources, room (c .before .before), subst (ClearElse (s .args .from .now) (l .head)) e (heads-else (s .args .from .now) (l .head) (l .y) (l .inv .3)))
+
 same-length : tie.Need-same-length Inv-loop μ-loop
-same-length c = search needs
+same-length c = c .before .before .clear .kept .1 .0 ∙ c .before .before .before .before .before .loop .inv .1
+
+same-length-2 : tie.Need-same-length-2 Inv-loop μ-loop
+same-length-2 c = c .before .before .before .before .before .loop .inv .2
 
 returns : tie.Need-returns Inv-loop μ-loop
-returns c = λ y h. c .before .loop .inv .4 y (let t = c .loop-test .left in omega arith)
+returns c = ((λ y h. c .before .before .before .before .before .loop .inv .4 y (let t = c .before .before .before .before .loop-test .left in omega arith)), c .before .before .clear .ensures)
 
 pub link-spec : {M : Type 1} → statement M
 link-spec =
@@ -122,20 +133,22 @@ link-spec =
     shared-slice-read-wide
     wide-requires
     mul-l
-    array-read-l
+    slice-read-l
     add-narrow
     narrow-requires
     mul-wide-2
     shared-slice-read-wide-2
     wide-requires-2
     mul-head
-    array-write-head
+    slice-write-head
     mul-l-2
-    array-read-l-2
+    slice-read-l-2
     mul-out
     slice-write-out
     add-y
     loop-less
     loop-again
+    clear-requires
     same-length
+    same-length-2
     returns)
