@@ -47,7 +47,7 @@ impl Shapes {
     }
 
     fn styled(&mut self, x: f64, y: f64, size: f64, style: &str, text: &str) {
-        let text = text.replace('&', "&amp;").replace('<', "&lt;").replace('>', "&gt;");
+        let text = escaped(text);
         self.line(format_args!(
             "<text x=\"{x:.1}\" y=\"{y:.1}\" font-size=\"{size:.0}\"{style}>{text}</text>"
         ));
@@ -137,6 +137,10 @@ impl Shapes {
     }
 }
 
+fn escaped(text: &str) -> String {
+    text.replace('&', "&amp;").replace('<', "&lt;").replace('>', "&gt;")
+}
+
 fn wrapped(line: &str, columns: usize) -> Vec<String> {
     let mut parts: Vec<String> = Vec::new();
     for word in line.split(' ') {
@@ -186,10 +190,11 @@ fn framed(width: f64, height: f64, caption: &[String], shapes: &str) -> String {
         )
     };
     let heads = [head("order", ORDER, 9.0), head("kept", KEPT, 11.0), head("traded", TRADED, 13.0)].concat();
-    let title = caption.first().map_or("", String::as_str);
+    let title = escaped(caption.first().map_or("", String::as_str));
+    let description = escaped(&caption.get(1..).unwrap_or(&[]).join(" "));
     format!(
         "<svg xmlns=\"http://www.w3.org/2000/svg\" width=\"{width:.0}\" height=\"{height:.0}\" viewBox=\"0 0 {width:.0} {height:.0}\" \
-         font-family=\"DejaVu Sans, Verdana, Helvetica, Arial, sans-serif\" fill=\"{INK}\">\n<title>{title}</title>\n<defs>\n{heads}</defs>\n\
+         font-family=\"DejaVu Sans, Verdana, Helvetica, Arial, sans-serif\" fill=\"{INK}\">\n<title>{title}</title>\n<desc>{description}</desc>\n<defs>\n{heads}</defs>\n\
          <rect width=\"100%\" height=\"100%\" fill=\"{PAPER}\"/>\n{shapes}</svg>\n"
     )
 }
