@@ -66,15 +66,13 @@ impl Scale {
         }
     }
 
-    /// The curve of an arrow between two centres. It bends to the left of its direction, so that arrows forth and back are parted.
+    /// The curve of an arrow between two centres. It bends to the left of its direction, so that arrows forth and back are parted; one that
+    /// runs down to the left bends to the right, away from the row that it reaches.
     fn curve(&self, from: (f64, f64), to: (f64, f64)) -> Curve {
         let (dx, dy) = (to.0 - from.0, to.1 - from.1);
         let length = dx.hypot(dy);
-        let bend = if self.flat {
-            (0.45 * length).max(34.0)
-        } else {
-            (0.27 * length).max(18.0)
-        };
+        let side = if dx < 0.0 && dy > 0.0 { -1.0 } else { 1.0 };
+        let bend = side * if self.flat { self.arc(length) } else { (0.27 * length).max(18.0) };
         let control = (
             (from.0 + to.0) / 2.0 + dy / length * bend,
             (from.1 + to.1) / 2.0 - dx / length * bend,
@@ -84,6 +82,12 @@ impl Scale {
             control,
             end: towards(to, control, self.radius + 2.0),
         }
+    }
+
+    /// The bend in one row: longer arrows rise more steeply, so that those which meet fan out.
+    fn arc(&self, length: f64) -> f64 {
+        let steepness = (0.46 + 0.06 * length / self.cell).min(0.9);
+        steepness * length
     }
 }
 
