@@ -30,7 +30,7 @@
 //! | to have | see |
 //! |---|---|
 //! | a ticket from bytes, words, a text or code | [`Ticket`], [`text`], [`NestBuilder`] |
-//! | an answer | [`judge`], [`write`], [`list`], [`quick`], [`run`] |
+//! | an answer | [`judge`], [`write()`], [`list`], [`quick`], [`run`] |
 //! | what an answer says | [`Judgement`], [`Refusal`], [`Listing`], [`Independence`] |
 //! | the entries on bytes as they are | [`entries`] |
 //! | a picture | [`draw`] |

@@ -212,3 +212,57 @@ fn errors_say_where_and_what() {
         Ok(vec![-32768])
     );
 }
+
+/// Numbers that look random and are the same in every run.
+fn numbers() -> impl FnMut(usize) -> usize {
+    let mut state = 0x2545_f491_4f6c_dd1du64;
+    move |below| {
+        state ^= state << 13;
+        state ^= state >> 7;
+        state ^= state << 17;
+        (state % below as u64) as usize
+    }
+}
+
+#[test]
+fn mangled_words_read_back_where_they_are_a_nest() {
+    let mut number = numbers();
+    let mut read = 0;
+    for ticket in tickets().iter().cycle().take(4000) {
+        let mut words = ticket.words();
+        for _ in 0..=number(2) {
+            if !words.is_empty() {
+                let at = number(words.len());
+                words[at] = [number(8) as i16 - 2, number(65536) as u16 as i16][number(2)];
+            }
+        }
+        if let Ok(nest) = Nest::from_words(&words) {
+            round_trip(&Ticket::from_words(&words), &nest);
+            read += 1;
+        }
+    }
+    assert!(read > 500, "{read} nests");
+}
+
+#[test]
+fn mangled_texts_end_in_a_nest_or_a_message() {
+    let source =
+        "array A(4, 4) # bins\nfor i = max(0, 1/2) to 3\n for j = -i to min((2*i+1)/3, 3)\n  A(i, j) = max(A(i-1, 0), 5)\nskew 1 2 by -1\n";
+    let pieces = [
+        "(", ")", "/", "*", "-", "+", ",", "=", "for", "to", "array", " ", "\n", "#", "j", "A", "7", "99999", "max", "é", "−", "by",
+    ];
+    let mut number = numbers();
+    for _ in 0..4000 {
+        let mut chars: Vec<char> = source.chars().collect();
+        for _ in 0..=number(3) {
+            let at = number(chars.len());
+            let until = (at + number(4)).min(chars.len());
+            chars.splice(at..until, pieces[number(pieces.len())].chars());
+        }
+        let text: String = chars.into_iter().collect();
+        match text::parse(&text) {
+            Ok(parsed) => assert_eq!(parsed.nest.to_words().expect("words").len(), parsed.places.words.len(), "{text}"),
+            Err(error) => assert!(error.span.line >= 1 && !text::excerpt(&text, error.span).is_empty()),
+        }
+    }
+}

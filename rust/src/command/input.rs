@@ -2,9 +2,10 @@
 
 use super::Failure;
 use super::options::Options;
+use super::output::complain;
 use hurkeztor::text::{self, Names, ParseError, Places, excerpt};
 use hurkeztor::{Nest, Ticket};
-use std::io::Read;
+use std::io::{IsTerminal, Read};
 
 /// The forms of a ticket.
 #[derive(Clone, Copy, PartialEq, Eq)]
@@ -73,6 +74,9 @@ impl Input {
 pub fn bytes_of(file: Option<&str>) -> Result<(String, Vec<u8>), Failure> {
     let (name, read) = match file {
         None | Some("-") => {
+            if std::io::stdin().is_terminal() {
+                complain("reading from the terminal; Ctrl-D ends the input\n");
+            }
             let mut bytes = Vec::new();
             ("<standard input>", std::io::stdin().lock().read_to_end(&mut bytes).map(|_| bytes))
         }

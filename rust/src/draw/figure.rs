@@ -109,7 +109,6 @@ fn towards(from: (f64, f64), to: (f64, f64), distance: f64) -> (f64, f64) {
 
 impl Figure {
     pub fn of(view: &View) -> Figure {
-        let scale = Scale::of(view);
         let mut shapes = Shapes::default();
         shapes.bold(0.0, TITLE, TITLE, &view.title);
         let title = text_width(&view.title, TITLE) * 1.08;
@@ -121,76 +120,114 @@ impl Figure {
                 shapes,
             };
         }
-        let centre = |spot: Spot| {
-            let (row, column) = (spot.0 - view.rows.values.start(), spot.1 - view.columns.values.start());
-            (column as f64 * scale.cell, row as f64 * scale.cell)
+        let layout = Layout {
+            view,
+            scale: Scale::of(view),
         };
-        let corner = centre((*view.rows.values.end(), *view.columns.values.end()));
-        let mut bounds = Bounds {
-            left: -scale.radius,
-            top: -scale.radius,
-            right: corner.0 + scale.radius,
-            bottom: corner.1 + scale.radius,
-        };
-        let curves: Vec<(Curve, Arrow)> = view
-            .arrows
-            .iter()
-            .map(|arrow| (scale.curve(centre(arrow.from), centre(arrow.to)), *arrow))
-            .collect();
-        for (curve, _) in &curves {
-            bounds.include(curve.middle(), 6.0);
-        }
-        let labels = view
-            .rows
-            .values
-            .clone()
-            .map(|row| text_width(&label(row, &view.rows), LABEL))
-            .fold(0.0, f64::max);
-        let left = if scale.flat { 0.0 } else { labels.max(34.0) + 14.0 };
-        let (x0, y0) = (left - bounds.left, TITLE + 62.0 - bounds.top);
-        shapes.open_group(x0, y0);
-        axes(&mut shapes, view, &scale, bounds, &centre);
-        order(&mut shapes, view, &scale, &centre);
+        let curves = layout.curves();
+        let bounds = layout.bounds(&curves);
+        let (x, y) = (layout.row_labels() - bounds.left, TITLE + 62.0 - bounds.top);
+        shapes.open_group(x, y);
+        layout.axes(&mut shapes, bounds);
+        layout.order(&mut shapes);
         arrows(&mut shapes, &curves);
-        points(&mut shapes, view, &scale, &centre);
+        layout.points(&mut shapes);
         shapes.close_group();
-        let rest = if *view.columns.values.end() > *view.columns.values.start() {
-            8.0
-        } else {
-            30.0
-        };
         Figure {
-            width: title.max(x0 + bounds.right + rest),
-            height: y0 + bounds.bottom + 6.0,
+            width: title.max(x + bounds.right + 30.0),
+            height: y + bounds.bottom + 6.0,
             shapes,
         }
     }
 }
 
-/// The indices' names and values: columns above, rows at the left.
-fn axes(shapes: &mut Shapes, view: &View, scale: &Scale, bounds: Bounds, centre: &impl Fn(Spot) -> (f64, f64)) {
-    let first = (*view.rows.values.start(), *view.columns.values.start());
-    for column in view.columns.values.clone() {
-        shapes.text(
-            centre((first.0, column)).0,
-            bounds.top - 10.0,
-            LABEL,
-            "middle",
-            &label(column, &view.columns),
-        );
+/// A panel and its sizes. Centres are counted from that of the first row and column.
+struct Layout<'a> {
+    view: &'a View,
+    scale: Scale,
+}
+
+impl Layout<'_> {
+    fn centre(&self, spot: Spot) -> (f64, f64) {
+        let (row, column) = (spot.0 - self.view.rows.values.start(), spot.1 - self.view.columns.values.start());
+        (column as f64 * self.scale.cell, row as f64 * self.scale.cell)
     }
-    shapes.italic(-scale.radius, bounds.top - 33.0, LABEL, "start", &format!("{} →", view.column_name));
-    if let Some(name) = &view.row_name {
-        for row in view.rows.values.clone() {
-            shapes.text(
-                bounds.left - 12.0,
-                centre((row, first.1)).1 + 5.0,
-                LABEL,
-                "end",
-                &label(row, &view.rows),
-            );
+
+    fn curves(&self) -> Vec<(Curve, Arrow)> {
+        let curve = |arrow: &Arrow| (self.scale.curve(self.centre(arrow.from), self.centre(arrow.to)), *arrow);
+        self.view.arrows.iter().map(curve).collect()
+    }
+
+    fn bounds(&self, curves: &[(Curve, Arrow)]) -> Bounds {
+        let radius = self.scale.radius;
+        let corner = self.centre((*self.view.rows.values.end(), *self.view.columns.values.end()));
+        let mut bounds = Bounds {
+            left: -radius,
+            top: -radius,
+            right: corner.0 + radius,
+            bottom: corner.1 + radius,
+        };
+        curves.iter().for_each(|(curve, _)| bounds.include(curve.middle(), 6.0));
+        bounds
+    }
+
+    /// The width of what stands at the left of the rows.
+    fn row_labels(&self) -> f64 {
+        let rows = &self.view.rows;
+        let widest = rows
+            .values
+            .clone()
+            .map(|row| text_width(&label(row, rows), LABEL))
+            .fold(34.0, f64::max);
+        if self.scale.flat { 0.0 } else { widest + 14.0 }
+    }
+
+    /// The indices' names and values: columns above, rows at the left.
+    fn axes(&self, shapes: &mut Shapes, bounds: Bounds) {
+        let (rows, columns) = (&self.view.rows, &self.view.columns);
+        let longest = columns
+            .values
+            .clone()
+            .map(|column| text_width(&label(column, columns), LABEL))
+            .fold(0.0, f64::max);
+        let size = (LABEL * (self.scale.cell - 4.0) / longest).min(LABEL);
+        for column in columns.values.clone() {
+            let (x, _) = self.centre((*rows.values.start(), column));
+            shapes.text(x, bounds.top - 10.0, size, "middle", &label(column, columns));
         }
-        shapes.italic(bounds.left - 12.0, bounds.top - 33.0, LABEL, "end", &format!("{name} ↓"));
+        let above = bounds.top - 33.0;
+        shapes.italic(-self.scale.radius, above, LABEL, "start", &format!("{} →", self.view.column_name));
+        let Some(name) = &self.view.row_name else { return };
+        for row in rows.values.clone() {
+            let (_, y) = self.centre((row, *columns.values.start()));
+            shapes.text(bounds.left - 12.0, y + 5.0, LABEL, "end", &label(row, rows));
+        }
+        shapes.italic(bounds.left - 12.0, above, LABEL, "end", &format!("{name} ↓"));
+    }
+
+    /// The order of execution: along a row, and on to the next row.
+    fn order(&self, shapes: &mut Shapes) {
+        let radius = self.scale.radius;
+        for pair in self.view.spots.windows(2) {
+            let (from, to) = (pair[0].0, pair[1].0);
+            let (start, end) = (self.centre(from), self.centre(to));
+            shapes.order(towards(start, end, radius + 1.0), towards(end, start, radius + 2.0), from.0 != to.0);
+        }
+    }
+
+    fn points(&self, shapes: &mut Shapes) {
+        for (spot, number) in &self.view.spots {
+            let (x, y) = self.centre(*spot);
+            shapes.point(x, y, self.scale.radius);
+            if let Some(number) = number {
+                let size = if *number > 999 {
+                    self.scale.number - 3.0
+                } else {
+                    self.scale.number
+                };
+                shapes.text(x, y + size * 0.36, size, "middle", &number.to_string());
+            }
+        }
     }
 }
 
@@ -201,31 +238,11 @@ fn label(value: i64, sight: &Sight) -> String {
     format!("{before}{value}{after}")
 }
 
-/// The order of execution: along a row, and on to the next row.
-fn order(shapes: &mut Shapes, view: &View, scale: &Scale, centre: &impl Fn(Spot) -> (f64, f64)) {
-    for pair in view.spots.windows(2) {
-        let (from, to) = (pair[0].0, pair[1].0);
-        let (start, end) = (centre(from), centre(to));
-        let (a, b) = (towards(start, end, scale.radius + 1.0), towards(end, start, scale.radius + 2.0));
-        shapes.order(a, b, from.0 != to.0);
-    }
-}
-
+/// Those that trade places are drawn over the others.
 fn arrows(shapes: &mut Shapes, curves: &[(Curve, Arrow)]) {
     for keeps in [true, false] {
         for (curve, _) in curves.iter().filter(|(_, arrow)| arrow.keeps == keeps) {
             shapes.arrow(curve.start, curve.control, curve.end, keeps);
-        }
-    }
-}
-
-fn points(shapes: &mut Shapes, view: &View, scale: &Scale, centre: &impl Fn(Spot) -> (f64, f64)) {
-    for (spot, number) in &view.spots {
-        let (x, y) = centre(*spot);
-        shapes.point(x, y, scale.radius);
-        if let Some(number) = number {
-            let size = if *number > 999 { scale.number - 3.0 } else { scale.number };
-            shapes.text(x, y + size * 0.36, size, "middle", &number.to_string());
         }
     }
 }

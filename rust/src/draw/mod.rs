@@ -82,7 +82,7 @@ pub fn picture(ticket: &Ticket, names: &Names) -> Result<Picture, NoPicture> {
         Panel {
             points: &before,
             names: names.indices.clone(),
-            title: "Before".into(),
+            title: if steps.is_empty() { "The nest" } else { "Before" }.into(),
         },
         Panel {
             points: &after,

@@ -82,27 +82,7 @@ impl Panel<'_> {
         for (number, spot) in spots.iter().enumerate().filter(|(_, spot)| seen(spot)) {
             visible.insert(*spot, (!projected).then_some(number + 1));
         }
-        let mut inside = 0;
-        let mut counts: BTreeMap<Arrow, usize> = BTreeMap::new();
-        for pair in conflicts.pairs() {
-            let (from, to) = (spots[pair.0], spots[pair.1]);
-            if from == to {
-                inside += 1;
-            } else if seen(&from) && seen(&to) {
-                let length = (from.0 - to.0).pow(2) + (from.1 - to.1).pow(2);
-                *counts
-                    .entry(Arrow {
-                        keeps: !traded.trades(pair),
-                        length,
-                        from,
-                        to,
-                    })
-                    .or_default() += 1;
-            }
-        }
-        let trading = counts.iter().filter(|(arrow, _)| !arrow.keeps).take(TRADING);
-        let keeping = counts.iter().filter(|(arrow, _)| arrow.keeps);
-        let drawn: Vec<(Arrow, usize)> = trading.chain(keeping).take(ARROWS).map(|(arrow, count)| (*arrow, *count)).collect();
+        let (drawn, inside) = arrows(conflicts, traded, &spots, seen);
         View {
             title: self.title.clone(),
             row_name: (self.names.len() > 1).then(|| self.names[0].clone()),
@@ -116,6 +96,32 @@ impl Panel<'_> {
             columns,
         }
     }
+}
+
+/// The arrows to be drawn, each with the count of its pairs, and the count of pairs within one point.
+fn arrows(conflicts: &Conflicts, traded: &Traded, spots: &[Spot], seen: impl Fn(&Spot) -> bool) -> (Vec<(Arrow, usize)>, usize) {
+    let mut inside = 0;
+    let mut counts: BTreeMap<Arrow, usize> = BTreeMap::new();
+    for pair in conflicts.pairs() {
+        let (from, to) = (spots[pair.0], spots[pair.1]);
+        if from == to {
+            inside += 1;
+        } else if seen(&from) && seen(&to) {
+            let length = (from.0 - to.0).pow(2) + (from.1 - to.1).pow(2);
+            *counts
+                .entry(Arrow {
+                    keeps: !traded.trades(pair),
+                    length,
+                    from,
+                    to,
+                })
+                .or_default() += 1;
+        }
+    }
+    let trading = counts.iter().filter(|(arrow, _)| !arrow.keeps).take(TRADING);
+    let keeping = counts.iter().filter(|(arrow, _)| arrow.keeps);
+    let drawn: Vec<(Arrow, usize)> = trading.chain(keeping).take(ARROWS).map(|(arrow, count)| (*arrow, *count)).collect();
+    (drawn, inside)
 }
 
 impl Sight {

@@ -6,6 +6,9 @@ use super::tokens::{Line, Token};
 use super::{Names, ParseError, Parsed, Places, Span};
 use crate::nest::{Array, Loop, Nest, Step};
 
+/// More loops than any nest has; each makes every limit and subscript longer.
+const LOOPS: usize = 64;
+
 /// Reads the text form of a nest.
 ///
 /// # Errors
@@ -114,6 +117,9 @@ impl Parser {
     fn for_loop(&mut self, line: &mut Line) -> Result<(), ParseError> {
         if !self.nest.statements.is_empty() || !self.nest.steps.is_empty() {
             return line.error("every statement stands inside the innermost loop: no loop can follow one, or a step");
+        }
+        if self.nest.loops.len() == LOOPS {
+            return line.error(format!("a text has at most {LOOPS} loops, and a ticket at most 4"));
         }
         let whole = line.whole();
         line.expect_word("for")?;

@@ -29,31 +29,18 @@ impl Line {
         let mut tokens = Vec::new();
         let mut at = 0;
         while at < chars.len() {
-            let run = |test: fn(char) -> bool| chars[at..].iter().take_while(|&&c| test(c)).count();
-            let (length, token) = match chars[at] {
-                c if c.is_whitespace() => {
-                    at += 1;
-                    continue;
-                }
-                c if c.is_ascii_alphabetic() || c == '_' => {
-                    let length = run(|c| c.is_ascii_alphanumeric() || c == '_');
-                    (length, Token::Name(chars[at..at + length].iter().collect()))
-                }
-                c if c.is_ascii_digit() => {
-                    let length = run(|c| c.is_ascii_digit());
-                    (length, Token::Number(chars[at..at + length].iter().collect()))
-                }
-                '−' => (1, Token::Symbol('-')),
-                c if "()+-*/,=".contains(c) => (1, Token::Symbol(c)),
-                c => {
-                    let span = Span {
-                        line: number,
-                        column: at + 1,
-                        length: 1,
-                    };
-                    return Err(ParseError::new(span, format!("'{}' has no meaning here", c.escape_debug())));
-                }
-            };
+            if chars[at].is_whitespace() {
+                at += 1;
+                continue;
+            }
+            let (token, length) = next_token(&chars[at..]).ok_or_else(|| {
+                let span = Span {
+                    line: number,
+                    column: at + 1,
+                    length: 1,
+                };
+                ParseError::new(span, format!("'{}' has no meaning here", chars[at].escape_debug()))
+            })?;
             tokens.push((
                 token,
                 Span {
@@ -206,6 +193,24 @@ impl Line {
         } else {
             self.expected("the end of the line")
         }
+    }
+}
+
+/// The token at the front, and its length.
+fn next_token(chars: &[char]) -> Option<(Token, usize)> {
+    let run = |test: fn(char) -> bool| -> String { chars.iter().copied().take_while(|&c| test(c)).collect() };
+    match chars[0] {
+        c if c.is_ascii_alphabetic() || c == '_' => {
+            let name = run(|c| c.is_ascii_alphanumeric() || c == '_');
+            Some((Token::Name(name.clone()), name.len()))
+        }
+        c if c.is_ascii_digit() => {
+            let digits = run(|c| c.is_ascii_digit());
+            Some((Token::Number(digits.clone()), digits.len()))
+        }
+        '−' => Some((Token::Symbol('-'), 1)),
+        c if "()+-*/,=".contains(c) => Some((Token::Symbol(c), 1)),
+        _ => None,
     }
 }
 

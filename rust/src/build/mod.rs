@@ -1,12 +1,13 @@
 //! A builder of nests, with expressions of indices that read as they are written on paper.
 
-use crate::nest::{Access, Array, Limit, Loop, Nest, Rule, Statement, Step, Subscript};
+mod expression;
+
+pub use expression::{Bound, Expression, IntoBounds};
+
+use crate::nest::{Access, Array, Loop, Nest, Rule, Statement, Step, Subscript};
+use expression::LOOPS;
 use std::error::Error;
 use std::fmt;
-use std::ops::{Add, Mul, Neg, Sub};
-
-/// The loops that expressions of a builder can name.
-const LOOPS: usize = 8;
 
 /// Builds a [`Nest`]: arrays and loops first, outermost first, then statements, then steps.
 ///
@@ -47,20 +48,6 @@ pub struct NestBuilder {
     steps: Vec<Step>,
 }
 
-/// An affine expression of the indices of one builder's loops.
-#[derive(Clone, Copy, PartialEq, Eq, Debug, Hash, Default)]
-pub struct Expression {
-    constant: i32,
-    coefficients: [i32; LOOPS],
-}
-
-/// A limit: an expression divided by a whole number.
-#[derive(Clone, Copy, PartialEq, Eq, Debug, Hash)]
-pub struct Bound {
-    expression: Expression,
-    multiplier: i16,
-}
-
 /// An array of a builder's nest.
 #[derive(Clone, Copy, PartialEq, Eq, Debug, Hash)]
 pub struct ArrayName {
@@ -97,11 +84,7 @@ impl NestBuilder {
     /// Opens a loop inside those that are open, and answers its index.
     pub fn for_loop(&mut self, lower: impl IntoBounds, upper: impl IntoBounds) -> Expression {
         self.loops.push((lower.into_bounds(), upper.into_bounds()));
-        let mut index = Expression::default();
-        if let Some(coefficient) = index.coefficients.get_mut(self.loops.len() - 1) {
-            *coefficient = 1;
-        }
-        index
+        Expression::index(self.loops.len() - 1)
     }
 
     /// A statement that stores the first read.
@@ -213,48 +196,6 @@ impl ArrayName {
     }
 }
 
-impl Expression {
-    /// The limit that divides this by a whole number.
-    pub fn over(self, multiplier: i16) -> Bound {
-        Bound {
-            expression: self,
-            multiplier,
-        }
-    }
-
-    fn map(self, other: Expression, f: fn(i32, i32) -> i32) -> Expression {
-        let coefficients = std::array::from_fn(|n| f(self.coefficients[n], other.coefficients[n]));
-        Expression {
-            constant: f(self.constant, other.constant),
-            coefficients,
-        }
-    }
-
-    /// The constant and the coefficients of the given count of loops.
-    fn words(&self, loops: usize) -> Result<(i16, Vec<i16>), BuildError> {
-        let word = |number: i32| i16::try_from(number).or_else(|_| error(format!("{number} is beyond the 16 bits of a word")));
-        if let Some(inner) = (loops..LOOPS).find(|&n| self.coefficients[n] != 0) {
-            return error(format!("an expression names loop {}, and {loops} loops are outside it", inner + 1));
-        }
-        let coefficients = self.coefficients[..loops]
-            .iter()
-            .map(|&number| word(number))
-            .collect::<Result<_, _>>()?;
-        Ok((word(self.constant)?, coefficients))
-    }
-}
-
-impl Bound {
-    fn limit(&self, outside: usize) -> Result<Limit, BuildError> {
-        let (constant, coefficients) = self.expression.words(outside)?;
-        Ok(Limit {
-            multiplier: self.multiplier,
-            constant,
-            coefficients,
-        })
-    }
-}
-
 fn error<T>(message: String) -> Result<T, BuildError> {
     Err(BuildError { message })
 }
@@ -266,74 +207,3 @@ impl fmt::Display for BuildError {
 }
 
 impl Error for BuildError {}
-
-impl From<i32> for Expression {
-    fn from(constant: i32) -> Expression {
-        Expression {
-            constant,
-            ..Expression::default()
-        }
-    }
-}
-
-impl From<Expression> for Bound {
-    fn from(expression: Expression) -> Bound {
-        expression.over(1)
-    }
-}
-
-impl From<i32> for Bound {
-    fn from(constant: i32) -> Bound {
-        Expression::from(constant).over(1)
-    }
-}
-
-/// What can stand on one side of a loop: a number, an expression, a limit, or several of one kind.
-pub trait IntoBounds {
-    /// The limits, in their order.
-    fn into_bounds(self) -> Vec<Bound>;
-}
-
-impl<T: Into<Bound>> IntoBounds for T {
-    fn into_bounds(self) -> Vec<Bound> {
-        vec![self.into()]
-    }
-}
-
-impl<T: Into<Bound>, const N: usize> IntoBounds for [T; N] {
-    fn into_bounds(self) -> Vec<Bound> {
-        self.into_iter().map(Into::into).collect()
-    }
-}
-
-impl<T: Into<Expression>> Add<T> for Expression {
-    type Output = Expression;
-    fn add(self, other: T) -> Expression {
-        self.map(other.into(), i32::saturating_add)
-    }
-}
-
-impl<T: Into<Expression>> Sub<T> for Expression {
-    type Output = Expression;
-    fn sub(self, other: T) -> Expression {
-        self.map(other.into(), i32::saturating_sub)
-    }
-}
-
-impl Neg for Expression {
-    type Output = Expression;
-    fn neg(self) -> Expression {
-        Expression::default() - self
-    }
-}
-
-impl Mul<Expression> for i32 {
-    type Output = Expression;
-    fn mul(self, expression: Expression) -> Expression {
-        let scaled = expression.coefficients.map(|number| number.saturating_mul(self));
-        Expression {
-            constant: expression.constant.saturating_mul(self),
-            coefficients: scaled,
-        }
-    }
-}
