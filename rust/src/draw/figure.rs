@@ -67,11 +67,11 @@ impl Scale {
     }
 
     /// The curve of an arrow between two centres. It bends to the left of its direction, so that arrows forth and back are parted; one that
-    /// runs down to the left bends to the right, away from the row that it reaches.
+    /// runs down, or down to the left, bends to the right, away from those that leave the point it reaches.
     fn curve(&self, from: (f64, f64), to: (f64, f64)) -> Curve {
         let (dx, dy) = (to.0 - from.0, to.1 - from.1);
         let length = dx.hypot(dy);
-        let side = if dx < 0.0 && dy > 0.0 { -1.0 } else { 1.0 };
+        let side = if dx == 0.0 || (dx < 0.0 && dy > 0.0) { -1.0 } else { 1.0 };
         let bend = side * if self.flat { self.arc(length) } else { (0.27 * length).max(18.0) };
         let control = (
             (from.0 + to.0) / 2.0 + dy / length * bend,
