@@ -97,9 +97,10 @@ fn rt(root: &Path, verb: &str) {
     fail(&message);
 }
 
+/// Cargo shows the message, and fails the build once the script has ended.
 fn fail(message: &[String]) -> ! {
     for line in message {
         println!("cargo::error={line}");
     }
-    exit(1)
+    exit(0)
 }

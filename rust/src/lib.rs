@@ -4,16 +4,15 @@
 //! Every answer comes from one of five proved entries; this crate is thin around them and judges nothing itself.
 //!
 //! ```
-//! use hurkeztor::{Nest, Ticket, judge, write};
+//! use hurkeztor::{Ticket, judge, write};
 //!
-//! let nest: Nest = "
+//! let ticket = Ticket::parse_text("
 //!     array A(3, 4)
 //!     for i = 0 to 2
 //!       for j = 1 to 3
 //!         A(i, j) = A(i, j-1)
 //!     exchange 1 2
-//! ".parse()?;
-//! let ticket = Ticket::from_nest(&nest)?;
+//! ")?;
 //! assert_eq!(judge(&ticket)?.iterations, 9);
 //!
 //! let new_nest = write(&ticket)?.nest()?;
@@ -88,9 +87,8 @@ pub fn write(ticket: &Ticket) -> Result<Ticket, Refusal> {
 /// Lists the directions of the ticket's own nest. Its steps are read and not judged.
 ///
 /// ```
-/// use hurkeztor::{Kind, Nest, Ticket, list};
-/// let nest: Nest = "array A(7)\nfor i = 0 to 6\n  A(i) = A(6-i)".parse()?;
-/// let listing = list(&Ticket::from_nest(&nest)?)?;
+/// use hurkeztor::{Kind, Ticket, list};
+/// let listing = list(&Ticket::parse_text("array A(7)\nfor i = 0 to 6\n  A(i) = A(6-i)")?)?;
 /// assert_eq!(listing.to_string(), "1 7 2\nF 1 1 <\nA 1 1 <\n");
 /// assert_eq!(listing.directions[0].kind, Kind::Flow);
 /// # Ok::<(), Box<dyn std::error::Error>>(())
@@ -110,9 +108,9 @@ pub fn list(ticket: &Ticket) -> Result<Listing, Refusal> {
 /// [`Nest::accesses`] gives them.
 ///
 /// ```
-/// use hurkeztor::{Independence, Nest, Ticket, quick};
-/// let nest: Nest = "array A(21)\nfor i = 0 to 9\n  A(2*i) = A(2*i+1)".parse()?;
-/// assert_eq!(quick(&Ticket::from_nest(&nest)?, 1, 2)?, Independence::Apart);
+/// use hurkeztor::{Independence, Ticket, quick};
+/// let ticket = Ticket::parse_text("array A(21)\nfor i = 0 to 9\n  A(2*i) = A(2*i+1)")?;
+/// assert_eq!(quick(&ticket, 1, 2)?, Independence::Apart);
 /// # Ok::<(), Box<dyn std::error::Error>>(())
 /// ```
 ///
@@ -130,10 +128,10 @@ pub fn quick(ticket: &Ticket, first: u64, second: u64) -> Result<Independence, R
 /// ends as the old order leaves it.
 ///
 /// ```
-/// use hurkeztor::{Nest, Ticket, run};
-/// let nest: Nest = "array A(4)\nfor i = 1 to 3\n  A(i) = A(i-1) + 1\nsection 1 by 2".parse()?;
+/// use hurkeztor::{Ticket, run};
+/// let ticket = Ticket::parse_text("array A(4)\nfor i = 1 to 3\n  A(i) = A(i-1) + 1\nsection 1 by 2")?;
 /// let mut store = [7, 0, 0, 0];
-/// run(&Ticket::from_nest(&nest)?, &mut store)?;
+/// run(&ticket, &mut store)?;
 /// assert_eq!(store, [7, 8, 9, 10]);
 /// # Ok::<(), Box<dyn std::error::Error>>(())
 /// ```

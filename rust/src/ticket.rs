@@ -47,6 +47,23 @@ impl Ticket {
         Ok(Ticket::from_words(&words))
     }
 
+    /// The ticket that a text describes, in the form of [`crate::text`].
+    ///
+    /// ```
+    /// use hurkeztor::{Ticket, judge};
+    /// let ticket = Ticket::parse_text("array A(7)\nfor i = 0 to 6\n  A(i) = A(i) + 1\nsection 1 by 4")?;
+    /// assert_eq!(judge(&ticket).map(|judgement| judgement.iterations), Ok(7));
+    /// # Ok::<(), hurkeztor::ParseError>(())
+    /// ```
+    ///
+    /// # Errors
+    ///
+    /// Where the text cannot be a ticket.
+    pub fn parse_text(source: &str) -> Result<Ticket, ParseError> {
+        let parsed = text::parse(source)?;
+        Ok(Ticket::from_nest(&parsed.nest).expect("a nest that was read has words"))
+    }
+
     /// The ticket that describes a nest and its steps.
     ///
     /// # Errors

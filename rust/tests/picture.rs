@@ -14,29 +14,59 @@ fn svg(text: &str) -> String {
     picture(&ticket, &names).expect(text).svg
 }
 
-#[test]
-fn outside_tickets_are_drawn() {
+fn outside_tickets() -> Vec<Ticket> {
     let path = concat!(env!("CARGO_MANIFEST_DIR"), "/../tests/base.txt");
     let text = std::fs::read_to_string(path).expect("tests/base.txt");
-    let mut drawn = 0;
-    for hex in text.lines().filter_map(|line| line.strip_prefix("ticket ")) {
-        let digits = hex.trim_matches('-').as_bytes().chunks_exact(2);
-        let bytes: Vec<u8> = digits
-            .map(|two| u8::from_str_radix(std::str::from_utf8(two).expect("ASCII"), 16).expect("hex"))
-            .collect();
-        let ticket = Ticket::from_bytes(bytes);
-        let names = ticket.nest().map(|nest| Names::of(&nest)).unwrap_or_default();
-        match (picture(&ticket, &names), list(&ticket)) {
-            (Ok(picture), Ok(_)) => {
-                assert_eq!(picture.answer, judge(&ticket));
-                assert!(picture.svg.starts_with("<svg") && picture.svg.ends_with("</svg>\n") && !picture.svg.contains("NaN"));
-                drawn += 1;
-            }
-            (Err(NoPicture::Refused(refusal)), Err(listed)) => assert_eq!(refusal, listed),
-            (drawing, _) => panic!("{hex}: {:?}", drawing.err()),
+    let lines = text.lines().filter_map(|line| line.strip_prefix("ticket "));
+    let byte = |two: &[u8]| u8::from_str_radix(std::str::from_utf8(two).expect("ASCII"), 16).expect("hexadecimal digits");
+    lines
+        .map(|hex| Ticket::from_bytes(hex.trim_matches('-').as_bytes().chunks_exact(2).map(byte).collect::<Vec<u8>>()))
+        .collect()
+}
+
+/// Draws the ticket, or is told the listing's refusal. Answers whether there is a picture.
+fn drawn(ticket: &Ticket) -> bool {
+    let names = ticket.nest().map(|nest| Names::of(&nest)).unwrap_or_default();
+    match (picture(ticket, &names), list(ticket)) {
+        (Ok(picture), Ok(_)) => {
+            assert_eq!(picture.answer, judge(ticket));
+            assert!(picture.svg.starts_with("<svg") && picture.svg.ends_with("</svg>\n") && !picture.svg.contains("NaN"));
+            true
         }
+        (Err(NoPicture::Refused(refusal)), Err(listed)) => {
+            assert_eq!(refusal, listed);
+            false
+        }
+        (drawing, _) => panic!("{:?}: {:?}", ticket.words(), drawing.err()),
     }
-    assert!(drawn > 100, "{drawn} pictures");
+}
+
+#[test]
+fn outside_tickets_are_drawn() {
+    let count = outside_tickets().iter().filter(|ticket| drawn(ticket)).count();
+    assert!(count > 100, "{count} pictures");
+}
+
+#[test]
+fn changed_tickets_are_drawn() {
+    let mut state = 1u64;
+    let mut number = |below: usize| {
+        state = state
+            .wrapping_mul(6_364_136_223_846_793_005)
+            .wrapping_add(1_442_695_040_888_963_407);
+        (state >> 33) as usize % below
+    };
+    let mut count = 0;
+    for ticket in outside_tickets().iter().cycle().take(600) {
+        let mut words = ticket.words();
+        if words.is_empty() {
+            continue;
+        }
+        let at = number(words.len());
+        words[at] = number(7) as i16 - 2;
+        count += usize::from(drawn(&Ticket::from_words(&words)));
+    }
+    assert!(count > 100, "{count} pictures");
 }
 
 #[test]

@@ -14,7 +14,7 @@ const LOOPS: usize = 64;
 /// # Errors
 ///
 /// Where the text cannot be a ticket: bad syntax, an unknown name, a number beyond 16 bits. Numbers out of their ranges are left to the
-/// entries.
+/// entries. A nest that was read has words.
 ///
 /// ```
 /// use hurkeztor::text;
@@ -31,7 +31,12 @@ pub fn parse(source: &str) -> Result<Parsed, ParseError> {
             parser.last = line.whole();
         }
     }
-    Ok(parser.finish())
+    let last = parser.last;
+    let parsed = parser.finish();
+    match parsed.nest.to_words() {
+        Ok(_) => Ok(parsed),
+        Err(error) => Err(ParseError::new(last, error.to_string())),
+    }
 }
 
 /// What was read so far; for each section, the place of each of its words but its count.
