@@ -4,7 +4,7 @@
 //! byte. All `unsafe` of the crate is in this module.
 //!
 //! An entry uses up to 1 MiB of stack. Each call looks whether the calling thread has that much left, and runs on a thread of its own
-//! where it has not.
+//! where it has not. Only if such a thread cannot be started does a call panic.
 
 #![allow(unsafe_code)]
 

@@ -101,6 +101,13 @@ fn the_form_is_found_out() {
         );
         check(&["list"], input, 0, "2 6 1\nO 1 1 <>\n");
     }
+    for text in [
+        format!("\u{feff}{CASE_1}"),
+        CASE_1.replace('\n', "\r\n"),
+        format!("\u{feff}{CASE_1_WORDS}"),
+    ] {
+        assert_eq!(hurkeztor(&["pack"], text).out, packed);
+    }
     check(&["unpack"], &packed, 0, CASE_1.split_once('\n').expect("lines").1);
     check(
         &["judge", "--as", "binary"],

@@ -7,6 +7,9 @@ use hurkeztor::text::{self, Names, ParseError, Places, excerpt};
 use hurkeztor::{Nest, Ticket};
 use std::io::{IsTerminal, Read};
 
+/// What some editors put before a text.
+const BYTE_ORDER_MARK: &[u8] = "\u{feff}".as_bytes();
+
 /// The forms of a ticket.
 #[derive(Clone, Copy, PartialEq, Eq)]
 pub enum Form {
@@ -41,6 +44,7 @@ impl Input {
                 names: None,
             });
         }
+        let bytes = bytes.strip_prefix(BYTE_ORDER_MARK).unwrap_or(&bytes).to_vec();
         let source = String::from_utf8(bytes).map_err(|_| Failure::Input(format!("{name}: not a text: it is not in UTF-8\n")))?;
         let wrong = |error: ParseError| Failure::Input(format!("{name}:{error}\n{}", excerpt(&source, error.span)));
         if form == Form::Words {
@@ -97,7 +101,10 @@ fn find_form(bytes: &[u8]) -> Form {
     if bytes.is_empty() || bytes.iter().any(control) {
         return Form::Binary;
     }
-    let code = text.lines().map(|line| line.split('#').next().unwrap_or("").trim_start());
+    let code = text
+        .trim_start_matches('\u{feff}')
+        .lines()
+        .map(|line| line.split('#').next().unwrap_or("").trim_start());
     match code.flat_map(str::chars).next() {
         Some(c) if c.is_ascii_digit() || c == '-' || c == '−' => Form::Words,
         _ => Form::Text,
