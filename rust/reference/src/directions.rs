@@ -1,0 +1,183 @@
+//! Directions: conflicts of all pairs of instances, the vectors of a nest, and how a step maps each.
+
+use std::collections::BTreeSet;
+
+use crate::points::Point;
+use crate::ticket::{Nest, Step};
+
+/// In the listing's order.
+#[derive(Clone, Copy, PartialEq, Eq, PartialOrd, Ord, Debug)]
+pub enum Sign {
+    /// The source index is smaller.
+    Less,
+    Equal,
+    Greater,
+}
+
+use Sign::{Equal, Greater, Less};
+
+pub const SIGNS: [Sign; 3] = [Less, Equal, Greater];
+
+pub type Vector = Vec<Sign>;
+
+/// In the listing's order.
+#[derive(Clone, Copy, PartialEq, Eq, PartialOrd, Ord, Debug)]
+pub enum Kind {
+    /// Write then read.
+    F,
+    /// Read then write.
+    A,
+    /// Write then write.
+    O,
+}
+
+/// One line of the listing; the order of the fields is the order of the lines. Statements are counted from 0.
+#[derive(Clone, PartialEq, Eq, PartialOrd, Ord, Debug)]
+pub struct Line {
+    pub source: usize,
+    pub sink: usize,
+    pub kind: Kind,
+    pub vector: Vector,
+}
+
+/// A statement in an iteration, with the elements that it names; the first is written, the others are read.
+struct Instance<'a> {
+    statement: usize,
+    point: &'a Point,
+    elements: Vec<usize>,
+}
+
+fn kind(source_writes: bool, sink_writes: bool) -> Option<Kind> {
+    match (source_writes, sink_writes) {
+        (true, false) => Some(Kind::F),
+        (false, true) => Some(Kind::A),
+        (true, true) => Some(Kind::O),
+        (false, false) => None,
+    }
+}
+
+fn sign(source: i64, sink: i64) -> Sign {
+    match source.cmp(&sink) {
+        std::cmp::Ordering::Less => Less,
+        std::cmp::Ordering::Equal => Equal,
+        std::cmp::Ordering::Greater => Greater,
+    }
+}
+
+/// Kinds of conflict between two different instances, the first being earlier.
+fn kinds(source: &Instance, sink: &Instance) -> [bool; 3] {
+    let mut kinds = [false; 3];
+    for (s, named) in source.elements.iter().enumerate() {
+        for (t, also) in sink.elements.iter().enumerate() {
+            if named == also
+                && let Some(kind) = kind(s == 0, t == 0)
+            {
+                kinds[kind as usize] = true;
+            }
+        }
+    }
+    kinds
+}
+
+/// All conflicts of a nest whose iterations are `points`, in rising order.
+pub fn conflicts(nest: &Nest, points: &[Point]) -> BTreeSet<Line> {
+    let mut instances = vec![];
+    for point in points {
+        for (statement, s) in nest.statements.iter().enumerate() {
+            let elements = s.accesses().map(|access| nest.element(access, point));
+            instances.push(Instance {
+                statement,
+                point,
+                elements: elements.collect(),
+            });
+        }
+    }
+    let mut lines = BTreeSet::new();
+    for (number, sink) in instances.iter().enumerate() {
+        for source in &instances[..number] {
+            let kinds = kinds(source, sink);
+            if kinds == [false; 3] {
+                continue;
+            }
+            let signs = source.point.iter().zip(sink.point);
+            let vector: Vector = signs.map(|(from, to)| sign(*from, *to)).collect();
+            for kind in [Kind::F, Kind::A, Kind::O] {
+                if kinds[kind as usize] {
+                    lines.insert(Line {
+                        source: source.statement,
+                        sink: sink.statement,
+                        kind,
+                        vector: vector.clone(),
+                    });
+                }
+            }
+        }
+    }
+    lines
+}
+
+/// Kinds and statements merged.
+pub fn vectors(lines: &BTreeSet<Line>) -> BTreeSet<Vector> {
+    lines.iter().map(|line| line.vector.clone()).collect()
+}
+
+pub fn backwards(vector: &[Sign]) -> bool {
+    vector.iter().find(|sign| **sign != Equal) == Some(&Greater)
+}
+
+pub fn turned(sign: Sign) -> Sign {
+    match sign {
+        Less => Greater,
+        Equal => Equal,
+        Greater => Less,
+    }
+}
+
+/// The signs that a sum of two numbers with these signs can have.
+fn sums(one: Sign, other: Sign) -> Vec<Sign> {
+    match (one, other) {
+        (Equal, sign) | (sign, Equal) => vec![sign],
+        (Less, Less) => vec![Less],
+        (Greater, Greater) => vec![Greater],
+        _ => SIGNS.to_vec(),
+    }
+}
+
+/// The pairs of signs, of S and of E, that a sectioned loop's sign becomes.
+fn parts(sign: Sign) -> Vec<[Sign; 2]> {
+    match sign {
+        Equal => vec![[Equal, Equal]],
+        sign => {
+            let across = SIGNS.iter().map(|inner| [sign, *inner]);
+            std::iter::once([Equal, sign]).chain(across).collect()
+        }
+    }
+}
+
+/// The vectors that a step makes of one.
+pub fn mapped(step: &Step, vector: &[Sign]) -> Vec<Vector> {
+    let mut new = vector.to_vec();
+    match *step {
+        Step::Exchange { a } => {
+            new.swap(a, a + 1);
+            vec![new]
+        }
+        Step::Reversal { a } => {
+            new[a] = turned(new[a]);
+            vec![new]
+        }
+        Step::Skew { a, b, c } => {
+            let added = if c == 1 { vector[a] } else { turned(vector[a]) };
+            let replaced = sums(added, vector[b]).into_iter().map(|sign| {
+                new[b] = sign;
+                new.clone()
+            });
+            replaced.collect()
+        }
+        Step::Section { a, .. } => {
+            let (outside, inside) = (&vector[..a], &vector[a + 1..]);
+            let parts = parts(vector[a]).into_iter();
+            parts.map(|pair| [outside, &pair, inside].concat()).collect()
+        }
+    }
+}
