@@ -76,12 +76,7 @@ pub fn judged(bytes: &[u8]) -> Result<Judged, Refusal> {
     let old = admit(&ticket.nest)?;
     let nest = stepped(&ticket, &old)?;
     let new = spread(&nest)?;
-    Ok(Judged {
-        ticket,
-        old,
-        nest,
-        new,
-    })
+    Ok(Judged { ticket, old, nest, new })
 }
 
 pub fn judge(ticket: &[u8]) -> Answer {

@@ -69,9 +69,10 @@ fn kinds(source: &Instance, sink: &Instance) -> [bool; 3] {
     let mut kinds = [false; 3];
     for (s, named) in source.elements.iter().enumerate() {
         for (t, also) in sink.elements.iter().enumerate() {
-            if named == also
-                && let Some(kind) = kind(s == 0, t == 0)
-            {
+            if named != also {
+                continue;
+            }
+            if let Some(kind) = kind(s == 0, t == 0) {
                 kinds[kind as usize] = true;
             }
         }

@@ -64,10 +64,7 @@ fn outer_part(limits: &[Limit], width: i64, less: i64) -> Vec<Limit> {
     let limits = limits.iter().map(|limit| {
         let mut e = limit.e.clone();
         e.constant -= limit.p * less;
-        Limit {
-            p: limit.p * width,
-            e,
-        }
+        Limit { p: limit.p * width, e }
     });
     limits.collect()
 }
@@ -117,11 +114,7 @@ struct Parted {
 fn parted(limit: &Limit) -> Parted {
     let mut rest = limit.e.clone();
     let c = rest.coefficients.pop().expect("a coefficient of I");
-    Parted {
-        p: limit.p,
-        c,
-        rest,
-    }
+    Parted { p: limit.p, c, rest }
 }
 
 /// pqJ against qe′ + cf.

@@ -49,11 +49,7 @@ fn differ(first: &Affine, second: &Affine, spans: &[Span]) -> bool {
     let minus = second.coefficients.iter().map(|k| -k);
     let coefficients: Vec<i64> = plus.chain(minus).collect();
     let divisor = coefficients.iter().fold(0, |d, k| gcd(d, *k));
-    let divides = if divisor == 0 {
-        constant == 0
-    } else {
-        constant % divisor == 0
-    };
+    let divides = if divisor == 0 { constant == 0 } else { constant % divisor == 0 };
     let spans = [spans, spans].concat();
     let terms: Vec<_> = coefficients.into_iter().zip(spans).collect();
     let (least, greatest) = span(constant, &terms);

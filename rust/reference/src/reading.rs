@@ -50,10 +50,7 @@ impl Words<'_> {
         let constant = self.number()?;
         let coefficients = (0..indices).map(|_| self.number());
         let coefficients = coefficients.collect::<Result<_, _>>()?;
-        Ok(Affine {
-            constant,
-            coefficients,
-        })
+        Ok(Affine { constant, coefficients })
     }
 
     fn side(&mut self, outside: usize) -> Result<Vec<Limit>, Refusal> {
@@ -101,11 +98,7 @@ impl Words<'_> {
         Ok(Access { array, subscripts })
     }
 
-    fn statements(
-        &mut self,
-        loops: usize,
-        arrays: &[Vec<i64>],
-    ) -> Result<Vec<Statement>, Refusal> {
+    fn statements(&mut self, loops: usize, arrays: &[Vec<i64>]) -> Result<Vec<Statement>, Refusal> {
         let count = self.count(1, 4)?;
         let mut statements = vec![];
         for _ in 0..count {
@@ -190,10 +183,6 @@ pub fn read(bytes: &[u8]) -> Result<Ticket, Refusal> {
     if bytes.len() > 2 * words.read {
         return Err(Refusal::new(2, words.read + 1));
     }
-    let nest = Nest {
-        loops,
-        arrays,
-        statements,
-    };
+    let nest = Nest { loops, arrays, statements };
     Ok(Ticket { nest, steps })
 }

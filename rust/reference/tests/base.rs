@@ -12,7 +12,9 @@ fn bytes(hex: &str) -> Vec<u8> {
         return vec![];
     }
     let pairs = (0..hex.len()).step_by(2).map(|at| &hex[at..at + 2]);
-    pairs.map(|pair| u8::from_str_radix(pair, 16).expect("hexadecimal digits")).collect()
+    pairs
+        .map(|pair| u8::from_str_radix(pair, 16).expect("hexadecimal digits"))
+        .collect()
 }
 
 fn number<T: std::str::FromStr>(field: &str) -> T {
@@ -20,7 +22,11 @@ fn number<T: std::str::FromStr>(field: &str) -> T {
 }
 
 fn answer(number_field: &str, place: &str, count: u32) -> Answer {
-    Answer { number: number(number_field), place: number(place), count }
+    Answer {
+        number: number(number_field),
+        place: number(place),
+        count,
+    }
 }
 
 fn store(fields: &[&str]) -> Vec<u32> {
@@ -29,7 +35,9 @@ fn store(fields: &[&str]) -> Vec<u32> {
 
 /// A row of `write` or `list`: the answer, and the buffer with what was written at its front.
 fn into_buffer(ticket: &[u8], row: &[&str], entry: fn(&[u8], &mut [u8]) -> Answer) {
-    let [_, capacity, n, place, hex] = row else { panic!("a row of five fields: {row:?}") };
+    let [_, capacity, n, place, hex] = row else {
+        panic!("a row of five fields: {row:?}")
+    };
     let written = bytes(hex);
     let mut expected = vec![PATTERN; number(capacity)];
     let mut buffer = expected.clone();
@@ -40,7 +48,9 @@ fn into_buffer(ticket: &[u8], row: &[&str], entry: fn(&[u8], &mut [u8]) -> Answe
 }
 
 fn quick(ticket: &[u8], row: &[&str]) {
-    let [_, first, second, n, place, word] = row else { panic!("a row of six fields: {row:?}") };
+    let [_, first, second, n, place, word] = row else {
+        panic!("a row of six fields: {row:?}")
+    };
     let expected = answer(n, place, u32::from(*word == "apart"));
     assert_eq!(reference::quick(ticket, number(first), number(second)), expected, "{row:?}");
 }
