@@ -31,6 +31,8 @@ pub enum Kind {
     O,
 }
 
+const KINDS: [Kind; 3] = [Kind::F, Kind::A, Kind::O];
+
 /// One line of the listing; the order of the fields is the order of the lines. Statements are counted from 0.
 #[derive(Clone, PartialEq, Eq, PartialOrd, Ord, Debug)]
 pub struct Line {
@@ -80,35 +82,59 @@ fn kinds(source: &Instance, sink: &Instance) -> [bool; 3] {
     kinds
 }
 
-/// All conflicts of a nest whose iterations are `points`, in rising order.
-pub fn conflicts(nest: &Nest, points: &[Point]) -> BTreeSet<Line> {
+fn instances<'a>(nest: &Nest, points: &'a [Point]) -> Vec<Instance<'a>> {
     let mut instances = vec![];
     for point in points {
         for (statement, s) in nest.statements.iter().enumerate() {
-            let elements = s.accesses().map(|access| nest.element(access, point));
+            let elements = s.accesses().map(|access| nest.element(access, point)).collect();
             instances.push(Instance {
                 statement,
                 point,
-                elements: elements.collect(),
+                elements,
             });
         }
     }
-    let mut lines = BTreeSet::new();
+    instances
+}
+
+/// The signs between two points, read as a number in base 3.
+fn rank(source: &Point, sink: &Point) -> usize {
+    let signs = source.iter().zip(sink).map(|(from, to)| sign(*from, *to));
+    signs.fold(0, |rank, sign| 3 * rank + sign as usize)
+}
+
+fn vector_of_rank(rank: usize, loops: u32) -> Vector {
+    (0..loops).rev().map(|place| SIGNS[rank / 3usize.pow(place) % 3]).collect()
+}
+
+/// All conflicts of a nest whose iterations are `points`, in rising order.
+pub fn conflicts(nest: &Nest, points: &[Point]) -> BTreeSet<Line> {
+    let (loops, statements) = (nest.loops.len() as u32, nest.statements.len());
+    // By source, sink, rank and kind: a set of lines would take its time on nests full of conflicts.
+    let mut marks = vec![vec![vec![[false; 3]; 3usize.pow(loops)]; statements]; statements];
+    let instances = instances(nest, points);
     for (number, sink) in instances.iter().enumerate() {
         for source in &instances[..number] {
             let kinds = kinds(source, sink);
-            if kinds == [false; 3] {
-                continue;
+            if kinds != [false; 3] {
+                let mark = &mut marks[source.statement][sink.statement][rank(source.point, sink.point)];
+                for (mark, kind) in mark.iter_mut().zip(kinds) {
+                    *mark |= kind;
+                }
             }
-            let signs = source.point.iter().zip(sink.point);
-            let vector: Vector = signs.map(|(from, to)| sign(*from, *to)).collect();
-            for kind in [Kind::F, Kind::A, Kind::O] {
-                if kinds[kind as usize] {
+        }
+    }
+    let mut lines = BTreeSet::new();
+    for (source, sinks) in marks.iter().enumerate() {
+        for (sink, ranks) in sinks.iter().enumerate() {
+            for (rank, kinds) in ranks.iter().enumerate() {
+                for kind in KINDS.into_iter().filter(|kind| kinds[*kind as usize]) {
+                    let vector = vector_of_rank(rank, loops);
                     lines.insert(Line {
-                        source: source.statement,
-                        sink: sink.statement,
+                        source,
+                        sink,
                         kind,
-                        vector: vector.clone(),
+                        vector,
                     });
                 }
             }
