@@ -1,8 +1,11 @@
 //! What is answered: the five functions, and the order of the refusals.
 
-use crate::directions::{backwards, conflicts, mapped, vectors};
+use std::collections::BTreeSet;
+
+use crate::directions::{Line, backwards, conflicts, mapped, vectors};
 use crate::points::{Point, admit, spread};
-use crate::ticket::{Nest, Ticket};
+use crate::quick::apart;
+use crate::ticket::{Access, Nest, Ticket};
 use crate::{echo, limits, reading, run as running, writing};
 
 /// A number of the table, and a place.
@@ -42,14 +45,34 @@ fn answer(count: Result<usize, Refusal>) -> Answer {
     }
 }
 
+/// A ticket without refusals 1 to 9: its iterations in the old order, and their conflicts.
+pub struct Admitted {
+    pub ticket: Ticket,
+    pub points: Vec<Point>,
+    pub lines: BTreeSet<Line>,
+}
+
+fn admitted(bytes: &[u8]) -> Result<Admitted, Refusal> {
+    let ticket = reading::read(bytes)?;
+    let points = admit(&ticket.nest)?;
+    let lines = conflicts(&ticket.nest, &points);
+    Ok(Admitted { ticket, points, lines })
+}
+
+/// A ticket without refusals 1 to 13: the new nest, and its iterations in the new order.
+pub struct Judged {
+    pub nest: Nest,
+    pub points: Vec<Point>,
+}
+
 /// The new nest, step by step: 10, 11, 12.
-fn stepped(ticket: &Ticket, points: &[Point]) -> Result<Nest, Refusal> {
-    let mut nest = ticket.nest.clone();
-    let mut set = vectors(&conflicts(&nest, points));
-    for (number, step) in (1..).zip(&ticket.steps) {
-        set = set.iter().flat_map(|v| mapped(step, v)).collect();
+fn stepped(admitted: &Admitted) -> Result<Nest, Refusal> {
+    let mut nest = admitted.ticket.nest.clone();
+    let mut set = vectors(&admitted.lines);
+    for (number, step) in (1..).zip(&admitted.ticket.steps) {
+        set = set.iter().flat_map(|vector| mapped(step, vector)).collect();
         nest = limits::after(step, &nest);
-        if set.iter().any(|v| backwards(v)) {
+        if set.iter().any(|vector| backwards(vector)) {
             return Err(Refusal::new(10, number));
         }
         if limits::full(&nest) {
@@ -62,90 +85,121 @@ fn stepped(ticket: &Ticket, points: &[Point]) -> Result<Nest, Refusal> {
     Ok(nest)
 }
 
-/// An accepted ticket: its iterations in the old order, the new nest, and that nest's iterations in the new order.
-pub struct Judged {
-    pub ticket: Ticket,
-    pub old: Vec<Point>,
-    pub nest: Nest,
-    pub new: Vec<Point>,
+/// All that the answers to one ticket follow from, so that a caller who wants several has it worked out once.
+pub struct Answers {
+    pub admitted: Result<Admitted, Refusal>,
+    pub judged: Result<Judged, Refusal>,
 }
 
-/// Refusals 1 to 13.
-pub fn judged(bytes: &[u8]) -> Result<Judged, Refusal> {
-    let ticket = reading::read(bytes)?;
-    let old = admit(&ticket.nest)?;
-    let nest = stepped(&ticket, &old)?;
-    let new = spread(&nest)?;
-    Ok(Judged { ticket, old, nest, new })
+impl Answers {
+    pub fn to(ticket: &[u8]) -> Answers {
+        let admitted = admitted(ticket);
+        let judged = match &admitted {
+            Ok(admitted) => stepped(admitted).and_then(|nest| {
+                let points = spread(&nest)?;
+                Ok(Judged { nest, points })
+            }),
+            Err(refusal) => Err(*refusal),
+        };
+        Answers { admitted, judged }
+    }
+
+    fn admitted(&self) -> Result<&Admitted, Refusal> {
+        self.admitted.as_ref().map_err(|refusal| *refusal)
+    }
+
+    /// The ticket as it was admitted, too, since whatever is judged was.
+    fn judged(&self) -> Result<(&Admitted, &Judged), Refusal> {
+        let judged = self.judged.as_ref().map_err(|refusal| *refusal)?;
+        Ok((self.admitted()?, judged))
+    }
+
+    /// What write puts into a buffer that is long enough.
+    pub fn new_nest(&self) -> Result<Vec<u8>, Refusal> {
+        self.judged().map(|(_, judged)| writing::written(&judged.nest))
+    }
+
+    /// What list puts into a buffer that is long enough.
+    pub fn listing(&self) -> Result<Vec<u8>, Refusal> {
+        self.admitted().map(|admitted| {
+            let loops = admitted.ticket.nest.loops.len();
+            echo::listing(loops, admitted.points.len(), &admitted.lines).into_bytes()
+        })
+    }
+
+    pub fn judge(&self) -> Answer {
+        answer(self.judged().map(|(admitted, _)| admitted.points.len()))
+    }
+
+    pub fn write(&self, out: &mut [u8]) -> Answer {
+        answer(self.new_nest().and_then(|bytes| hand_over(&bytes, out)))
+    }
+
+    pub fn list(&self, out: &mut [u8]) -> Answer {
+        answer(self.listing().and_then(|bytes| hand_over(&bytes, out)))
+    }
+
+    pub fn quick(&self, first: u64, second: u64) -> Answer {
+        let apart = || {
+            let nest = &self.admitted()?.ticket.nest;
+            let (first, second) = (access(nest, first)?, access(nest, second)?);
+            Ok(usize::from(apart(nest, first, second)))
+        };
+        answer(apart())
+    }
+
+    pub fn run(&self, store: &mut [u32]) -> Answer {
+        let mut ran = || {
+            let (admitted, judged) = self.judged()?;
+            let nest = &admitted.ticket.nest;
+            if let Some(opaque) = nest.statements.iter().position(|s| s.rule == 0) {
+                return Err(Refusal::new(15, opaque + 1));
+            }
+            if store.len() as i64 != nest.elements() {
+                return Err(Refusal::new(16, 0));
+            }
+            running::run(&admitted.ticket.steps, judged, store);
+            Ok(admitted.points.len())
+        };
+        answer(ran())
+    }
+}
+
+/// The output at the front of the lent buffer, or 14; bytes beyond those written keep their values.
+fn hand_over(output: &[u8], buffer: &mut [u8]) -> Result<usize, Refusal> {
+    if output.len() > buffer.len() {
+        return Err(Refusal::new(14, 0));
+    }
+    buffer[..output.len()].copy_from_slice(output);
+    Ok(output.len())
+}
+
+/// An access by its number, from 1 in ticket order.
+fn access(nest: &Nest, number: u64) -> Result<&Access, Refusal> {
+    let accesses: Vec<&Access> = nest.statements.iter().flat_map(|s| s.accesses()).collect();
+    match number.checked_sub(1) {
+        Some(before) if before < accesses.len() as u64 => Ok(accesses[before as usize]),
+        _ => Err(Refusal::new(4, 0)),
+    }
 }
 
 pub fn judge(ticket: &[u8]) -> Answer {
-    answer(judged(ticket).map(|judged| judged.old.len()))
-}
-
-/// What write puts into a buffer that is long enough.
-pub fn new_nest(ticket: &[u8]) -> Result<Vec<u8>, Refusal> {
-    judged(ticket).map(|judged| writing::written(&judged.nest))
-}
-
-/// What list puts into a buffer that is long enough: the refusals are 1 to 9.
-pub fn listing(ticket: &[u8]) -> Result<Vec<u8>, Refusal> {
-    let ticket = reading::read(ticket)?;
-    let points = admit(&ticket.nest)?;
-    let lines = conflicts(&ticket.nest, &points);
-    let loops = ticket.nest.loops.len();
-    Ok(echo::listing(loops, points.len(), &lines).into_bytes())
-}
-
-/// The output into the lent buffer, or 14; bytes beyond those written keep their values.
-pub fn hand_over(output: &Result<Vec<u8>, Refusal>, buffer: &mut [u8]) -> Answer {
-    let output = match output {
-        Ok(output) => output,
-        Err(refusal) => return answer(Err(*refusal)),
-    };
-    if output.len() > buffer.len() {
-        return answer(Err(Refusal::new(14, 0)));
-    }
-    buffer[..output.len()].copy_from_slice(output);
-    answer(Ok(output.len()))
+    Answers::to(ticket).judge()
 }
 
 pub fn write(ticket: &[u8], out: &mut [u8]) -> Answer {
-    hand_over(&new_nest(ticket), out)
+    Answers::to(ticket).write(out)
 }
 
 pub fn list(ticket: &[u8], out: &mut [u8]) -> Answer {
-    hand_over(&listing(ticket), out)
+    Answers::to(ticket).list(out)
 }
 
 /// Count 1 apart, 0 perhaps.
 pub fn quick(ticket: &[u8], first: u64, second: u64) -> Answer {
-    let apart = || {
-        let ticket = reading::read(ticket)?;
-        admit(&ticket.nest)?;
-        let accesses = ticket.nest.statements.iter().flat_map(|s| s.accesses());
-        let accesses: Vec<_> = accesses.collect();
-        let found = |number: u64| match number.checked_sub(1) {
-            Some(n) if n < accesses.len() as u64 => Ok(accesses[n as usize]),
-            _ => Err(Refusal::new(4, 0)),
-        };
-        let (first, second) = (found(first)?, found(second)?);
-        Ok(crate::quick::apart(&ticket.nest, first, second))
-    };
-    answer(apart().map(usize::from))
+    Answers::to(ticket).quick(first, second)
 }
 
 pub fn run(ticket: &[u8], store: &mut [u32]) -> Answer {
-    let ran = judged(ticket).and_then(|judged| {
-        let statements = &judged.nest.statements;
-        if let Some(opaque) = statements.iter().position(|s| s.rule == 0) {
-            return Err(Refusal::new(15, opaque + 1));
-        }
-        if store.len() as i64 != judged.nest.elements() {
-            return Err(Refusal::new(16, 0));
-        }
-        running::run(&judged, store);
-        Ok(judged.old.len())
-    });
-    answer(ran)
+    Answers::to(ticket).run(store)
 }

@@ -20,4 +20,4 @@ pub mod ticket;
 pub mod tickets;
 pub mod writing;
 
-pub use answers::{Answer, Refusal, hand_over, judge, list, listing, new_nest, quick, run, write};
+pub use answers::{Answer, Answers, Refusal, judge, list, quick, run, write};

@@ -2,7 +2,8 @@
 
 use crate::answers::Judged;
 use crate::plain_run::{order, plain_run};
-use crate::ticket::Statement;
+use crate::points::Point;
+use crate::ticket::{Statement, Step};
 
 /// The value that rule 1, 2 or 3 makes.
 pub fn value(statement: &Statement, reads: &[u32]) -> u32 {
@@ -15,9 +16,9 @@ pub fn value(statement: &Statement, reads: &[u32]) -> u32 {
     }
 }
 
-pub fn run(judged: &Judged, store: &mut [u32]) {
+pub fn run(steps: &[Step], judged: &Judged, store: &mut [u32]) {
     let nest = &judged.nest;
-    let turns = order(&judged.ticket.steps, &judged.new);
-    let rule = |number: usize, reads: &[u32], _: &_| value(&nest.statements[number], reads);
+    let turns = order(steps, &judged.points);
+    let rule = |number: usize, reads: &[u32], _: &Point| value(&nest.statements[number], reads);
     plain_run(nest, &turns, rule, store);
 }
