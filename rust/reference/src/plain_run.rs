@@ -40,7 +40,7 @@ pub fn order(steps: &[Step], points: &[Point]) -> Vec<Turn> {
 }
 
 /// `rule` makes a value from the statement's number from 0, its reads in ticket order, and the original iteration.
-pub fn plain_run<V: Copy>(nest: &Nest, order: &[Turn], rule: impl Fn(usize, &[V], &Point) -> V, values: &mut [V]) {
+pub fn plain_run<V: Copy>(nest: &Nest, order: &[Turn], rule: impl Fn(usize, &[V], &[i64]) -> V, values: &mut [V]) {
     for turn in order {
         for (number, statement) in nest.statements.iter().enumerate() {
             let reads = statement.reads.iter();

@@ -2,7 +2,6 @@
 
 use crate::answers::Judged;
 use crate::plain_run::{order, plain_run};
-use crate::points::Point;
 use crate::ticket::{Statement, Step};
 
 /// The value that rule 1, 2 or 3 makes.
@@ -19,6 +18,6 @@ pub fn value(statement: &Statement, reads: &[u32]) -> u32 {
 pub fn run(steps: &[Step], judged: &Judged, store: &mut [u32]) {
     let nest = &judged.nest;
     let turns = order(steps, &judged.points);
-    let rule = |number: usize, reads: &[u32], _: &Point| value(&nest.statements[number], reads);
+    let rule = |number: usize, reads: &[u32], _: &[i64]| value(&nest.statements[number], reads);
     plain_run(nest, &turns, rule, store);
 }
