@@ -9,6 +9,8 @@ use crate::ticket::{Access, Affine, Loop, Nest, Statement, elements_of};
 pub enum Body {
     /// Up to four statements of up to four reads.
     Any,
+    /// Four arrays of three dimensions, four statements of four reads.
+    Most,
     /// Few accesses, for nests of many iterations.
     Few,
     /// One write, of a different element in each iteration, so that no step is out of order.
@@ -52,6 +54,7 @@ fn statement(random: &mut Random, body: Body, loops: usize, arrays: &[usize], op
     let rule = if opaque { random.between(0, 3) } else { random.between(1, 3) };
     let mut count = match body {
         Body::Any => random.weighted(&[20, 40, 20, 12, 8]),
+        Body::Most => 4,
         Body::Few | Body::Free => random.below(2),
     };
     if rule == 3 {
@@ -152,21 +155,42 @@ fn few_points(loops: &[Loop]) -> Vec<Point> {
     points(loops, 32_767, 4096).unwrap_or_default()
 }
 
-pub fn nest(random: &mut Random, loops: Vec<Loop>, body: Body) -> Nest {
-    let depth = loops.len();
-    let points = few_points(&loops);
-    let (statements, dimensions) = match body {
-        Body::Free => (vec![free(random, depth)], vec![depth.min(3)]),
-        _ => {
-            let most: &[i64] = if matches!(body, Body::Any) { &[45, 30, 15, 10] } else { &[70, 30] };
-            let arrays = 1 + random.weighted(most);
-            let dimensions: Vec<usize> = (0..arrays).map(|_| 1 + random.weighted(&[45, 40, 15])).collect();
-            let count = 1 + random.weighted(most);
-            let opaque = random.percent(12);
-            let one = |_| statement(random, body, depth, &dimensions, opaque);
-            ((0..count).map(one).collect(), dimensions)
+/// Every access names one element, so that all instances conflict.
+fn onto_one_element(statements: &mut [Statement]) {
+    for access in statements.iter_mut().flat_map(|s| s.accesses_mut()) {
+        access.array = 0;
+        for subscript in &mut access.subscripts {
+            subscript.constant = 0;
+            subscript.coefficients.fill(0);
         }
+    }
+}
+
+/// Statements, and the dimensions of each array that they name.
+fn body(random: &mut Random, depth: usize, body: Body) -> (Vec<Statement>, Vec<usize>) {
+    let (arrays, statements) = match body {
+        Body::Free => return (vec![free(random, depth)], vec![depth.min(3)]),
+        Body::Any => (random.weighted(&[45, 30, 15, 10]), random.weighted(&[45, 30, 15, 10])),
+        Body::Few => (random.below(2), random.below(2)),
+        Body::Most => (3, 3),
     };
+    let dimensions = |_| match body {
+        Body::Most => 3,
+        _ => 1 + random.weighted(&[45, 40, 15]),
+    };
+    let dimensions: Vec<usize> = (0..=arrays).map(dimensions).collect();
+    let opaque = random.percent(12);
+    let one = |_| statement(random, body, depth, &dimensions, opaque);
+    let mut statements: Vec<Statement> = (0..=statements).map(one).collect();
+    if matches!(body, Body::Most) && random.percent(40) {
+        onto_one_element(&mut statements);
+    }
+    (statements, dimensions)
+}
+
+pub fn nest(random: &mut Random, loops: Vec<Loop>, kind: Body) -> Nest {
+    let points = few_points(&loops);
+    let (statements, dimensions) = body(random, loops.len(), kind);
     let mut nest = Nest {
         loops,
         arrays: vec![],

@@ -25,10 +25,23 @@ fn small(random: &mut Random) -> Ticket {
     let loops = spaces::small(random);
     let nest = bodies::nest(random, loops, Body::Any);
     let count = count(random);
-    let mut steps = chains::accepted(random, &nest, count, EVENLY);
-    if random.percent(25) {
-        steps = chains::free(random, nest.loops.len(), count, EVENLY);
+    if random.percent(15) {
+        let steps = chains::free(random, nest.loops.len(), count, EVENLY);
+        return Ticket { nest, steps };
     }
+    let mut steps = chains::accepted(random, &nest, count, EVENLY);
+    if steps.len() < 8 && random.percent(25) {
+        let sections = steps.iter().filter(|step| matches!(step, Step::Section { .. })).count();
+        steps.extend(chains::free(random, nest.loops.len() + sections, 1, EVENLY));
+    }
+    Ticket { nest, steps }
+}
+
+/// As long as a ticket gets, with steps that are accepted, mostly.
+fn longest(random: &mut Random) -> Ticket {
+    let loops = spaces::most_limits(random);
+    let nest = bodies::nest(random, loops, Body::Most);
+    let steps = chains::accepted(random, &nest, 8, EVENLY);
     Ticket { nest, steps }
 }
 
@@ -97,14 +110,15 @@ fn large(random: &mut Random) -> Ticket {
 /// The ticket of a seed and an index: the same one on every machine.
 pub fn ticket(seed: u64, index: u64) -> Vec<u8> {
     let random = &mut Random::of(seed, index);
-    let ticket = match random.weighted(&[660, 80, 80, 50, 30, 80, 2, 18]) {
+    let ticket = match random.weighted(&[640, 80, 80, 50, 30, 80, 20, 2, 18]) {
         0 => small(random),
         1 => full(random),
         2 => big(random),
         3 => far(random),
         4 => spreading(random),
         5 => beyond(random),
-        6 => large(random),
+        6 => longest(random),
+        7 => large(random),
         _ => return mangled::noise(random),
     };
     let bytes = bytes_of(&words_of(&ticket));

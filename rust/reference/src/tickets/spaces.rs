@@ -91,6 +91,22 @@ pub fn many_limits(random: &mut Random) -> Vec<Loop> {
     loops
 }
 
+/// Four loops of four limits a side, and up to 81 iterations.
+pub fn most_limits(random: &mut Random) -> Vec<Loop> {
+    let naming = random.pick(&[0, 15]);
+    let mut loops = vec![];
+    for outside in 0..4 {
+        let low = random.between(-2, 2);
+        let mut l = plain(low, low + random.between(1, 2), outside);
+        for _ in 0..3 {
+            further(random, &mut l.lower, -1, outside, naming);
+            further(random, &mut l.upper, 1, outside, naming);
+        }
+        loops.push(l);
+    }
+    loops
+}
+
 /// Few indices between limits of great numbers, which steps drive beyond ±32767.
 pub fn great_numbers(random: &mut Random) -> Vec<Loop> {
     let depth = random.between(1, 4) as usize;
