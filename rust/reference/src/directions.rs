@@ -31,8 +31,6 @@ pub enum Kind {
     O,
 }
 
-const KINDS: [Kind; 3] = [Kind::F, Kind::A, Kind::O];
-
 /// One line of the listing; the order of the fields is the order of the lines. Statements are counted from 0.
 #[derive(Clone, PartialEq, Eq, PartialOrd, Ord, Debug)]
 pub struct Line {
@@ -40,13 +38,6 @@ pub struct Line {
     pub sink: usize,
     pub kind: Kind,
     pub vector: Vector,
-}
-
-/// A statement in an iteration, with the elements that it names; the first is written, the others are read.
-struct Instance<'a> {
-    statement: usize,
-    point: &'a Point,
-    elements: Vec<usize>,
 }
 
 fn kind(source_writes: bool, sink_writes: bool) -> Option<Kind> {
@@ -66,35 +57,25 @@ fn sign(source: i64, sink: i64) -> Sign {
     }
 }
 
-/// Kinds of conflict between two different instances, the first being earlier.
-fn kinds(source: &Instance, sink: &Instance) -> [bool; 3] {
-    let mut kinds = [false; 3];
-    for (s, named) in source.elements.iter().enumerate() {
-        for (t, also) in sink.elements.iter().enumerate() {
-            if named != also {
-                continue;
-            }
-            if let Some(kind) = kind(s == 0, t == 0) {
-                kinds[kind as usize] = true;
-            }
-        }
-    }
-    kinds
+/// An access: its statement, whether it writes, and the element that it names at each point.
+struct Trace {
+    statement: usize,
+    writes: bool,
+    elements: Vec<usize>,
 }
 
-fn instances<'a>(nest: &Nest, points: &'a [Point]) -> Vec<Instance<'a>> {
-    let mut instances = vec![];
-    for point in points {
-        for (statement, s) in nest.statements.iter().enumerate() {
-            let elements = s.accesses().map(|access| nest.element(access, point)).collect();
-            instances.push(Instance {
+fn traces(nest: &Nest, points: &[Point]) -> Vec<Trace> {
+    let mut traces = vec![];
+    for (statement, s) in nest.statements.iter().enumerate() {
+        for (number, access) in s.accesses().enumerate() {
+            traces.push(Trace {
                 statement,
-                point,
-                elements,
+                writes: number == 0,
+                elements: points.iter().map(|point| nest.element(access, point)).collect(),
             });
         }
     }
-    instances
+    traces
 }
 
 /// The signs between two points, read as a number in base 3.
@@ -107,36 +88,35 @@ fn vector_of_rank(rank: usize, loops: u32) -> Vector {
     (0..loops).rev().map(|place| SIGNS[rank / 3usize.pow(place) % 3]).collect()
 }
 
-/// All conflicts of a nest whose iterations are `points`, in rising order.
-pub fn conflicts(nest: &Nest, points: &[Point]) -> BTreeSet<Line> {
-    let (loops, statements) = (nest.loops.len() as u32, nest.statements.len());
-    // By source, sink, rank and kind: a set of lines would take its time on nests full of conflicts.
-    let mut marks = vec![vec![vec![[false; 3]; 3usize.pow(loops)]; statements]; statements];
-    let instances = instances(nest, points);
-    for (number, sink) in instances.iter().enumerate() {
-        for source in &instances[..number] {
-            let kinds = kinds(source, sink);
-            if kinds != [false; 3] {
-                let mark = &mut marks[source.statement][sink.statement][rank(source.point, sink.point)];
-                for (mark, kind) in mark.iter_mut().zip(kinds) {
-                    *mark |= kind;
-                }
+/// The vectors, by rank, of all pairs of instances at which two accesses name one element, `source` being the earlier: it is in an
+/// earlier iteration, or in the same one and in an earlier statement.
+fn meetings(source: &Trace, sink: &Trace, points: &[Point]) -> BTreeSet<usize> {
+    let mut marks = vec![false; 729];
+    for (at, element) in sink.elements.iter().enumerate() {
+        let earlier = if source.statement < sink.statement { at + 1 } else { at };
+        for (from, other) in source.elements[..earlier].iter().enumerate() {
+            if element == other {
+                marks[rank(&points[from], &points[at])] = true;
             }
         }
     }
+    (0..marks.len()).filter(|rank| marks[*rank]).collect()
+}
+
+/// All conflicts of a nest whose iterations are `points`, in rising order.
+pub fn conflicts(nest: &Nest, points: &[Point]) -> BTreeSet<Line> {
+    let traces = traces(nest, points);
     let mut lines = BTreeSet::new();
-    for (source, sinks) in marks.iter().enumerate() {
-        for (sink, ranks) in sinks.iter().enumerate() {
-            for (rank, kinds) in ranks.iter().enumerate() {
-                for kind in KINDS.into_iter().filter(|kind| kinds[*kind as usize]) {
-                    let vector = vector_of_rank(rank, loops);
-                    lines.insert(Line {
-                        source,
-                        sink,
-                        kind,
-                        vector,
-                    });
-                }
+    for source in &traces {
+        for sink in &traces {
+            let Some(kind) = kind(source.writes, sink.writes) else { continue };
+            for rank in meetings(source, sink, points) {
+                lines.insert(Line {
+                    source: source.statement,
+                    sink: sink.statement,
+                    kind,
+                    vector: vector_of_rank(rank, nest.loops.len() as u32),
+                });
             }
         }
     }

@@ -151,7 +151,8 @@ fn spoil(random: &mut Random, nest: &mut Nest) {
     }
 }
 
-fn few_points(loops: &[Loop]) -> Vec<Point> {
+/// The iterations, or none where 7 or 8 would be given.
+pub fn few_points(loops: &[Loop]) -> Vec<Point> {
     points(loops, 32_767, 4096).unwrap_or_default()
 }
 

@@ -22,7 +22,11 @@ fn count(random: &mut Random) -> usize {
 
 /// A nest of few iterations, mostly with steps that are accepted.
 fn small(random: &mut Random) -> Ticket {
-    let loops = spaces::small(random);
+    let mut loops = spaces::small(random);
+    // All pairs of instances are compared, so that most nests are kept to some hundreds.
+    while bodies::few_points(&loops).len() > 250 && random.percent(90) {
+        loops = spaces::small(random);
+    }
     let nest = bodies::nest(random, loops, Body::Any);
     let count = count(random);
     if random.percent(15) {
@@ -103,7 +107,8 @@ fn large(random: &mut Random) -> Ticket {
     let loops = spaces::large(random);
     let nest = bodies::nest(random, loops, Body::Few);
     let count = count(random).min(3);
-    let steps = chains::accepted(random, &nest, count, EVENLY);
+    // Skews and sections are never out of order: no search for those that are accepted.
+    let steps = chains::free(random, nest.loops.len(), count, [10, 5, 40, 45]);
     Ticket { nest, steps }
 }
 
