@@ -4,6 +4,7 @@
 //! `target/staticlib/libhurkeztor.a`. Where HURKEZTOR_ARCHIVE_DIR names a folder, the archive in it is linked and no `rt` is run.
 
 use std::env;
+use std::fs;
 use std::io::ErrorKind;
 use std::path::{Path, PathBuf};
 use std::process::{Command, exit};
@@ -55,14 +56,19 @@ fn build_archive() -> PathBuf {
     }
     rt(&root, "check");
     rt(&root, "staticlib");
-    let folder = root.join("target").join("staticlib");
-    if !folder.join(ARCHIVE).is_file() {
+    let archive = root.join("target").join("staticlib").join(ARCHIVE);
+    if !archive.is_file() {
+        fail(&[format!("'rt staticlib hurkeztor' ended well and left no {}.", archive.display())]);
+    }
+    // A copy, since `rt ci` removes the folder target.
+    let folder = PathBuf::from(env::var_os("OUT_DIR").expect("cargo sets OUT_DIR"));
+    if let Err(error) = fs::copy(&archive, folder.join(ARCHIVE)) {
         fail(&[format!(
-            "'rt staticlib hurkeztor' ended well and left no {}.",
-            folder.join(ARCHIVE).display()
+            "{} could not be copied to {}: {error}.",
+            archive.display(),
+            folder.display()
         )]);
     }
-    println!("cargo::rerun-if-changed={}", folder.join(ARCHIVE).display());
     folder
 }
 
