@@ -37,7 +37,7 @@ impl Caption<'_> {
         let mut lines = vec![answer, self.order()];
         lines.extend(self.steps_named());
         lines.extend(self.vectors_named());
-        lines.extend(self.projection(views));
+        lines.extend(self.projection());
         lines.extend(self.left_out(views));
         lines
     }
@@ -78,26 +78,32 @@ impl Caption<'_> {
         (!named.is_empty()).then(|| format!("Directions before: {}{more}.", named.join(", ")))
     }
 
-    fn projection(&self, views: &[View]) -> Option<String> {
-        let deeper = self.panels.iter().map(|panel| panel.deeper().len()).max().unwrap_or(0);
-        let inside: usize = views.iter().map(|view| view.inside).max().unwrap_or(0);
-        let within = if inside > 0 { " Pairs within one point are not drawn." } else { "" };
-        (deeper > 0)
-            .then(|| format!("Only the two outermost loops are drawn; a point stands for all its iterations of deeper loops.{within}"))
+    fn projection(&self) -> Option<String> {
+        let deeper = self.panels.iter().any(|panel| !panel.deeper().is_empty());
+        deeper.then(|| "Only the two outermost loops are drawn; a point stands for all its iterations of deeper loops.".into())
     }
 
     fn left_out(&self, views: &[View]) -> Option<String> {
-        let mut parts = Vec::new();
-        for view in views {
-            let when = if view.title == "Before" { "before" } else { "after" };
-            if view.partial {
-                parts.push(format!("{when}, a part of the points is in sight"));
-            }
-            let missing = self.traded.all - view.drawn - view.inside;
-            if missing > 0 {
-                parts.push(format!("{when}, {missing} of {} pairs are left out", self.traded.all));
-            }
+        let all = self.traded.all;
+        let drawn = |view: &View| {
+            let within = if view.inside > 0 {
+                format!(" ({} within one point)", view.inside)
+            } else {
+                String::new()
+            };
+            format!(
+                "{} of {} points, {} of {all} pairs{within}",
+                view.spots.len(),
+                view.all_spots,
+                view.drawn
+            )
+        };
+        let whole = |view: &View| view.spots.len() == view.all_spots && view.drawn == all;
+        match views {
+            views if views.iter().all(whole) => None,
+            [before, after] if drawn(before) == drawn(after) => Some(format!("Drawn before and after: {}.", drawn(before))),
+            [before, after] => Some(format!("Drawn before: {}. Drawn after: {}.", drawn(before), drawn(after))),
+            views => views.first().map(|view| format!("Drawn: {}.", drawn(view))),
         }
-        (!parts.is_empty()).then(|| format!("Not all is drawn: {}.", parts.join("; ")))
     }
 }

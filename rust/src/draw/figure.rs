@@ -1,6 +1,6 @@
 //! A panel's shapes, placed by themselves.
 
-use super::panel::{Arrow, Spot, View};
+use super::panel::{Arrow, Sight, Spot, View};
 use super::svg::{Shapes, text_width};
 
 const TITLE: f64 = 18.0;
@@ -47,7 +47,7 @@ impl Bounds {
 
 impl Scale {
     fn of(view: &View) -> Scale {
-        let most = view.rows.clone().count().max(view.columns.clone().count());
+        let most = view.rows.values.clone().count().max(view.columns.values.clone().count());
         let flat = view.row_name.is_none();
         if most <= 10 {
             Scale {
@@ -73,7 +73,7 @@ impl Scale {
         let bend = if self.flat {
             (0.45 * length).max(34.0)
         } else {
-            (0.2 * length).max(18.0)
+            (0.27 * length).max(18.0)
         };
         let control = (
             (from.0 + to.0) / 2.0 + dy / length * bend,
@@ -118,10 +118,10 @@ impl Figure {
             };
         }
         let centre = |spot: Spot| {
-            let (row, column) = (spot.0 - view.rows.start(), spot.1 - view.columns.start());
+            let (row, column) = (spot.0 - view.rows.values.start(), spot.1 - view.columns.values.start());
             (column as f64 * scale.cell, row as f64 * scale.cell)
         };
-        let corner = centre((*view.rows.end(), *view.columns.end()));
+        let corner = centre((*view.rows.values.end(), *view.columns.values.end()));
         let mut bounds = Bounds {
             left: -scale.radius,
             top: -scale.radius,
@@ -136,7 +136,12 @@ impl Figure {
         for (curve, _) in &curves {
             bounds.include(curve.middle(), 6.0);
         }
-        let labels = view.rows.clone().map(|row| text_width(&row.to_string(), LABEL)).fold(0.0, f64::max);
+        let labels = view
+            .rows
+            .values
+            .clone()
+            .map(|row| text_width(&label(row, &view.rows), LABEL))
+            .fold(0.0, f64::max);
         let left = if scale.flat { 0.0 } else { labels.max(34.0) + 14.0 };
         let (x0, y0) = (left - bounds.left, TITLE + 62.0 - bounds.top);
         shapes.open_group(x0, y0);
@@ -145,7 +150,11 @@ impl Figure {
         arrows(&mut shapes, &curves);
         points(&mut shapes, view, &scale, &centre);
         shapes.close_group();
-        let rest = if *view.columns.end() > *view.columns.start() { 8.0 } else { 30.0 };
+        let rest = if *view.columns.values.end() > *view.columns.values.start() {
+            8.0
+        } else {
+            30.0
+        };
         Figure {
             width: title.max(x0 + bounds.right + rest),
             height: y0 + bounds.bottom + 6.0,
@@ -156,17 +165,36 @@ impl Figure {
 
 /// The indices' names and values: columns above, rows at the left.
 fn axes(shapes: &mut Shapes, view: &View, scale: &Scale, bounds: Bounds, centre: &impl Fn(Spot) -> (f64, f64)) {
-    let first = (*view.rows.start(), *view.columns.start());
-    for column in view.columns.clone() {
-        shapes.text(centre((first.0, column)).0, bounds.top - 10.0, LABEL, "middle", &column.to_string());
+    let first = (*view.rows.values.start(), *view.columns.values.start());
+    for column in view.columns.values.clone() {
+        shapes.text(
+            centre((first.0, column)).0,
+            bounds.top - 10.0,
+            LABEL,
+            "middle",
+            &label(column, &view.columns),
+        );
     }
     shapes.italic(-scale.radius, bounds.top - 33.0, LABEL, "start", &format!("{} →", view.column_name));
     if let Some(name) = &view.row_name {
-        for row in view.rows.clone() {
-            shapes.text(bounds.left - 12.0, centre((row, first.1)).1 + 5.0, LABEL, "end", &row.to_string());
+        for row in view.rows.values.clone() {
+            shapes.text(
+                bounds.left - 12.0,
+                centre((row, first.1)).1 + 5.0,
+                LABEL,
+                "end",
+                &label(row, &view.rows),
+            );
         }
-        shapes.italic(bounds.left - 12.0, bounds.top - 10.0, LABEL, "end", &format!("{name} ↓"));
+        shapes.italic(bounds.left - 12.0, bounds.top - 33.0, LABEL, "end", &format!("{name} ↓"));
     }
+}
+
+/// A value of an index; dots where values beyond it are out of sight.
+fn label(value: i64, sight: &Sight) -> String {
+    let before = if sight.below && value == *sight.values.start() { "…" } else { "" };
+    let after = if sight.above && value == *sight.values.end() { "…" } else { "" };
+    format!("{before}{value}{after}")
 }
 
 /// The order of execution: along a row, and on to the next row.

@@ -14,9 +14,10 @@ const MARGIN: f64 = 28.0;
 const GAP: f64 = 64.0;
 /// Panels stand side by side up to this width, else below one another.
 const WIDEST: f64 = 1200.0;
-const NARROWEST: f64 = 680.0;
+const NARROWEST: f64 = 800.0;
 const ANSWER: f64 = 20.0;
 const SENTENCE: f64 = 16.0;
+const LEGEND: f64 = 14.0;
 
 /// A bound on the width of a text in the usual fonts.
 pub fn text_width(text: &str, size: f64) -> f64 {
@@ -46,7 +47,7 @@ impl Shapes {
     }
 
     fn styled(&mut self, x: f64, y: f64, size: f64, style: &str, text: &str) {
-        let text = text.replace('&', "&amp;").replace('<', "&lt;").replace('>', "&gt;");
+        let text = escaped(text);
         self.line(format_args!(
             "<text x=\"{x:.1}\" y=\"{y:.1}\" font-size=\"{size:.0}\"{style}>{text}</text>"
         ));
@@ -107,32 +108,37 @@ impl Shapes {
         y
     }
 
-    /// What the shapes mean, side by side as far as there is room; answers where it ends.
-    fn legend(&mut self, y: f64, width: f64) -> f64 {
+    /// What the shapes mean, in columns; answers where it ends.
+    fn legend(&mut self, y: f64, width: f64, projected: bool) -> f64 {
+        let point = if projected {
+            "iterations with these two indices"
+        } else {
+            "iteration, by its number in the old order"
+        };
         let meanings = [
-            "iteration, by its number in the old order",
+            point,
             "order of execution",
             "conflict, from the earlier to the later",
             "conflict that trades places",
         ];
-        let (mut x, mut y) = (0.0, y + 34.0);
+        let column = 58.0 + meanings.iter().map(|meaning| text_width(meaning, LEGEND)).fold(0.0, f64::max);
+        let columns = if 4.0 * column <= width { 4 } else { 2 };
         for (n, meaning) in meanings.iter().enumerate() {
-            let needed = 56.0 + text_width(meaning, 14.0);
-            if x > 0.0 && x + needed > width {
-                (x, y) = (0.0, y + 26.0);
-            }
-            self.open_group(MARGIN + x, y);
+            self.open_group(MARGIN + (n % columns) as f64 * column, y + 36.0 + (n / columns) as f64 * 26.0);
             match n {
                 0 => self.point(18.0, -5.0, 9.0),
                 1 => self.order((0.0, -5.0), (36.0, -5.0), false),
                 _ => self.arrow((0.0, -3.0), (18.0, -14.0), (36.0, -3.0), n == 2),
             }
-            self.text(46.0, 0.0, 14.0, "start", meaning);
+            self.text(46.0, 0.0, LEGEND, "start", meaning);
             self.close_group();
-            x += needed + 10.0;
         }
-        y
+        y + 36.0 + ((meanings.len() - 1) / columns) as f64 * 26.0
     }
+}
+
+fn escaped(text: &str) -> String {
+    text.replace('&', "&amp;").replace('<', "&lt;").replace('>', "&gt;")
 }
 
 fn wrapped(line: &str, columns: usize) -> Vec<String> {
@@ -172,7 +178,8 @@ pub fn document(views: &[View], caption: &[String]) -> String {
         y += figures.iter().map(|figure| figure.height).fold(0.0, f64::max) + GAP / 4.0;
     }
     let y = shapes.sentences(y, width, caption);
-    let height = shapes.legend(y, width) + MARGIN;
+    let projected = views.iter().flat_map(|view| &view.spots).any(|(_, number)| number.is_none());
+    let height = shapes.legend(y, width, projected) + MARGIN;
     framed(width + 2.0 * MARGIN, height, caption, &shapes.out)
 }
 
@@ -183,10 +190,11 @@ fn framed(width: f64, height: f64, caption: &[String], shapes: &str) -> String {
         )
     };
     let heads = [head("order", ORDER, 9.0), head("kept", KEPT, 11.0), head("traded", TRADED, 13.0)].concat();
-    let title = caption.first().map_or("", String::as_str);
+    let title = escaped(caption.first().map_or("", String::as_str));
+    let description = escaped(&caption.get(1..).unwrap_or(&[]).join(" "));
     format!(
         "<svg xmlns=\"http://www.w3.org/2000/svg\" width=\"{width:.0}\" height=\"{height:.0}\" viewBox=\"0 0 {width:.0} {height:.0}\" \
-         font-family=\"DejaVu Sans, Verdana, Helvetica, Arial, sans-serif\" fill=\"{INK}\">\n<title>{title}</title>\n<defs>\n{heads}</defs>\n\
+         font-family=\"DejaVu Sans, Verdana, Helvetica, Arial, sans-serif\" fill=\"{INK}\">\n<title>{title}</title>\n<desc>{description}</desc>\n<defs>\n{heads}</defs>\n\
          <rect width=\"100%\" height=\"100%\" fill=\"{PAPER}\"/>\n{shapes}</svg>\n"
     )
 }
