@@ -20,6 +20,8 @@ fn main() {
         None => build_archive(),
     };
     println!("cargo::rustc-link-search=native={}", folder.display());
+    // For the test that links the C example with the same archive.
+    println!("cargo::rustc-env=HURKEZTOR_ARCHIVE={}", folder.join(ARCHIVE).display());
     println!("cargo::rustc-link-lib=static=hurkeztor");
 }
 

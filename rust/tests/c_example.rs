@@ -9,15 +9,6 @@ fn root() -> PathBuf {
     Path::new(env!("CARGO_MANIFEST_DIR")).join("..")
 }
 
-/// Where build.rs finds the archive.
-fn archive() -> PathBuf {
-    let folder = match option_env!("HURKEZTOR_ARCHIVE_DIR") {
-        Some(folder) => PathBuf::from(folder),
-        None => root().join("target/staticlib"),
-    };
-    folder.join("libhurkeztor.a")
-}
-
 /// Each test builds its own program, since tests run side by side.
 fn built(name: &str) -> PathBuf {
     let program = Path::new(env!("CARGO_TARGET_TMPDIR")).join(name);
@@ -26,7 +17,7 @@ fn built(name: &str) -> PathBuf {
         .arg("-I")
         .arg(root().join("include"))
         .arg(root().join("c/judge.c"))
-        .arg(archive())
+        .arg(env!("HURKEZTOR_ARCHIVE"))
         .arg("-o")
         .arg(&program)
         .output()
