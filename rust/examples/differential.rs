@@ -1,0 +1,116 @@
+//! Compares the five entries with the reference on as many tickets as one likes.
+//!
+//!     cargo run --release --example differential -- --tickets 1000000 --seed 7
+
+#[path = "../tests/compare/mod.rs"]
+mod compare;
+
+use std::env;
+use std::io::{IsTerminal, Write, stderr};
+use std::process::ExitCode;
+use std::time::{Duration, Instant};
+
+use compare::{Tally, compare};
+
+const HELP: &str = "Compares the five entries of Hurkeztor with the reference: number, place, count and all lent memory.
+
+Usage: differential [--tickets N] [--seed N] [--first N]
+
+  --tickets N   how many tickets (20000)
+  --seed N      the seed that they are made from (1)
+  --first N     the index of the first one (0); with --tickets 1 a ticket is compared again alone
+
+The exit status is 0 where all answers are equal, 1 where some differ, 2 on bad usage.";
+
+const MOST_SHOWN: u64 = 10;
+
+struct Wanted {
+    tickets: u64,
+    seed: u64,
+    first: u64,
+}
+
+/// Nothing where help is asked for.
+fn wanted(mut arguments: impl Iterator<Item = String>) -> Result<Option<Wanted>, String> {
+    let mut wanted = Wanted {
+        tickets: 20_000,
+        seed: 1,
+        first: 0,
+    };
+    while let Some(name) = arguments.next() {
+        let place = match name.as_str() {
+            "--help" | "-h" => return Ok(None),
+            "--tickets" => &mut wanted.tickets,
+            "--seed" => &mut wanted.seed,
+            "--first" => &mut wanted.first,
+            _ => return Err(format!("There is no option {name}.")),
+        };
+        let value = arguments.next().ok_or(format!("{name} needs a number after it."))?;
+        *place = value.parse().map_err(|_| format!("{name} needs a number, and {value} is none."))?;
+    }
+    if wanted.first.checked_add(wanted.tickets).is_none() {
+        return Err("--first and --tickets together are beyond 64 bits.".into());
+    }
+    Ok(Some(wanted))
+}
+
+/// A line on a terminal, at most twice a second.
+struct Progress {
+    shown: bool,
+    last: Instant,
+}
+
+impl Progress {
+    fn tell(&mut self, done: u64, of: u64, differences: u64) {
+        if self.shown && self.last.elapsed() > Duration::from_millis(500) {
+            self.last = Instant::now();
+            eprint!("\r{done} of {of} tickets, {differences} different ");
+            let _ = stderr().flush();
+        }
+    }
+
+    fn end(&self) {
+        if self.shown {
+            eprint!("\r\x1b[K");
+        }
+    }
+}
+
+fn compare_all(wanted: &Wanted) -> u64 {
+    let (mut tally, mut differences) = (Tally::default(), 0);
+    let begun = Instant::now();
+    let mut progress = Progress {
+        shown: stderr().is_terminal(),
+        last: begun,
+    };
+    for done in 0..wanted.tickets {
+        progress.tell(done, wanted.tickets, differences);
+        if let Err(difference) = compare(wanted.seed, wanted.first + done, &mut tally) {
+            differences += 1;
+            if differences <= MOST_SHOWN {
+                progress.end();
+                println!("{difference}");
+            }
+        }
+    }
+    progress.end();
+    let least = (0..=16).map(|number| tally.of_number(number)).min().unwrap_or(0);
+    let (tickets, seconds) = (wanted.tickets, begun.elapsed().as_secs());
+    println!("{tally}{tickets} tickets, {differences} different, every number at least {least} times, {seconds} s");
+    differences
+}
+
+fn main() -> ExitCode {
+    match wanted(env::args().skip(1)) {
+        Ok(Some(wanted)) if compare_all(&wanted) == 0 => ExitCode::SUCCESS,
+        Ok(Some(_)) => ExitCode::from(1),
+        Ok(None) => {
+            println!("{HELP}");
+            ExitCode::SUCCESS
+        }
+        Err(message) => {
+            eprintln!("{message} See --help.");
+            ExitCode::from(2)
+        }
+    }
+}

@@ -1,0 +1,23 @@
+//! Document 01 the slow obvious way, for tests only.
+//!
+//! It was written from the document alone and shares no code with the library that it is compared with. Each module has the name of the
+//! document's section that it says: `ticket` (with `reading` and `writing` of its bytes), `answers`, `points` (partial points and the
+//! refusals that ask for them), `directions`, `limits` after a step, `quick` test, `run`, `plain_run` and `echo` (the listing's text).
+//! The five functions [`judge`], [`write`], [`list`], [`quick`] and [`run`] mean what the entries of that name mean.
+//!
+//! `tickets` is not of the document: it makes tickets of all shapes from a seed.
+
+pub mod answers;
+pub mod directions;
+pub mod echo;
+pub mod limits;
+pub mod plain_run;
+pub mod points;
+pub mod quick;
+pub mod reading;
+pub mod run;
+pub mod ticket;
+pub mod tickets;
+pub mod writing;
+
+pub use answers::{Answer, Answers, Refusal, judge, list, quick, run, write};

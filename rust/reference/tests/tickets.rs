@@ -1,0 +1,57 @@
+//! The generator reaches every answer, and what the reference accepts keeps every array: demand 3 of document 01.
+
+use reference::plain_run::{Turn, order, plain_run};
+use reference::ticket::{Nest, Ticket};
+use reference::tickets::{as_words, ticket};
+use reference::{Answers, judge};
+
+const SEED: u64 = 1;
+const TICKETS: u64 = 3000;
+
+#[test]
+fn every_number_of_judge_occurs() {
+    let mut seen = [0; 17];
+    for index in 0..TICKETS {
+        seen[judge(&ticket(SEED, index)).number as usize] += 1;
+    }
+    println!("{seen:?}");
+    for (number, times) in seen[..14].iter().enumerate() {
+        assert!(*times >= 15, "number {number} occurs {times} times: {seen:?}");
+    }
+}
+
+/// A rule whose value tells statement, reads and original iteration apart.
+fn mixed(statement: usize, reads: &[u64], original: &[i64]) -> u64 {
+    let mix = |sum: u64, next: u64| (sum ^ next).wrapping_mul(0x9e37_79b9_7f4a_7c15).rotate_left(23);
+    let sum = reads.iter().fold(statement as u64, |sum, read| mix(sum, *read));
+    original.iter().fold(sum, |sum, index| mix(sum, *index as u64))
+}
+
+fn left_by(nest: &Nest, order: &[Turn]) -> Vec<u64> {
+    let mut values: Vec<u64> = (0..nest.elements() as u64).collect();
+    plain_run(nest, order, mixed, &mut values);
+    values
+}
+
+#[test]
+fn accepted_orders_end_alike() {
+    let mut accepted = 0;
+    for index in 0..TICKETS {
+        let bytes = ticket(SEED, index);
+        let Answers {
+            admitted: Ok(admitted),
+            judged: Ok(judged),
+        } = Answers::to(&bytes)
+        else {
+            continue;
+        };
+        let Ticket { nest, steps } = &admitted.ticket;
+        let (old, new) = (order(&[], &admitted.points), order(steps, &judged.points));
+        let mut originals: Vec<_> = new.iter().map(|turn| turn.original.clone()).collect();
+        originals.sort();
+        assert_eq!(originals, admitted.points, "{}", as_words(&bytes));
+        assert_eq!(left_by(&judged.nest, &new), left_by(nest, &old), "{}", as_words(&bytes));
+        accepted += usize::from(!steps.is_empty() && !admitted.lines.is_empty());
+    }
+    assert!(accepted > 500, "{accepted} tickets with conflicts and steps were accepted");
+}

@@ -1,0 +1,1 @@
+//! The algorithm of the proved code in plain Rust; for benchmarks only.
