@@ -160,3 +160,27 @@ pub fn lines(admitted: &Admitted) -> Lines {
     }
     lines
 }
+
+/// How many pairs of accesses the search would meet if it left none out.
+pub fn conflicts(admitted: &Admitted) -> u64 {
+    let nest = &admitted.ticket.nest;
+    let numbers = numbers(nest, &admitted.points);
+    let uses = uses(admitted, &numbers);
+    let mut total = 0;
+    for (source, sink) in uses.iter().flat_map(|source| uses.iter().map(move |sink| (source, sink))) {
+        if kind(source, sink).is_none() {
+            continue;
+        }
+        let mut named = vec![0; nest.elements()];
+        for (from, to) in source.places.iter().zip(sink.places) {
+            let before = named[*to as usize];
+            named[*from as usize] += 1;
+            total += if source.statement < sink.statement {
+                named[*to as usize]
+            } else {
+                before
+            };
+        }
+    }
+    total
+}

@@ -91,3 +91,9 @@ pub fn run(ticket: &[u8], store: &mut [u32]) -> Answer {
         Ok(judged.count)
     }))
 }
+
+/// The iterations of an admitted ticket and its conflicts: pairs of accesses, source and sink, that name one element.
+pub fn size(ticket: &[u8]) -> Option<(usize, u64)> {
+    let admitted = admit(ticket).ok()?;
+    Some((admitted.count, dependence::conflicts(&admitted)))
+}
