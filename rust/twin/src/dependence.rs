@@ -64,15 +64,18 @@ fn kind(source: &Use, sink: &Use) -> Option<usize> {
 }
 
 /// The number of the vector of two points.
-fn vector(source: &[i32], sink: &[i32]) -> usize {
-    source.iter().zip(sink).fold(0, |number, (a, b)| {
-        let sign = 1 + (a > b) as usize - (a < b) as usize;
-        number * 3 + sign
-    })
+fn vector<const D: usize>(source: &[i32; D], sink: &[i32; D]) -> usize {
+    let signs = (0..D).map(|k| {
+        let weight = power(D - 1 - k) as i32;
+        let greater = if source[k] > sink[k] { weight } else { 0 };
+        let smaller = if source[k] < sink[k] { weight } else { 0 };
+        greater - smaller
+    });
+    (signs.sum::<i32>() + power(D) as i32 / 2) as usize
 }
 
-struct Search<'a> {
-    points: &'a Points,
+struct Search<'a, const D: usize> {
+    points: &'a [[i32; D]],
     /// Which vectors two points can have: = at every loop whose index never differs.
     possible: Vec<bool>,
     /// For each element one more than the last point that named it, or 0; for each point the same of the point before it.
@@ -80,18 +83,14 @@ struct Search<'a> {
     next: Vec<u16>,
 }
 
-impl Search<'_> {
-    fn point(&self, x: usize) -> &[i32] {
-        &self.points.indices[x * self.points.depth..][..self.points.depth]
-    }
-
+impl<const D: usize> Search<'_, D> {
     /// Marks the vectors of the sink y with the chain of sources that begins at `first`, and counts them.
     fn walk(&self, y: usize, first: u16, marks: &mut [bool]) -> usize {
-        let sink = self.point(y);
+        let sink = &self.points[y];
         let (mut link, mut seen) = (first, 0);
         while link != 0 {
             let x = link as usize - 1;
-            marks[vector(self.point(x), sink)] = true;
+            marks[vector(&self.points[x], sink)] = true;
             link = self.next[x];
             seen += 1;
         }
@@ -132,25 +131,14 @@ fn possible(points: &Points) -> Vec<bool> {
     (0..power(depth)).map(can).collect()
 }
 
-/// Every line that the listing of an admitted ticket has.
-pub fn lines(admitted: &Admitted) -> Lines {
-    let nest = &admitted.ticket.nest;
-    let (points, statements) = (&admitted.points, nest.statements.len());
-    let depth = points.depth;
-    let numbers = numbers(nest, points);
-    let uses = uses(admitted, &numbers);
-    let mut search = Search {
-        points,
-        possible: possible(points),
-        head: vec![0; nest.elements()],
-        next: vec![0; points.count],
+fn search_all<const D: usize>(admitted: &Admitted, uses: &[Use], lines: &mut Lines) {
+    let mut search = Search::<D> {
+        points: admitted.points.rows(),
+        possible: possible(&admitted.points),
+        head: vec![0; admitted.ticket.nest.elements()],
+        next: vec![0; admitted.count],
     };
-    let mut lines = Lines {
-        statements,
-        depth,
-        marks: vec![false; statements * statements * 3 * power(depth)],
-    };
-    for source in &uses {
+    for source in uses {
         for sink in uses.iter().filter(|sink| sink.array == source.array) {
             if let Some(kind) = kind(source, sink) {
                 let (s, t) = (source.statement, sink.statement);
@@ -158,6 +146,20 @@ pub fn lines(admitted: &Admitted) -> Lines {
             }
         }
     }
+}
+
+/// Every line that the listing of an admitted ticket has.
+pub fn lines(admitted: &Admitted) -> Lines {
+    let nest = &admitted.ticket.nest;
+    let (statements, depth) = (nest.statements.len(), nest.loops.len());
+    let numbers = numbers(nest, &admitted.points);
+    let uses = uses(admitted, &numbers);
+    let mut lines = Lines {
+        statements,
+        depth,
+        marks: vec![false; statements * statements * 3 * power(depth)],
+    };
+    at_depth!(depth, search_all(admitted, &uses, &mut lines));
     lines
 }
 

@@ -6,6 +6,20 @@
 //!
 //! Nothing rests on these answers: they are compared with the proved entries, and timed beside them.
 
+/// Calls a function that is generic over the count of loops: the innermost work is compiled for each.
+macro_rules! at_depth {
+    ($depth:expr, $function:ident($($argument:expr),*)) => {
+        match $depth {
+            1 => $function::<1>($($argument),*),
+            2 => $function::<2>($($argument),*),
+            3 => $function::<3>($($argument),*),
+            4 => $function::<4>($($argument),*),
+            5 => $function::<5>($($argument),*),
+            _ => $function::<6>($($argument),*),
+        }
+    };
+}
+
 mod dependence;
 mod directions;
 mod elements;

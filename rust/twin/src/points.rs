@@ -11,7 +11,7 @@ pub fn ceil_div(a: i64, b: i64) -> i64 {
 }
 
 /// A constant and coefficients times indices.
-pub fn affine(constant: i64, row: &[i64], indices: &[i32]) -> i64 {
+fn affine(constant: i64, row: &[i64], indices: &[i32]) -> i64 {
     row.iter().zip(indices).fold(constant, |sum, (c, x)| sum + c * *x as i64)
 }
 
@@ -55,6 +55,11 @@ impl Points {
             count: 1,
             indices: Vec::new(),
         }
+    }
+
+    /// The points of a nest that has D loops.
+    pub fn rows<const D: usize>(&self) -> &[[i32; D]] {
+        self.indices.as_chunks().0
     }
 
     fn row(&self, x: usize) -> &[i32] {

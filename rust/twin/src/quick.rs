@@ -51,7 +51,7 @@ fn never_equal(u: &Subscript, v: &Subscript, ranges: &[Range]) -> bool {
     let constant = u.constant - v.constant;
     let divides = match divisor {
         0 => constant == 0,
-        g => constant.unsigned_abs() % g == 0,
+        g => constant.unsigned_abs().is_multiple_of(g),
     };
     let (a, b) = (sum(&u.row, ranges), sum(&v.row, ranges));
     let difference: RangeInclusive<i64> = constant + a.least - b.greatest..=constant + a.greatest - b.least;
