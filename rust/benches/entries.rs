@@ -11,10 +11,11 @@ mod kernels;
 mod timing;
 
 use std::env;
+use std::io::{IsTerminal, Write, stderr};
 use std::process::ExitCode;
 
 use calls::{ENTRIES, Entry, Subject};
-use timing::{Effort, Times, time_both};
+use timing::{Effort, Trial};
 
 const HELP: &str = "Times each proved entry beside the twin: the same algorithm in plain Rust, without proofs.
 
@@ -65,12 +66,6 @@ fn duration(nanoseconds: f64) -> String {
     }
 }
 
-/// How much longer it takes for each doubling.
-fn growth(from: (usize, f64), to: (usize, f64)) -> f64 {
-    let doublings = (to.0 as f64 / from.0 as f64).log2();
-    (to.1 / from.1).powf(1.0 / doublings)
-}
-
 fn head(title: &str) {
     println!("\n{title}");
     println!(
@@ -79,39 +74,64 @@ fn head(title: &str) {
     );
 }
 
-fn row(name: &str, subject: &Subject, times: Times, growth: Option<f64>) {
-    let each = times.proved / (subject.iterations as f64 + subject.conflicts as f64).max(1.0);
-    println!(
-        "{:<24} {:>10} {:>10} {:>10} {:>10} {:>6.2} {:>7} {:>8.1}",
-        name,
-        subject.iterations,
-        subject.conflicts,
-        duration(times.proved),
-        duration(times.twin),
-        times.ratio(),
-        growth.map_or(String::new(), |growth| format!("{growth:.2}")),
-        each
-    );
+struct Row {
+    name: String,
+    trial: Trial,
 }
 
-/// One kernel at each of its sizes.
-fn bench_kernel(entry: &Entry, kernel: &kernels::Kernel, effort: &Effort, ratios: &mut Vec<f64>) {
-    let mut last = None;
-    for text in (kernel.sizes)() {
-        let mut subject = Subject::of(&text);
-        let times = time_both(effort, entry, &mut subject);
-        let now = (subject.iterations, times.proved);
-        row(kernel.name, &subject, times, last.map(|last| growth(last, now)));
-        ratios.push(times.ratio());
-        last = Some(now);
+impl Row {
+    fn new(name: &str, text: &str, entry: &'static Entry, effort: &Effort) -> Row {
+        Row {
+            name: name.into(),
+            trial: Trial::new(entry, Subject::of(text), effort),
+        }
+    }
+
+    /// How much longer it takes than the row above for each doubling of the iterations, where that has the same kernel.
+    fn growth_since(&self, above: Option<&Row>) -> Option<f64> {
+        let above = above.filter(|above| above.name == self.name)?;
+        let doublings = (self.trial.subject.iterations as f64 / above.trial.subject.iterations as f64).log2();
+        Some((self.trial.times.proved / above.trial.times.proved).powf(1.0 / doublings))
+    }
+
+    fn print(&self, above: Option<&Row>) {
+        let (subject, times) = (&self.trial.subject, self.trial.times);
+        let each = times.proved / (subject.iterations as f64 + subject.conflicts as f64).max(1.0);
+        println!(
+            "{:<24} {:>10} {:>10} {:>10} {:>10} {:>6.2} {:>7} {:>8.1}",
+            self.name,
+            subject.iterations,
+            subject.conflicts,
+            duration(times.proved),
+            duration(times.twin),
+            times.ratio(),
+            self.growth_since(above).map_or(String::new(), |growth| format!("{growth:.2}")),
+            each
+        );
     }
 }
 
-/// The least, the middle and the greatest ratio.
-fn sum_up(ratios: &mut [f64]) {
+fn progress(text: &str) {
+    if stderr().is_terminal() {
+        eprint!("\r\x1b[K{text}");
+        let _ = stderr().flush();
+    }
+}
+
+/// All rows once, then all again: a busy moment of the machine spoils one pass of a few rows.
+fn bench_table(title: &str, mut rows: Vec<Row>, effort: &Effort) {
+    for pass in 1..=effort.passes {
+        progress(&format!("{title}: pass {pass} of {}", effort.passes));
+        rows.iter_mut().for_each(|row| row.trial.pass(effort));
+    }
+    progress("");
+    head(title);
+    for (k, row) in rows.iter().enumerate() {
+        row.print(k.checked_sub(1).map(|above| &rows[above]));
+    }
+    let mut ratios: Vec<f64> = rows.iter().map(|row| row.trial.times.ratio()).collect();
     ratios.sort_by(f64::total_cmp);
-    if let [least, .., greatest] = ratios {
-        let (least, greatest) = (*least, *greatest);
+    if let [least, .., greatest] = ratios[..] {
         println!(
             "ratio: least {least:.2}, median {:.2}, greatest {greatest:.2}",
             ratios[ratios.len() / 2]
@@ -119,40 +139,22 @@ fn sum_up(ratios: &mut [f64]) {
     }
 }
 
-fn bench_worked(wanted: &Wanted) -> Result<(), String> {
-    let rows: Vec<_> = kernels::worked_cases()?
-        .into_iter()
-        .filter(|(name, _)| wanted.has(&format!("worked judge {name}")))
-        .collect();
-    if rows.is_empty() {
-        return Ok(());
-    }
-    head("worked cases 1 to 8: judge");
-    let mut ratios = Vec::new();
-    for (name, text) in rows {
-        let mut subject = Subject::of(&text);
-        let times = time_both(&wanted.effort, &ENTRIES[0], &mut subject);
-        row(&name, &subject, times, None);
-        ratios.push(times.ratio());
-    }
-    sum_up(&mut ratios);
-    Ok(())
-}
-
 fn bench(wanted: &Wanted) -> Result<(), String> {
-    bench_worked(wanted)?;
+    let (judge, effort) = (&ENTRIES[0], &wanted.effort);
+    let cases = kernels::worked_cases()?;
+    let cases = cases.iter().filter(|(name, _)| wanted.has(&format!("worked judge {name}")));
+    let rows: Vec<Row> = cases.map(|(name, text)| Row::new(name, text, judge, effort)).collect();
+    if !rows.is_empty() {
+        bench_table("worked cases 1 to 8: judge", rows, effort);
+    }
     for entry in &ENTRIES {
-        let wanted_here = |kernel: &&kernels::Kernel| wanted.has(&format!("{} {}", entry.name, kernel.name));
-        let kernels: Vec<_> = kernels::KERNELS.iter().filter(wanted_here).collect();
-        if kernels.is_empty() {
-            continue;
+        let kernels = kernels::KERNELS.iter();
+        let kernels = kernels.filter(|kernel| wanted.has(&format!("{} {}", entry.name, kernel.name)));
+        let texts = kernels.flat_map(|kernel| (kernel.sizes)().into_iter().map(|text| (kernel.name, text)));
+        let rows: Vec<Row> = texts.map(|(name, text)| Row::new(name, &text, entry, effort)).collect();
+        if !rows.is_empty() {
+            bench_table(entry.name, rows, effort);
         }
-        head(entry.name);
-        let mut ratios = Vec::new();
-        for kernel in kernels {
-            bench_kernel(entry, kernel, &wanted.effort, &mut ratios);
-        }
-        sum_up(&mut ratios);
     }
     Ok(())
 }

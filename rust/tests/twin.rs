@@ -19,6 +19,8 @@ fn as_twin(answer: entries::Answer) -> twin::Answer {
     }
 }
 
+type Output<A> = fn(&[u8], &mut [u8]) -> A;
+
 struct Comparison {
     ticket: Vec<u8>,
     random: Random,
@@ -49,7 +51,7 @@ impl Comparison {
     /// Buffers with room, of the exact length and one too short.
     fn outputs(&mut self) {
         for entry in ["write", "list"] {
-            let (proved, twin): (fn(&[u8], &mut [u8]) -> _, fn(&[u8], &mut [u8]) -> _) = match entry {
+            let (proved, twin): (Output<_>, Output<_>) = match entry {
                 "write" => (entries::write, twin::write),
                 _ => (entries::list, twin::list),
             };

@@ -29,7 +29,7 @@ fn of_twin(answer: twin::Answer) -> [u64; 3] {
     [answer.number.into(), answer.place.into(), answer.count.into()]
 }
 
-pub const ENTRIES: [Entry; 5] = [
+pub static ENTRIES: [Entry; 5] = [
     Entry {
         name: "judge",
         proved: |s| of_proved(entries::judge(black_box(s.ticket.as_bytes()))),

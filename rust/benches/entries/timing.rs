@@ -1,27 +1,27 @@
-//! Time of one call, by batches. Other work on the machine only ever adds time, so that a run counts for its quickest batch; what is
-//! told is the median of several runs. Batches of the two sides take turns, so that both see the same machine.
+//! Time of one call, by batches. Other work on the machine only ever adds time: what is told is the quickest of all batches. Batches of the
+//! two sides take turns, so that both see the same machine, and those of one row are spread over several passes.
 
 use std::time::{Duration, Instant};
 
 use crate::calls::{Entry, Subject};
 
 pub struct Effort {
-    runs: usize,
-    /// For each side in a run.
+    pub passes: usize,
+    /// For each side in a pass.
     batches: usize,
     batch: Duration,
 }
 
 impl Effort {
     pub const FULL: Effort = Effort {
-        runs: 5,
-        batches: 8,
-        batch: Duration::from_micros(1500),
+        passes: 8,
+        batches: 6,
+        batch: Duration::from_millis(1),
     };
     pub const QUICK: Effort = Effort {
-        runs: 3,
+        passes: 3,
         batches: 3,
-        batch: Duration::from_micros(500),
+        batch: Duration::from_micros(300),
     };
 }
 
@@ -49,36 +49,44 @@ fn batch(calls: u32, mut call: impl FnMut()) -> f64 {
 /// How many calls fill a batch; finding out is the warm-up.
 fn calls_for(length: Duration, mut call: impl FnMut()) -> u32 {
     let mut calls = 1;
-    loop {
-        let taken = batch(calls, &mut call) * calls as f64;
-        if taken >= length.as_nanos() as f64 || calls >= 1 << 20 {
-            return calls;
-        }
+    while batch(calls, &mut call) * (calls as f64) < length.as_nanos() as f64 {
         calls *= 2;
     }
+    calls
 }
 
-fn median(mut times: Vec<f64>) -> f64 {
-    times.sort_by(f64::total_cmp);
-    times[times.len() / 2]
+/// One entry on one subject, proved and twin.
+pub struct Trial {
+    entry: &'static Entry,
+    pub subject: Subject,
+    proved_calls: u32,
+    twin_calls: u32,
+    /// The least so far.
+    pub times: Times,
 }
 
-pub fn time_both(effort: &Effort, entry: &Entry, subject: &mut Subject) -> Times {
-    subject.check(entry);
-    let proved_calls = calls_for(effort.batch, || subject.call(entry.proved));
-    let twin_calls = calls_for(effort.batch, || subject.call(entry.twin));
-    let (mut proved, mut twin) = (Vec::new(), Vec::new());
-    for _ in 0..effort.runs {
-        let (mut least_proved, mut least_twin) = (f64::INFINITY, f64::INFINITY);
-        for _ in 0..effort.batches {
-            least_proved = least_proved.min(batch(proved_calls, || subject.call(entry.proved)));
-            least_twin = least_twin.min(batch(twin_calls, || subject.call(entry.twin)));
+impl Trial {
+    pub fn new(entry: &'static Entry, mut subject: Subject, effort: &Effort) -> Trial {
+        subject.check(entry);
+        Trial {
+            entry,
+            proved_calls: calls_for(effort.batch, || subject.call(entry.proved)),
+            twin_calls: calls_for(effort.batch, || subject.call(entry.twin)),
+            subject,
+            times: Times {
+                proved: f64::INFINITY,
+                twin: f64::INFINITY,
+            },
         }
-        proved.push(least_proved);
-        twin.push(least_twin);
     }
-    Times {
-        proved: median(proved),
-        twin: median(twin),
+
+    pub fn pass(&mut self, effort: &Effort) {
+        let (entry, subject) = (self.entry, &mut self.subject);
+        for _ in 0..effort.batches {
+            let proved = batch(self.proved_calls, || subject.call(entry.proved));
+            let twin = batch(self.twin_calls, || subject.call(entry.twin));
+            self.times.proved = self.times.proved.min(proved);
+            self.times.twin = self.times.twin.min(twin);
+        }
     }
 }
