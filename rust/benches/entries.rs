@@ -41,15 +41,19 @@ impl Wanted {
             effort: Effort::FULL,
             names: Vec::new(),
         };
+        let mut timed = false;
         for argument in arguments {
             match argument.as_str() {
                 "--help" | "-h" => return Ok(None),
                 "--quick" => wanted.effort = Effort::QUICK,
-                // What cargo itself hands to a benchmark.
-                "--bench" => {}
+                // `cargo bench` hands this over, and `cargo test --benches` does not.
+                "--bench" => timed = true,
                 option if option.starts_with('-') => return Err(format!("There is no option {option}.")),
                 name => wanted.names.push(name.to_lowercase()),
             }
+        }
+        if !timed {
+            wanted.effort = Effort::ONCE;
         }
         Ok(Some(wanted))
     }

@@ -18,6 +18,12 @@ impl Effort {
         batches: 6,
         batch: Duration::from_millis(1),
     };
+    /// No more than that every row can be run.
+    pub const ONCE: Effort = Effort {
+        passes: 1,
+        batches: 1,
+        batch: Duration::ZERO,
+    };
     pub const QUICK: Effort = Effort {
         passes: 3,
         batches: 3,
