@@ -123,7 +123,8 @@ fn candidate(v: usize, varying: &[bool]) -> bool
     true
 }
 
-// Sets the number of every vector that two of the points can have. Only numbers of vectors of the depth are visited.
+// Sets the number of every vector that two of the points can have. Only numbers of vectors of the depth are visited; what was lent as false stays so
+// elsewhere.
 pub fn candidates(points: &[i64], depth: usize, count: usize, possible: &mut [bool])
     requires { ⌜ (depth ≤ 6) × (count * depth ≤ length (now points)) × (729 ≤ length (now possible)) ⌝ }
     ensures { λ _. ⌜ Covers depth (now (points .entry)) count (now (possible .exit)) ⌝ }
