@@ -50,6 +50,17 @@ latest-has numbers e (suc k) x h = go (λ i. latest-has numbers e k x i) (eqb (g
     go i true g = let f : suc k ≡ suc x = rw g at h in let f′ : k ≡ x = omega arith in ap (λ i. getD numbers i 0) (sym f′) ∙ eqb-true (getD numbers k 0) e g
     go i false g = i (rw g at h)
 
+-- where the element is, there is a latest place
+pub latest-there : (numbers : List ℕ) (e k x : ℕ) → x < k → getD numbers x 0 ≡ e → latest numbers e k ≡ 0 → ⊥
+unfolding latest
+latest-there numbers e zero x l i h = omega arith
+latest-there numbers e (suc k) x l i h = go (λ a. latest-there numbers e k x a i) (eqb (getD numbers k 0) e) refl (eq-or-lt-of-le (let z : x ≤ k = omega arith in z))
+  where
+    go : (x < k → latest numbers e k ≡ 0 → ⊥) → (b : Bool) → eqb (getD numbers k 0) e ≡ b → (x ≡ k) ⊎ (x < k) → ⊥
+    go r true g w = let f : suc k ≡ 0 = rw g at h in omega arith
+    go r false g (inl a) = eqb-false (getD numbers k 0) e g (ap (λ z. getD numbers z 0) (sym a) ∙ i)
+    go r false g (inr a) = r a (rw g at h)
+
 pub upTo-le : (own : Bool) (y n : ℕ) → y < n → upTo own y ≤ n
 unfolding upTo
 upTo-le true y n h = omega arith

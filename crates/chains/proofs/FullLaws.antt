@@ -1,14 +1,17 @@
 -- All that two accesses can set: the loop that looks for it, and the search that is left because it is there.
-use mathlib.Core.Path.{_≡_, refl, sym, ap, subst}
+use mathlib.Core.Path.{_≡_, refl, sym, ap, _∙_, subst}
 use mathlib.Core.Bool.{Bool, true, false, _||_}
-use mathlib.Core.Logic.{⊎-elim}
+use mathlib.Core.Logic.{_⊎_, inl, inr, ⊎-elim}
 use mathlib.Core.List.{List, [], _∷_}
-use Prim.Native.Nat.{ℕ, zero, suc, _+_, _*_, _≤_, _<_}
+use Prim.Native.Nat.{ℕ, zero, suc, _+_, _*_, _-_, _≤_, _<_}
 use native.Mathlib.Nat.{eq-or-lt-of-le}
 use native.Mathlib.Omega.{arith}
 use lib.Dec.{T, eqb, eqb→eq}
-use lib.IntN.{ℤ}
-use lib.ListN.{length, getD, take, drop}
+use lib.IntN.{ℤ, pos}
+use lib.ListN.{length, getD, set, take, drop}
+use lib.Seq.{getD-set-same, getD-set-other}
+use borrow.Author.Tests.{eqb-true, eqb-false}
+use Rattle.integers.specs.Sign.{Sign}
 use Rattle.lists.specs.Order.{Ordered}
 use Rattle.lists.specs.Parts.{rows}
 use Rattle.lists.proofs.MembershipLaws.{getD-mem}
@@ -17,21 +20,22 @@ use Rattle.lists.proofs.TestLaws.{T-same, true-T, and-both, or-cases, or-left, 
 use Rattle.model.specs.Directions.{signs}
 use Rattle.model.specs.Inside.{Earlier}
 use Rattle.vectors.specs.Numbers.{number}
-use Rattle.vectors.specs.Candidates.{row, code, Covers}
-use Rattle.chains.specs.Search.{some, upTo, hit, found, Adds, Full, Searchable}
+use Rattle.vectors.specs.Candidates.{row, code, Agree, Steady}
+use Rattle.chains.specs.Search.{some, latest, upTo, Links, hit, found, Adds, Level, LevelElse, Full, Searchable, Followable}
 use Rattle.chains.proofs.SomeLaws.{some-there, there-some}
-use Rattle.chains.proofs.ChainLaws.{upTo-le}
-use Rattle.vectors.proofs.NumberLaws.{number-self, number-earlier}
-use Rattle.vectors.proofs.VectorLaws.{row-length}
+use Rattle.chains.proofs.ChainLaws.{latest-there, upTo-le}
+use Rattle.vectors.proofs.NumberLaws.{number-self, number-earlier, signs-short}
+use Rattle.vectors.proofs.VectorLaws.{row-length, row-short}
+use Rattle.vectors.proofs.CandidateLaws.{agreed-steady}
 
 -- ---- the loop
 
--- all possible ones below v
+-- those of numbers below v
 abbrev pub FullBelow : List Bool → ℕ → List Bool → ℕ → Type 0
-FullBelow possible base m v = (u : ℕ) → u < v → getD possible u false ≡ true → getD m (base + u) false ≡ true
+FullBelow varying base m v = (u : List Sign) → length u ≤ 6 → Steady varying u → number u < v → getD m (base + number u) false ≡ true
 
-pub full-next : (possible : List Bool) (base : ℕ) (m : List Bool) (v : ℕ) → (getD possible v false ≡ true → getD m (base + v) false ≡ true) → FullBelow possible base m v → FullBelow possible base m (v + 1)
-full-next possible base m v h f u l = ⊎-elim (λ e. subst (λ z. getD possible z false ≡ true → getD m (base + z) false ≡ true) (sym e) h) (f u) (eq-or-lt-of-le (let z : u ≤ v = omega arith in z))
+pub full-next : (varying : List Bool) (base : ℕ) (m : List Bool) (v : ℕ) → ((u : List Sign) → length u ≤ 6 → Steady varying u → number u ≡ v → getD m (base + v) false ≡ true) → FullBelow varying base m v → FullBelow varying base m (v + 1)
+full-next varying base m v h f u l steady g = ⊎-elim (λ e. subst (λ z. getD m (base + z) false ≡ true) (sym e) (h u l steady e)) (f u l steady) (eq-or-lt-of-le (let z : number u ≤ v = omega arith in z))
 
 -- ---- points in order
 
@@ -60,12 +64,61 @@ module _ (d n : ℕ) (s : List ℤ) (shallow : d ≤ 6) (stored : n * d ≤ leng
       (eq-or-lt-of-le (let z : x ≤ y = omega arith in z))
   code-forward false x y h g = let a = row-is y g in let b = row-is x (omega arith) in number-earlier (row d s x) (row d s y) (omega arith) (omega arith) (rows-rise x y h g)
 
+-- ---- loops that do not vary along chains
+
+pub level-turn : (d : ℕ) (s : List ℤ) (links : List ℕ) (k x w : ℕ) → w ≡ getD links x 0 → (w ≡ 0) ⊎ Agree d s k (w - 1) x → Level d s x links k → Level d s (x + 1) links k
+level-turn d s links k x w e h f j l g = ⊎-elim (λ i. subst (λ z. getD links z 0 ≡ suc l → Agree d s k l z) (sym i) (here h)) (f j l) (eq-or-lt-of-le (let z : j ≤ x = omega arith in z))
+  where
+    here : (w ≡ 0) ⊎ Agree d s k (w - 1) x → getD links x 0 ≡ suc l → Agree d s k l x
+    here (inl i) b = absurd (omega arith)
+    here (inr i) b = let c : w - 1 ≡ l = omega arith in subst (λ z. Agree d s k z x) c i
+
+pub level-more : (d : ℕ) (s : List ℤ) (n : ℕ) (next start : List ℕ) (k : ℕ) (varying : List Bool) (b : Bool) → k < length varying → (b ≡ false → Level d s n next k × Level d s n start k)
+    → LevelElse d s n next start k varying → LevelElse d s n next start (k + 1) (set varying k b)
+level-more d s n next start k varying b h c else j l e = ⊎-elim
+    (λ i. subst (λ z. Level d s n next z × Level d s n start z) (sym i) (c (sym (getD-set-same varying k b false h) ∙ subst (λ z. getD (set varying k b) z false ≡ false) i e)))
+    (λ i. else j i (sym (getD-set-other varying k j b false (lt-other i)) ∙ e))
+    (eq-or-lt-of-le (let z : j ≤ k = omega arith in z))
+  where
+    lt-other : {j k : ℕ} → j < k → j ≡ k → ⊥
+    lt-other h e = omega arith
+
+module _ (d : ℕ) (s : List ℤ) (from next : List ℕ) (k : ℕ) (nexts : Links from from false next) (level : Level d s (length from) next k) where
+  -- all sources of an element agree with the latest
+  level-sources : (e n x l : ℕ) → n ≤ length from → x < n → getD from x 0 ≡ e → latest from e n ≡ suc l → Agree d s k x l
+  unfolding latest upTo
+  level-sources e zero x l h g i j = absurd (omega arith)
+  level-sources e (suc m) x l h g i j = go (λ y a b c. level-sources e m x y (omega arith) a b c) (eqb (getD from m 0) e) refl
+    where
+      go : ((y : ℕ) → x < m → getD from x 0 ≡ e → latest from e m ≡ suc y → Agree d s k x y) → (t : Bool) → eqb (getD from m 0) e ≡ t → Agree d s k x l
+      go ih true b = let f : suc m ≡ suc l = rw b at j in let f′ : m ≡ l = omega arith in
+          ⊎-elim (λ q. ap (λ z. getD s (z * d + k) (pos 0)) (q ∙ f′)) (λ q. earlier q f′ (latest from e m) refl) (eq-or-lt-of-le (let z : x ≤ m = omega arith in z))
+        where
+          earlier : x < m → m ≡ l → (v : ℕ) → latest from e m ≡ v → Agree d s k x l
+          earlier q f zero r = absurd (latest-there from e m x q i r)
+          earlier q f (suc y) r = ih y q i r ∙ level m y (omega arith) (nexts m (omega arith) ∙ ap (λ z. latest from z m) (eqb-true (getD from m 0) e b) ∙ r) ∙ ap (λ z. getD s (z * d + k) (pos 0)) f
+      go ih false b = ih l (before (eq-or-lt-of-le (let z : x ≤ m = omega arith in z))) i (rw b at j)
+        where
+          before : (x ≡ m) ⊎ (x < m) → x < m
+          before (inl q) = absurd (eqb-false (getD from m 0) e b (ap (λ z. getD from z 0) (sym q) ∙ i))
+          before (inr q) = q
+
+  -- and with every sink of it
+  level-pair : (to : List ℕ) (own : Bool) (start : List ℕ) → Links from to own start → Level d s (length from) start k
+      → (x y : ℕ) → y < length from → x < upTo own y → getD from x 0 ≡ getD to y 0 → Agree d s k x y
+  level-pair to own start starts sinks x y h g e = go (latest from (getD to y 0) (upTo own y)) refl
+    where
+      go : (v : ℕ) → latest from (getD to y 0) (upTo own y) ≡ v → Agree d s k x y
+      go zero r = absurd (latest-there from (getD to y 0) (upTo own y) x g e r)
+      go (suc l) r = level-sources (getD to y 0) (upTo own y) x l (upTo-le own y (length from) h) g e r ∙ sinks y l h (starts y h ∙ r)
+
 -- ---- the search that is left
 
-pub left-early : (s : List ℤ) (d : ℕ) (possible : List Bool) (from to : List ℕ) (own : Bool) (base : ℕ) (m₀ m : List Bool) (y : ℕ) → Searchable s d from to base m₀ → Covers d s (length from) possible → y ≤ length from
-    → Full possible own base m → Adds m₀ m (found d s y from to own base) → Adds m₀ m (found d s (length from) from to own base)
-unfolding found hit
-left-early s d possible from to own base m₀ m y ok covers h full a j = T-same (getD m j false) (getD m₀ j false || found d s n from to own base j)
+pub left-early : (s : List ℤ) (d : ℕ) (varying : List Bool) (from to : List ℕ) (own : Bool) (base : ℕ) (next start : List ℕ) (m₀ m : List Bool) (y : ℕ) → Searchable s d from to base m₀ → Followable from to own next start
+    → LevelElse d s (length from) next start d varying → y ≤ length from
+    → Full varying own base m → Adds m₀ m (found d s y from to own base) → Adds m₀ m (found d s (length from) from to own base)
+unfolding found hit code
+left-early s d varying from to own base next start m₀ m y ok links else h full a j = T-same (getD m j false) (getD m₀ j false || found d s n from to own base j)
     (λ g. ⊎-elim (λ k. or-left (getD m₀ j false) (found d s n from to own base j) k)
     (λ k. or-right (getD m₀ j false) (found d s n from to own base j) (let r = some-there y (sink j) k in there-some n (r .0) (sink j) (let l = r .1 in omega arith) (r .2)))
     (or-cases (getD m₀ j false) (found d s y from to own base j) (subst T (a j) g)))
@@ -83,6 +136,17 @@ left-early s d possible from to own base m₀ m y ok covers h full a j = T-same 
         let q = some-there (upTo own (p .0)) (hit d s from to base j (p .0)) (p .2) in
         let y = p .0 in let x = q .0 in
         let k = upTo-le own y n (p .1) in let l = q .1 in
-        let e : base + code d s x y ≡ j = eqb→eq (base + code d s x y) j (and-both (eqb (getD from x 0) (getD to y 0)) (eqb (base + code d s x y) j) (q .2) .1) in
+        let t = and-both (eqb (getD from x 0) (getD to y 0)) (eqb (base + code d s x y) j) (q .2) in
+        let e : base + code d s x y ≡ j = eqb→eq (base + code d s x y) j (t .1) in
         true-T (getD m j false) (subst (λ z. getD m z false ≡ true) e
-        (full (code d s x y) (code-forward d n s (ok .shallow) (ok .stored) (ok .rising) own x y (q .1) (p .1)) (covers .vectors x y (omega arith) (p .1))))
+        (full (signs (row d s x) (row d s y)) (short x y) (steady x y (p .1) (q .1) (eqb→eq (getD from x 0) (getD to y 0) (t .0))) (code-forward d n s (ok .shallow) (ok .stored) (ok .rising) own x y (q .1) (p .1))))
+      where
+        short : (x y : ℕ) → length (signs (row d s x) (row d s y)) ≤ 6
+        short x y = let a = signs-short (row d s x) (row d s y) in let b = row-short d s x in let c = ok .shallow in omega arith
+
+        fits : (x : ℕ) → x < n → x * d + d ≤ length s
+        fits x h = let a = row-fits d x n h in let b = ok .stored in omega arith
+
+        steady : (x y : ℕ) → y < n → x < upTo own y → getD from x 0 ≡ getD to y 0 → Steady varying (signs (row d s x) (row d s y))
+        steady x y h g e = let k = upTo-le own y n h in agreed-steady d s varying x y (fits x (omega arith)) (fits y h)
+            (λ k l v. let w = else k l v in level-pair d s from next k (links .nexts) (w .0) to own start (links .starts) (w .1) x y h g e)

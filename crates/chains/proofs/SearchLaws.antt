@@ -10,7 +10,7 @@ use lib.IntN.{ℤ}
 use lib.ListN.{length, getD}
 use Rattle.lists.proofs.PartLaws.{row-fits}
 use Rattle.vectors.specs.Candidates.{code}
-use Rattle.chains.specs.Search.{some, latest, upTo, Links, hit, found, Adds, walked, Walkable, Searchable}
+use Rattle.chains.specs.Search.{some, latest, upTo, Links, hit, found, Adds, walked, Walkable, Tabled, Searchable, Followable}
 use Rattle.chains.proofs.SomeLaws.{gathered-none, gathered-more}
 use Rattle.chains.proofs.ChainLaws.{latest-le, upTo-le, links-fall, along-finds}
 
@@ -72,3 +72,11 @@ module _ (s : List ℤ) (d : ℕ) (from to : List ℕ) (own : Bool) (base : ℕ)
       starts = w .starts;
       adds = gathered-more m₀ m m′ y (λ y j. some (upTo own y) (hit d s from to base j y)) (w .adds) (λ j. a j ∙ ap (getD m j false ||_) (walked-is j));
     }
+
+-- both tables of links are tables of links
+pub tabled : (s : List ℤ) (d : ℕ) (from to : List ℕ) (own : Bool) (base : ℕ) (next start : List ℕ) (m : List Bool) → Searchable s d from to base m → Followable from to own next start
+    → Tabled s d (length from) next × Tabled s d (length from) start
+tabled s d from to own base next start m ok links = (
+  record { stored = ok .stored; table = links .table; inside = λ x h. let a = links-fall from next (links .nexts) x h in omega arith },
+  record { stored = ok .stored; table = links .room; inside = λ y h. let a = links .starts y h in let b = latest-le from (getD to y 0) (upTo own y) in let c = upTo-le own y (length from) h in omega arith },
+)

@@ -8,8 +8,10 @@ use lib.IntN.{ℤ}
 use lib.ListN.{length, getD}
 use Rattle.lists.specs.Order.{Ordered}
 use Rattle.lists.specs.Parts.{rows}
+use Rattle.integers.specs.Sign.{Sign}
 use Rattle.model.specs.Inside.{Earlier}
-use Rattle.vectors.specs.Candidates.{code}
+use Rattle.vectors.specs.Numbers.{number}
+use Rattle.vectors.specs.Candidates.{code, Agree, Steady}
 
 -- some number below n passes
 unfoldable pub some : ℕ → (ℕ → Bool) → Bool
@@ -83,11 +85,27 @@ pub record Walkable (s : List ℤ) (d y first : ℕ) (next : List ℕ) (base : �
   pub falling : (x : ℕ) → x < first → getD next x 0 ≤ x
   pub room : base + 729 ≤ length marks
 
+-- ---- loops that do not vary along chains
+
+-- at each of n points loop k has the index that it has at the point of its link
+abbrev pub Level : ℕ → List ℤ → ℕ → List ℕ → ℕ → Type 0
+Level d s n links k = (x l : ℕ) → x < n → getD links x 0 ≡ suc l → Agree d s k l x
+
+-- so it is with every loop below m that does not vary, for the links of the sources and of the sinks
+abbrev pub LevelElse : ℕ → List ℤ → ℕ → List ℕ → List ℕ → ℕ → List Bool → Type 0
+LevelElse d s n next start m varying = (k : ℕ) → k < m → getD varying k false ≡ false → Level d s n next k × Level d s n start k
+
+-- n points are stored, and the links of each are to one of them
+pub record Tabled (s : List ℤ) (d n : ℕ) (links : List ℕ) : Type 0 where
+  pub stored : n * d ≤ length s
+  pub table : n ≤ length links
+  pub inside : (x : ℕ) → x < n → getD links x 0 ≤ n
+
 -- ---- all marks that two accesses can set
 
--- every possible vector that does not point backwards is marked, that of = alone only where it can be
+-- every vector that does not point backwards and is = at the loops that do not vary is marked, that of = alone only where it can be
 abbrev pub Full : List Bool → Bool → ℕ → List Bool → Type 0
-Full possible own base m = (v : ℕ) → v < upTo own 364 → getD possible v false ≡ true → getD m (base + v) false ≡ true
+Full varying own base m = (u : List Sign) → length u ≤ 6 → Steady varying u → number u < upTo own 364 → getD m (base + number u) false ≡ true
 
 -- ---- what the search of two accesses asks
 

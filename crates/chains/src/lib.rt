@@ -3,8 +3,7 @@ ghost use mathlib.Core.Path.{_≡_};
 ghost use mathlib.Core.Bool.{true, false};
 ghost use Prim.Native.Nat.{_+_, _-_, _≤_, _<_};
 ghost use lib.ListN.{length};
-ghost use Rattle.chains.specs.Search.{Below, Links, Clear, ClearElse, Linkable, Linked, Followable, upTo, Adds, walked, Walkable, Full, found, Searchable};
-ghost use Rattle.vectors.specs.Candidates.{Covers};
+ghost use Rattle.chains.specs.Search.{Below, Links, Clear, ClearElse, Linkable, Linked, Followable, upTo, Adds, walked, Walkable, Level, LevelElse, Tabled, Full, found, Searchable};
 
 // ---- chains of points by element
 
@@ -88,16 +87,64 @@ fn limit(own: bool) -> usize
     364
 }
 
-// Whether every vector that the search of two accesses can find is marked.
-fn full(marks: &[bool], base: usize, possible: &[bool], own: bool) -> bool
-    requires { ⌜ (base + 729 ≤ length (now marks)) × (729 ≤ length (now possible)) ⌝ }
-    ensures { λ r. ⌜ (r ≡ true → Full (now (possible .entry)) own base (now (marks .entry))) ⌝ }
+// Whether the index of loop k at some point differs from that at the point of its link.
+fn changes(points: &[i64], depth: usize, count: usize, links: &[u16], k: usize) -> bool
+    requires { ⌜ (k < depth) × Tabled (now points) depth count (now links) ⌝ }
+    ensures { λ r. ⌜ (r ≡ false → Level depth (now (points .entry)) count (now (links .entry)) k) ⌝ }
+{
+    let mut x = 0;
+    while x < count {
+        let l = wide(links[x]);
+        if l != 0 {
+            if vectors::sign(points[(l - 1) * depth + k], points[x * depth + k]) != 1 {
+                return true;
+            }
+        }
+        x += 1;
+    }
+    false
+}
+
+// The same for the links of the sources and of the sinks.
+fn varies(points: &[i64], depth: usize, count: usize, next: &[u16], start: &[u16], k: usize) -> bool
+    requires { ⌜ (k < depth) × Tabled (now points) depth count (now next) × Tabled (now points) depth count (now start) ⌝ }
+    ensures { λ r. ⌜ (r ≡ false → Level depth (now (points .entry)) count (now (next .entry)) k × Level depth (now (points .entry)) count (now (start .entry)) k) ⌝ }
+{
+    if changes(points, depth, count, next, k) {
+        return true;
+    }
+    changes(points, depth, count, start, k)
+}
+
+// Which loops vary along chains.
+fn vary(
+    points: &[i64],
+    depth: usize,
+    count: usize,
+    next: &[u16],
+    start: &[u16],
+    varying: &mut [bool],
+)
+    requires { ⌜ Tabled (now points) depth count (now next) × Tabled (now points) depth count (now start) × (depth ≤ length (now varying)) ⌝ }
+    ensures { λ _. ⌜ LevelElse depth (now (points .entry)) count (now (next .entry)) (now (start .entry)) depth (now (varying .exit)) ⌝ }
+{
+    let mut k = 0;
+    while k < depth {
+        varying[k] = varies(points, depth, count, next, start, k);
+        k += 1;
+    }
+}
+
+// Whether every vector that the search of two accesses can find is marked: it is = at the loops that do not vary.
+fn full(marks: &[bool], base: usize, varying: &[bool], own: bool) -> bool
+    requires { ⌜ (base + 729 ≤ length (now marks)) × (length (now varying) ≡ 6) ⌝ }
+    ensures { λ r. ⌜ (r ≡ true → Full (now (varying .entry)) own base (now (marks .entry))) ⌝ }
 {
     let end = limit(own);
     let mut v = 0;
     while v < end {
-        if possible[v] {
-            if !marks[base + v] {
+        if !marks[base + v] {
+            if vectors::candidate(v, varying) {
                 return false;
             }
         }
@@ -111,7 +158,6 @@ fn full(marks: &[bool], base: usize, possible: &[bool], own: bool) -> bool
 fn follow(
     points: &[i64],
     depth: usize,
-    possible: &[bool],
     from: &[u16],
     to: &[u16],
     own: bool,
@@ -120,16 +166,22 @@ fn follow(
     start: &[u16],
     marks: &mut [bool],
 )
-    requires { ⌜ Searchable (now points) depth (now from) (now to) base (now marks) × Covers depth (now points) (length (now from)) (now possible) × Followable (now from) (now to) own (now next) (now start) ⌝ }
+    requires { ⌜ Searchable (now points) depth (now from) (now to) base (now marks) × Followable (now from) (now to) own (now next) (now start) ⌝ }
     ensures { λ _. ⌜ Adds (now (marks .entry)) (now (marks .exit)) (found depth (now (points .entry)) (length (now (from .entry))) (now (from .entry)) (now (to .entry)) own base) ⌝ }
 {
+    let mut varying = [false; 6];
+    let mut known = false;
     let mut spent = 0;
     let mut y = 0;
     while y < from.len() {
         spent = spent + walk(points, depth, y, wide(start[y]), next, base, marks);
         y += 1;
         if 729 < spent {
-            if full(marks, base, possible, own) {
+            if !known {
+                vary(points, depth, from.len(), next, start, &mut varying);
+                known = true;
+            }
+            if full(marks, base, &varying, own) {
                 return;
             }
             spent = 0;
@@ -141,7 +193,6 @@ fn follow(
 pub fn search(
     points: &[i64],
     depth: usize,
-    possible: &[bool],
     from: &[u16],
     to: &[u16],
     own: bool,
@@ -151,20 +202,9 @@ pub fn search(
     start: &mut [u16],
     marks: &mut [bool],
 )
-    requires { ⌜ Searchable (now points) depth (now from) (now to) base (now marks) × Covers depth (now points) (length (now from)) (now possible) × Linked (now from) (now next) (now head) (now start) ⌝ }
+    requires { ⌜ Searchable (now points) depth (now from) (now to) base (now marks) × Linked (now from) (now next) (now head) (now start) ⌝ }
     ensures { λ _. ⌜ Adds (now (marks .entry)) (now (marks .exit)) (found depth (now (points .entry)) (length (now (from .entry))) (now (from .entry)) (now (to .entry)) own base) × Clear (now (head .exit)) ⌝ }
 {
     link(from, to, own, head, start);
-    follow(
-        points,
-        depth,
-        possible,
-        from,
-        to,
-        own,
-        base,
-        next,
-        start,
-        marks,
-    );
+    follow(points, depth, from, to, own, base, next, start, marks);
 }

@@ -11,7 +11,6 @@ use lib.Seq.{getD-take, getD-drop}
 use borrow.Author.Tests.{lt-ltb, le-ltb}
 use Rattle.lists.proofs.PartLaws.{row-fits}
 use Rattle.vectors.specs.Numbers.{placeOf}
-use Rattle.vectors.specs.Candidates.{Covers}
 use Rattle.chains.specs.Search.{some, Below, Links, Clear, Linkable, Linked, found, Adds, Searchable}
 use Rattle.dependence.specs.Flat.{Flat, numberAt, statementOf, writesAt, Ready, kindOf, numbersOf, setBy, setFrom, Listed, Alike, Lent}
 
@@ -62,10 +61,6 @@ module _ (F : Flat) (marks : List Bool) (ok : Ready F marks) where
   pub call-ready : (a b base : ℕ) → a < length (F .statements) → b < length (F .statements) → base + 729 ≤ F .body * F .body * 2187
       → Searchable (F .points) (F .depth) (take (a * 4096 + F .count - a * 4096) (drop (a * 4096) (F .numbers))) (take (b * 4096 + F .count - b * 4096) (drop (b * 4096) (F .numbers))) base marks
   call-ready a b base h g r = rw (part-is (F .count) (F .numbers) a, part-is (F .count) (F .numbers) b) (searchable a b base h g r)
-
-  pub call-covers : (a : ℕ) (possible : List Bool) → a < length (F .statements) → Covers (F .depth) (F .points) (F .count) possible
-      → Covers (F .depth) (F .points) (length (take (a * 4096 + F .count - a * 4096) (drop (a * 4096) (F .numbers)))) possible
-  call-covers a possible h c = rw (part-is (F .count) (F .numbers) a, numbers-length a h) c
 
   -- the links of a source access
 

@@ -5,7 +5,6 @@ ghost use Prim.Native.Nat.{_+_, _*_, _-_, _^_, _≤_, _<_};
 ghost use lib.ListN.{length};
 ghost use Rattle.vectors.specs.Numbers.{placeOf};
 ghost use Rattle.chains.specs.Search.{Adds, Clear, Linked};
-ghost use Rattle.vectors.specs.Candidates.{Covers};
 ghost use Rattle.dependence.specs.Flat.{flat, Ready, Searched, kindOf, numbersOf, setBy, setFrom, Lent, Listed, Alike, FirstLike};
 
 // ---- accesses that are searched once
@@ -100,7 +99,6 @@ fn block(body: usize, s: usize, t: usize, k: usize) -> usize
 fn between(
     points: &[i64],
     depth: usize,
-    possible: &[bool],
     count: usize,
     numbers: &[u16],
     statements: &[usize],
@@ -113,7 +111,7 @@ fn between(
     start: &mut [u16],
     marks: &mut [bool],
 )
-    requires { ⌜ Ready (flat (now points) depth count (now numbers) (now statements) (now writes) body) (now marks) × (a < length (now statements)) × (b < length (now statements)) × Covers depth (now points) count (now possible) × Linked (numbersOf count (now numbers) a) (now next) (now head) (now start) ⌝ }
+    requires { ⌜ Ready (flat (now points) depth count (now numbers) (now statements) (now writes) body) (now marks) × (a < length (now statements)) × (b < length (now statements)) × Linked (numbersOf count (now numbers) a) (now next) (now head) (now start) ⌝ }
     ensures { λ _. ⌜ Adds (now (marks .entry)) (now (marks .exit)) (setBy (flat (now (points .entry)) depth count (now (numbers .entry)) (now (statements .entry)) (now (writes .entry)) body) a b) × Clear (now (head .exit)) ⌝ }
 {
     let k = kind(writes[a], writes[b]);
@@ -123,7 +121,6 @@ fn between(
         chains::search(
             points,
             depth,
-            possible,
             &numbers[a * 4096..a * 4096 + count],
             &numbers[b * 4096..b * 4096 + count],
             s < t,
@@ -140,7 +137,6 @@ fn between(
 fn from_access(
     points: &[i64],
     depth: usize,
-    possible: &[bool],
     count: usize,
     numbers: &[u16],
     statements: &[usize],
@@ -152,7 +148,7 @@ fn from_access(
     start: &mut [u16],
     marks: &mut [bool],
 )
-    requires { ⌜ Ready (flat (now points) depth count (now numbers) (now statements) (now writes) body) (now marks) × (a < length (now statements)) × Covers depth (now points) count (now possible) × Lent count (now next) (now head) (now start) ⌝ }
+    requires { ⌜ Ready (flat (now points) depth count (now numbers) (now statements) (now writes) body) (now marks) × (a < length (now statements)) × Lent count (now next) (now head) (now start) ⌝ }
     ensures { λ _. ⌜ Adds (now (marks .entry)) (now (marks .exit)) (setFrom (flat (now (points .entry)) depth count (now (numbers .entry)) (now (statements .entry)) (now (writes .entry)) body) a) × Clear (now (head .exit)) ⌝ }
 {
     chains::link(
@@ -168,7 +164,6 @@ fn from_access(
             between(
                 points,
                 depth,
-                possible,
                 count,
                 numbers,
                 statements,
@@ -200,8 +195,6 @@ pub fn dependences(
     requires { ⌜ Ready (flat (now points) depth count (now numbers) (now statements) (now writes) body) (now marks) ⌝ }
     ensures { λ _. ⌜ Searched (flat (now (points .entry)) depth count (now (numbers .entry)) (now (statements .entry)) (now (writes .entry)) body) (now (marks .entry)) (now (marks .exit)) ⌝ }
 {
-    let mut possible = [false; 729];
-    vectors::candidates(points, depth, count, &mut possible);
     let mut next = [0u16; 4096];
     let mut head = [0u16; 16384];
     let mut start = [0u16; 4096];
@@ -211,7 +204,6 @@ pub fn dependences(
             from_access(
                 points,
                 depth,
-                &possible,
                 count,
                 numbers,
                 statements,

@@ -1,8 +1,8 @@
--- The number of the vector of two stored points, and the numbers of vectors that two of them can have.
+-- The number of the vector of two stored points, and the numbers of vectors that are = at some loops.
 use mathlib.Core.Path.{_≡_}
 use mathlib.Core.Bool.{Bool, false, true}
 use mathlib.Core.List.{List}
-use Prim.Native.Nat.{ℕ, zero, suc, _+_, _*_, _≤_, _<_}
+use Prim.Native.Nat.{ℕ, zero, suc, _+_, _*_, _≤_}
 use lib.IntN.{ℤ, pos}
 use lib.ListN.{length, take, drop, getD, replicate}
 use Rattle.integers.specs.Sign.{Sign, equal}
@@ -16,7 +16,7 @@ row d s x = take d (drop (x * d) s)
 unfoldable pub code : ℕ → List ℤ → ℕ → ℕ → ℕ
 code d s x y = number (signs (row d s x) (row d s y))
 
--- ---- the numbers of vectors that two points can have
+-- ---- the numbers of vectors that are = at some loops
 
 -- the numbers of vectors of d signs are equally far from one another
 unfoldable pub stride : ℕ → ℕ
@@ -26,13 +26,9 @@ stride (suc k) = stride k * 3
 unfoldable pub middle : ℕ → ℕ
 middle k = numberAfter 0 (replicate k equal)
 
--- loop k has one index at all of n points
-abbrev pub Constant : ℕ → List ℤ → ℕ → ℕ → Type 0
-Constant d s n k = (x : ℕ) → x < n → getD s (x * d + k) (pos 0) ≡ getD s k (pos 0)
-
--- every loop below m that does not vary is constant
-abbrev pub ConstantElse : ℕ → List ℤ → ℕ → ℕ → List Bool → Type 0
-ConstantElse d s n m varying = (k : ℕ) → k < m → getD varying k false ≡ false → Constant d s n k
+-- loop k has one index at the points x and y
+abbrev pub Agree : ℕ → List ℤ → ℕ → ℕ → ℕ → Type 0
+Agree d s k x y = getD s (x * d + k) (pos 0) ≡ getD s (y * d + k) (pos 0)
 
 -- the signs are = at every loop that does not vary
 abbrev pub Steady : List Bool → List Sign → Type 0
@@ -41,8 +37,3 @@ Steady varying u = (k : ℕ) → getD varying k false ≡ false → getD u k equ
 -- r is true of the number of such signs
 abbrev pub Candidate : List Bool → ℕ → Bool → Type 0
 Candidate varying v r = (u : List Sign) → length u ≤ 6 → Steady varying u → number u ≡ v → r ≡ true
-
--- the number of the vector of any two of n points is possible
-pub record Covers (d : ℕ) (s : List ℤ) (n : ℕ) (possible : List Bool) : Type 0 where
-  pub numbers : 729 ≤ length possible
-  pub vectors : (x y : ℕ) → x < n → y < n → getD possible (code d s x y) false ≡ true

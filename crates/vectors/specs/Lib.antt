@@ -1,3 +1,3 @@
--- Numbers of vectors and places of marks; the vectors that two stored points can have.
+-- Numbers of vectors and places of marks; the vectors that are = at some loops.
 pub mod Numbers
 pub mod Candidates

@@ -1,4 +1,4 @@
-// The numbers of vectors, and those that two stored points can have.
+// The numbers of vectors, and those of vectors that are = at some loops.
 ghost use mathlib.Core.Path.{_≡_};
 ghost use mathlib.Core.Bool.{true, false};
 ghost use Prim.Native.Nat.{_+_, _*_, _-_, _≤_, _<_};
@@ -7,13 +7,13 @@ ghost use Rattle.integers.specs.Sign.{sign as «sign-of»};
 ghost use Rattle.model.specs.Directions.{signs};
 ghost use Rattle.vectors.specs.Numbers.{digit, numberAfter, number};
 ghost use Rattle.vectors.specs.Candidates.{code};
-ghost use Rattle.vectors.specs.Candidates.{Constant, ConstantElse, Candidate, Covers};
+ghost use Rattle.vectors.specs.Candidates.{Candidate};
 ghost use Rattle.vectors.specs.Candidates.{stride as «stride-of»};
 
 // ---- vectors
 
 // The digit of a source index and a sink index: 0 is <, 1 is = and 2 is >.
-fn sign(a: i64, b: i64) -> usize
+pub fn sign(a: i64, b: i64) -> usize
     ensures { λ r. ⌜ r ≡ digit («sign-of» a b) ⌝ }
 {
     if a < b {
@@ -75,37 +75,10 @@ pub fn pair(points: &[i64], depth: usize, x: usize, y: usize) -> usize
     )
 }
 
-// ---- vectors that two points can have
-
-// Whether the index of loop k differs at two points.
-fn varies(points: &[i64], depth: usize, count: usize, k: usize) -> bool
-    requires { ⌜ (k < depth) × (count * depth ≤ length (now points)) ⌝ }
-    ensures { λ r. ⌜ (r ≡ false → Constant depth (now (points .entry)) count k) ⌝ }
-{
-    let mut x = 0;
-    while x < count {
-        if sign(points[k], points[x * depth + k]) != 1 {
-            return true;
-        }
-        x += 1;
-    }
-    false
-}
-
-// Which loops have indices that differ.
-fn vary(points: &[i64], depth: usize, count: usize, varying: &mut [bool])
-    requires { ⌜ (count * depth ≤ length (now points)) × (depth ≤ length (now varying)) ⌝ }
-    ensures { λ _. ⌜ ConstantElse depth (now (points .entry)) count depth (now (varying .exit)) ⌝ }
-{
-    let mut k = 0;
-    while k < depth {
-        varying[k] = varies(points, depth, count, k);
-        k += 1;
-    }
-}
+// ---- vectors that are = at some loops
 
 // Whether v is the number of a vector that has = at every loop that does not vary.
-fn candidate(v: usize, varying: &[bool]) -> bool
+pub fn candidate(v: usize, varying: &[bool]) -> bool
     requires { ⌜ length (now varying) ≡ 6 ⌝ }
     ensures { λ r. ⌜ Candidate (now (varying .entry)) v r ⌝ }
 {
@@ -121,20 +94,4 @@ fn candidate(v: usize, varying: &[bool]) -> bool
         w = w / 3;
     }
     true
-}
-
-// Sets the number of every vector that two of the points can have. Only numbers of vectors of the depth are visited; what was lent as false stays so
-// elsewhere.
-pub fn candidates(points: &[i64], depth: usize, count: usize, possible: &mut [bool])
-    requires { ⌜ (depth ≤ 6) × (count * depth ≤ length (now points)) × (729 ≤ length (now possible)) ⌝ }
-    ensures { λ _. ⌜ Covers depth (now (points .entry)) count (now (possible .exit)) ⌝ }
-{
-    let mut varying = [false; 6];
-    vary(points, depth, count, &mut varying);
-    let step = stride(depth);
-    let mut v = (step - 1) / 2;
-    while v < 729 {
-        possible[v] = candidate(v, &varying);
-        v += step;
-    }
 }

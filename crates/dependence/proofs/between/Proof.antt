@@ -1,7 +1,7 @@
 -- `between`: one search, or none for two reads.
 use native.Mathlib.Omega.{arith}
 use Rattle.dependence.specs.Flat.{Flat, flat}
-use Rattle.dependence.proofs.FlatLaws.{call-ready, call-covers, call-linked, call-sets, no-call}
+use Rattle.dependence.proofs.FlatLaws.{call-ready, call-linked, call-sets, no-call}
 use borrow.Author.Needs.{needs}
 use Rattle.dependence.proofs.between.Statement.{statement}
 use Rattle.dependence.proofs.between.Tie as tie
@@ -73,14 +73,13 @@ part-search-end-2 : tie.Need-part-search-end-2
 part-search-end-2 c = search needs
 
 block-requires : tie.Need-block-requires
-block-requires c κs = let s = c .before .before .before .before .before .before .before .before .before .before .before .before .before .before .before .before in let r = s .pre .0 .room in let g = s .good .1 .1 .1 .1 .1 .1 .1 .1 .1 .1 .1 .1 .0 .0 in
+block-requires c κs = let s = c .before .before .before .before .before .before .before .before .before .before .before .before .before .before .before in let r = s .pre .0 .room in let g = s .good .1 .1 .1 .1 .1 .1 .1 .1 .1 .1 .1 .0 .0 in
     (omega arith, s .pre .0 .inBody (s .args .a) (s .pre .1), s .pre .0 .inBody (s .args .b) (s .pre .2), c .before .before .before .before .if1 .taken)
 
 search-requires : tie.Need-search-requires
-search-requires c κs = let s = c .before .before .before .before .before .before .before .before .before .before .before .before .before .before .before .before .before .before .before .before in let k = c .before .before .before .block in (
+search-requires c κs = let s = c .before .before .before .before .before .before .before .before .before .before .before .before .before .before .before .before .before .before .before in let k = c .before .before .before .block in (
   call-ready (nest s) (s .args .marks .now) (s .pre .0) (s .args .a) (s .args .b) (k .result) (s .pre .1) (s .pre .2) (k .ensures .1),
-  call-covers (nest s) (s .args .marks .now) (s .pre .0) (s .args .a) (s .args .possible .now) (s .pre .1) (s .pre .3),
-  call-linked (nest s) (s .args .marks .now) (s .pre .0) (s .args .a) (s .args .next .now) (s .args .head .now) (s .args .start .now) (s .pre .4),
+  call-linked (nest s) (s .args .marks .now) (s .pre .0) (s .args .a) (s .args .next .now) (s .args .head .now) (s .args .start .now) (s .pre .3),
 )
 
 same-length : tie.Need-same-length
@@ -93,14 +92,14 @@ same-length-3 : tie.Need-same-length-3
 same-length-3 c = search needs
 
 returns : tie.Need-returns
-returns c = let s = c .before .before .before .before .before .before .before .before .before .before .before .before .before .before .before .before .before .before .before .before .before .before .before .before .before .before .before in let k = c .before .before .before .before .before .before .before .before .before .before .before .before .before .before .before .before .kind in let b = c .before .before .before .before .before .before .before .before .before .before .block in let r = c .before .before .before .before .before .before .search in (
-  call-sets (nest s) (s .args .marks .now) (s .pre .0) (r .last .1 .1 .1 .1 .1 .1 .1 .1 .1 .1 .0) (s .args .a) (s .args .b) (k .result) (b .result) (s .pre .1) (k .ensures) (c .before .before .before .before .before .before .before .before .before .before .before .before .before .before .before .if1 .taken) (b .ensures .0) (r .ensures .0),
+returns c = let s = c .before .before .before .before .before .before .before .before .before .before .before .before .before .before .before .before .before .before .before .before .before .before .before .before .before .before in let k = c .before .before .before .before .before .before .before .before .before .before .before .before .before .before .before .before .kind in let b = c .before .before .before .before .before .before .before .before .before .before .block in let r = c .before .before .before .before .before .before .search in (
+  call-sets (nest s) (s .args .marks .now) (s .pre .0) (r .last .1 .1 .1 .1 .1 .1 .1 .1 .1 .0) (s .args .a) (s .args .b) (k .result) (b .result) (s .pre .1) (k .ensures) (c .before .before .before .before .before .before .before .before .before .before .before .before .before .before .before .if1 .taken) (b .ensures .0) (r .ensures .0),
   r .ensures .1,
 )
 
 returns-2 : tie.Need-returns-2
-returns-2 c = let s = c .before .before .before .before .before .before .before .before .before .before .before .before in
-    (no-call (nest s) (s .args .marks .now) (s .pre .0) (s .args .a) (s .args .b) (c .before .kind .result) (c .before .kind .ensures) (c .if1 .left), s .pre .4 .clear)
+returns-2 c = let s = c .before .before .before .before .before .before .before .before .before .before .before in
+    (no-call (nest s) (s .args .marks .now) (s .pre .0) (s .args .a) (s .args .b) (c .before .kind .result) (c .before .kind .ensures) (c .if1 .left), s .pre .3 .clear)
 
 pub between-spec : {M : Type 1} → statement M
 between-spec =

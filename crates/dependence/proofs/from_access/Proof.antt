@@ -13,26 +13,26 @@ use Rattle.dependence.proofs.from_access.Statement.{statement}
 use Rattle.dependence.proofs.from_access.Tie as tie
 
 abbrev Inv-loop : tie.InvT-loop
-Inv-loop points depth possible count numbers statements writes body a next head₀ start₀ marks₀ b₀ head start marks b = (b ≤ length statements) × (length marks ≡ length marks₀) × Gathered marks₀ marks b (setBy (flat points depth count numbers statements writes body) a)
+Inv-loop points depth count numbers statements writes body a next head₀ start₀ marks₀ b₀ head start marks b = (b ≤ length statements) × (length marks ≡ length marks₀) × Gathered marks₀ marks b (setBy (flat points depth count numbers statements writes body) a)
     × (length head ≡ length head₀) × (length start ≡ length start₀) × Linked (numbersOf count numbers a) next head start
 
 abbrev μ-loop : tie.MeasureT-loop
-μ-loop points depth possible count numbers statements writes body a next head₀ start₀ marks₀ b₀ head start marks b = length statements - b
+μ-loop points depth count numbers statements writes body a next head₀ start₀ marks₀ b₀ head start marks b = length statements - b
 
 abbrev nest : tie.Start Inv-loop μ-loop → Flat
 nest s = flat (s .args .points .now) (s .args .depth) (s .args .count) (s .args .numbers .now) (s .args .statements .now) (s .args .writes .now) (s .args .body)
 
-turn : (c : tie.Joined1 Inv-loop μ-loop) → (let s = c .before .before .before .before .before .before .before .before .before .before .before .before .before .before .before .before .before .before .before .before .before in let l = c .before .before .before .loop in
+turn : (c : tie.Joined1 Inv-loop μ-loop) → (let s = c .before .before .before .before .before .before .before .before .before .before .before .before .before .before .before .before .before .before .before .before in let l = c .before .before .before .loop in
     (length (c .if1 .marks) ≡ length (s .args .marks .now)) × Gathered (s .args .marks .now) (c .if1 .marks) (l .b + 1) (setBy (nest s) (s .args .a)))
-turn c = let s = c .before .before .before .before .before .before .before .before .before .before .before .before .before .before .before .before .before .before .before .before .before in let l = c .before .before .before .loop in let f = c .before .first-like in
+turn c = let s = c .before .before .before .before .before .before .before .before .before .before .before .before .before .before .before .before .before .before .before .before in let l = c .before .before .before .loop in let f = c .before .first-like in
     gathered-turn (s .args .marks .now) (l .marks) (c .if1 .marks) (l .b) (f .result) (setBy (nest s) (s .args .a)) (l .inv .2) (l .inv .1)
-    (⊎-elim (λ w. inl (subst (λ m. Done (l .marks) m (setBy (nest s) (s .args .a) (l .b))) (sym (w .14)) (record { same-length = w .5 .kept .1 .1 .1 .1 .1 .1 .1 .1 .1 .1 .1 .1 .1 .0; adds = w .5 .ensures .0 })))
+    (⊎-elim (λ w. inl (subst (λ m. Done (l .marks) m (setBy (nest s) (s .args .a) (l .b))) (sym (w .14)) (record { same-length = w .5 .kept .1 .1 .1 .1 .1 .1 .1 .1 .1 .1 .1 .1 .0; adds = w .5 .ensures .0 })))
     (λ w. let n = w .0 .left in let h = f .ensures .earlier in let k : f .result < l .b = omega arith in inr (w .3, k, alike-sink (nest s) (f .result) (l .b) (f .ensures .alike k) (s .args .a))) (c .if1 .came))
 
 -- what is lent is as it was
 kept : (c : tie.Joined1 Inv-loop μ-loop) → (let l = c .before .before .before .loop in (length (c .if1 .head) ≡ length (l .head)) × Clear (c .if1 .head) × (length (c .if1 .start) ≡ length (l .start)))
 kept c = let l = c .before .before .before .loop in
-    ⊎-elim (λ w. (ap length (w .12) ∙ w .5 .kept .1 .1 .1 .1 .1 .1 .1 .1 .1 .1 .1 .0, subst Clear (sym (w .12)) (w .5 .ensures .1), ap length (w .13) ∙ w .5 .kept .1 .1 .1 .1 .1 .1 .1 .1 .1 .1 .1 .1 .0))
+    ⊎-elim (λ w. (ap length (w .12) ∙ w .5 .kept .1 .1 .1 .1 .1 .1 .1 .1 .1 .1 .0, subst Clear (sym (w .12)) (w .5 .ensures .1), ap length (w .13) ∙ w .5 .kept .1 .1 .1 .1 .1 .1 .1 .1 .1 .1 .1 .0))
     (λ w. (ap length (w .1), subst Clear (sym (w .1)) (l .inv .5 .clear), ap length (w .2))) (c .if1 .came)
 
 mul-link : tie.Need-mul-link Inv-loop μ-loop
@@ -78,23 +78,23 @@ part-link-end-2 : tie.Need-part-link-end-2 Inv-loop μ-loop
 part-link-end-2 c = search needs
 
 link-requires : tie.Need-link-requires Inv-loop μ-loop
-link-requires c κs = let s = c .before .before .before .before .before .before .before .before .before .before .before .before in call-linkable (nest s) (s .args .marks .now) (s .pre .0) (s .args .a) (s .args .next .now) (s .args .head .now) (s .args .start .now) (s .pre .1) (s .pre .3)
+link-requires c κs = let s = c .before .before .before .before .before .before .before .before .before .before .before in call-linkable (nest s) (s .args .marks .now) (s .pre .0) (s .args .a) (s .args .next .now) (s .args .head .now) (s .args .start .now) (s .pre .1) (s .pre .2)
 
 loop-holds : tie.Need-loop-holds Inv-loop μ-loop
-loop-holds c = let s = c .before .before .before .before .before .before .before .before .before .before .before .before .before .before .before .before .before in let k = c .before .before .before .before .link in (
+loop-holds c = let s = c .before .before .before .before .before .before .before .before .before .before .before .before .before .before .before .before in let k = c .before .before .before .before .link in (
   omega arith,
   refl,
   gathered-none (s .args .marks .now) (setBy (nest s) (s .args .a)),
   refl,
   refl,
-  linked (nest s) (s .args .marks .now) (s .pre .0) (s .args .a) (s .args .next .now) (s .args .head .now) (s .args .start .now) (k .last .1 .1 .1 .1 .0) (k .last .1 .1 .1 .0) (s .pre .1) (s .pre .3) (k .ensures .0) (k .kept .1 .1 .1 .1 .0) (k .kept .1 .1 .1 .0) (k .ensures .1),
+  linked (nest s) (s .args .marks .now) (s .pre .0) (s .args .a) (s .args .next .now) (s .args .head .now) (s .args .start .now) (k .last .1 .1 .1 .1 .0) (k .last .1 .1 .1 .0) (s .pre .1) (s .pre .2) (k .ensures .0) (k .kept .1 .1 .1 .1 .0) (k .kept .1 .1 .1 .0) (k .ensures .1),
 )
 
 first-like-requires : tie.Need-first-like-requires Inv-loop μ-loop
-first-like-requires c κs = let s = c .before .before .before .before .before .before .before .before .before .before .before .before .before .before .before .before .before .before .before in (listed (nest s) (s .args .marks .now) (s .pre .0), c .loop-test .taken)
+first-like-requires c κs = let s = c .before .before .before .before .before .before .before .before .before .before .before .before .before .before .before .before .before .before in (listed (nest s) (s .args .marks .now) (s .pre .0), c .loop-test .taken)
 
 between-requires : tie.Need-between-requires Inv-loop μ-loop
-between-requires c κs = let s = c .before .before .before .before .before .before .before .before .before .before .before .before .before .before .before .before .before .before .before .before .before .before .before .before .before in let l = c .before .before .before .before .before .before .before .loop in (ready-still (nest s) (s .args .marks .now) (l .marks) (l .inv .1) (s .pre .0), s .pre .1, c .before .before .before .before .before .before .loop-test .taken, s .pre .2, l .inv .5)
+between-requires c κs = let s = c .before .before .before .before .before .before .before .before .before .before .before .before .before .before .before .before .before .before .before .before .before .before .before .before in let l = c .before .before .before .before .before .before .before .loop in (ready-still (nest s) (s .args .marks .now) (l .marks) (l .inv .1) (s .pre .0), s .pre .1, c .before .before .before .before .before .before .loop-test .taken, l .inv .5)
 
 add-b : tie.Need-add-b Inv-loop μ-loop
 add-b c = search needs
@@ -103,7 +103,7 @@ loop-less : tie.Need-loop-less Inv-loop μ-loop
 loop-less c = search needs
 
 loop-again : tie.Need-loop-again Inv-loop μ-loop
-loop-again c = let s = c .before .before .before .before .before .before .before .before .before .before .before .before .before .before .before .before .before .before .before .before .before .args in let l = c .before .before .before .loop in let t = c .before .before .loop-test .taken in let k = kept c in (
+loop-again c = let s = c .before .before .before .before .before .before .before .before .before .before .before .before .before .before .before .before .before .before .before .before .args in let l = c .before .before .before .loop in let t = c .before .before .loop-test .taken in let k = kept c in (
   omega arith,
   turn c .0,
   turn c .1,
@@ -126,7 +126,7 @@ same-length-4 c = c .before .loop .inv .1
 
 returns : tie.Need-returns Inv-loop μ-loop
 unfolding setFrom
-returns c = let s = c .before .before .before .before .before .before .before .before .before .before .before .before .before .before .before .before .before .before .before in let l = c .before .loop in let t = c .loop-test .left in let i = l .inv .0 in let e : l .b ≡ length (s .args .statements .now) = omega arith in
+returns c = let s = c .before .before .before .before .before .before .before .before .before .before .before .before .before .before .before .before .before .before in let l = c .before .loop in let t = c .loop-test .left in let i = l .inv .0 in let e : l .b ≡ length (s .args .statements .now) = omega arith in
     (subst (λ n. Gathered (s .args .marks .now) (l .marks) n (setBy (nest s) (s .args .a))) e (l .inv .2), l .inv .5 .clear)
 
 pub from-access-spec : {M : Type 1} → statement M

@@ -1,28 +1,28 @@
--- `vary`. The loop's invariant: every loop before k that is not said to vary is constant.
+-- `vary`. The loop's invariant: every loop before k that is not said to vary has one index along each chain.
 use mathlib.Core.Path.{_≡_, refl, _∙_}
 use Prim.Native.Nat.{_-_, _≤_, _<_}
 use native.Mathlib.Omega.{arith}
 use lib.ListN.{length, length-set}
 use borrow.Author.Needs.{needs}
-use Rattle.vectors.specs.Candidates.{ConstantElse}
-use Rattle.vectors.proofs.CandidateLaws.{constant-more}
-use Rattle.vectors.proofs.vary.Statement.{statement}
-use Rattle.vectors.proofs.vary.Tie as tie
+use Rattle.chains.specs.Search.{LevelElse}
+use Rattle.chains.proofs.FullLaws.{level-more}
+use Rattle.chains.proofs.vary.Statement.{statement}
+use Rattle.chains.proofs.vary.Tie as tie
 
 abbrev Inv-loop : tie.InvT-loop
-Inv-loop points depth count varying₀ k₀ varying k = (k ≤ depth) × (length varying ≡ length varying₀) × ConstantElse depth points count k varying
+Inv-loop points depth count next start varying₀ k₀ varying k = (k ≤ depth) × (length varying ≡ length varying₀) × LevelElse depth points count next start k varying
 
 abbrev μ-loop : tie.MeasureT-loop
-μ-loop points depth count varying₀ k₀ varying k = depth - k
+μ-loop points depth count next start varying₀ k₀ varying k = depth - k
 
 room : (c : tie.After-varies Inv-loop μ-loop) → c .before .before .loop .k < length (c .before .before .loop .varying)
-room c = let l = c .before .before .loop .inv .1 in let p = c .before .before .before .before .pre .1 in let t = c .before .loop-test .taken in omega arith
+room c = let l = c .before .before .loop .inv .1 in let p = c .before .before .before .before .before .before .pre .2 in let t = c .before .loop-test .taken in omega arith
 
 loop-holds : tie.Need-loop-holds Inv-loop μ-loop
 loop-holds c = (omega arith, refl, λ k h. absurd (omega arith))
 
 varies-requires : tie.Need-varies-requires Inv-loop μ-loop
-varies-requires c κs = (c .loop-test .taken, c .before .before .before .pre .0)
+varies-requires c κs = (c .loop-test .taken, c .before .before .before .before .before .pre .0, c .before .before .before .before .before .pre .1)
 
 slice-write-varying : tie.Need-slice-write-varying Inv-loop μ-loop
 slice-write-varying c = room c
@@ -34,8 +34,8 @@ loop-less : tie.Need-loop-less Inv-loop μ-loop
 loop-less c = search needs
 
 loop-again : tie.Need-loop-again Inv-loop μ-loop
-loop-again c = let s = c .before .before .before .before .args in let l = c .before .before .loop in let t = c .before .loop-test .taken in
-    (omega arith, length-set (l .varying) (l .k) (c .varies .result) ∙ l .inv .1, constant-more (s .depth) (s .points .now) (s .count) (l .k) (l .varying) (c .varies .result) (room c) (c .varies .ensures) (l .inv .2))
+loop-again c = let s = c .before .before .before .before .before .before .args in let l = c .before .before .loop in let t = c .before .loop-test .taken in
+    (omega arith, length-set (l .varying) (l .k) (c .varies .result) ∙ l .inv .1, level-more (s .depth) (s .points .now) (s .count) (s .next .now) (s .start .now) (l .k) (l .varying) (c .varies .result) (room c) (c .varies .ensures) (l .inv .2))
 
 same-length : tie.Need-same-length Inv-loop μ-loop
 same-length c = c .before .loop .inv .1
