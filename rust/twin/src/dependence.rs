@@ -3,7 +3,6 @@
 use crate::directions::{power, sign_at};
 use crate::elements::numbers;
 use crate::judgement::Admitted;
-use crate::points::Points;
 
 /// The lines of a listing: for each source, sink and kind one mark for each vector.
 pub struct Lines {
@@ -76,8 +75,6 @@ fn vector<const D: usize>(source: &[i32; D], sink: &[i32; D]) -> usize {
 
 struct Search<'a, const D: usize> {
     points: &'a [[i32; D]],
-    /// Which vectors two points can have: = at every loop whose index never differs.
-    possible: Vec<bool>,
     /// For each element one more than the last point that named it, or 0; for each point the same of the point before it.
     head: Vec<u16>,
     next: Vec<u16>,
@@ -97,15 +94,30 @@ impl<const D: usize> Search<'_, D> {
         seen
     }
 
-    /// Whether all marks are set that can be: vectors that do not point backwards, and that of one point alone if `own`.
-    fn full(&self, own: bool, marks: &[bool]) -> bool {
-        let end = marks.len() / 2 + own as usize;
-        self.possible[..end].iter().zip(marks).all(|(possible, mark)| !possible || *mark)
+    /// The vectors that the conflicts of two accesses can have: = at every loop whose index is one at all points with one element.
+    fn possible(&self, source: &[u16], sink: &[u16]) -> Vec<bool> {
+        let mut first = vec![0; self.head.len()];
+        for (x, element) in source.iter().enumerate().rev() {
+            first[*element as usize] = x + 1;
+        }
+        let mut varies = [false; D];
+        for (x, element) in source.iter().enumerate().chain(sink.iter().enumerate()) {
+            if let Some(like) = first[*element as usize].checked_sub(1) {
+                for (k, varies) in varies.iter_mut().enumerate() {
+                    *varies |= self.points[x][k] != self.points[like][k];
+                }
+            }
+        }
+        let can = |number| (0..D).all(|k| varies[k] || sign_at(number, D, k) == 1);
+        (0..power(D)).map(can).collect()
     }
 
     /// Marks the vectors of all conflicts. A statement's own iteration counts where the source stands before the sink.
     fn search(&mut self, source: &[u16], sink: &[u16], own: bool, marks: &mut [bool]) {
         self.head.fill(0);
+        // Vectors that do not point backwards, and that of one point alone if `own`.
+        let end = marks.len() / 2 + own as usize;
+        let mut possible = None;
         let mut spent = 0;
         for y in 0..source.len() {
             let (from, to) = (source[y] as usize, sink[y] as usize);
@@ -114,7 +126,8 @@ impl<const D: usize> Search<'_, D> {
             self.head[from] = y as u16 + 1;
             spent += self.walk(y, if own { self.head[to] } else { before }, marks);
             if spent > 729 {
-                if self.full(own, marks) {
+                let possible = possible.get_or_insert_with(|| self.possible(source, sink));
+                if possible[..end].iter().zip(&*marks).all(|(possible, mark)| !possible || *mark) {
                     return;
                 }
                 spent = 0;
@@ -123,18 +136,9 @@ impl<const D: usize> Search<'_, D> {
     }
 }
 
-fn possible(points: &Points) -> Vec<bool> {
-    let depth = points.depth;
-    let varies = |k: usize| points.indices.chunks_exact(depth).any(|row| row[k] != points.indices[k]);
-    let constant: Vec<usize> = (0..depth).filter(|k| !varies(*k)).collect();
-    let can = |number| constant.iter().all(|k| sign_at(number, depth, *k) == 1);
-    (0..power(depth)).map(can).collect()
-}
-
 fn search_all<const D: usize>(admitted: &Admitted, uses: &[Use], lines: &mut Lines) {
     let mut search = Search::<D> {
         points: admitted.points.rows(),
-        possible: possible(&admitted.points),
         head: vec![0; admitted.ticket.nest.elements()],
         next: vec![0; admitted.count],
     };
