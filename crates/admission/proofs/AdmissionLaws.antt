@@ -1,5 +1,5 @@
--- The three tests one after the other are the model's `admitted`.
-use mathlib.Core.Path.{_≡_, refl, sym, _∙_, ap, subst}
+-- The survey is the model's `space`; after it the search for a stray subscript is the rest of the model's `admitted`.
+use mathlib.Core.Path.{_≡_, sym, _∙_, ap, subst}
 use mathlib.Core.List.{List}
 use Prim.Native.Nat.{ℕ, zero, suc, _≤_, _<_}
 use native.Mathlib.Omega.{arith}
@@ -10,6 +10,7 @@ use Rattle.model.specs.Bounds.{survey, space, inArrays, admitted}
 use Rattle.model.specs.Points.{iterations}
 use Rattle.reading.specs.declared.Refusal.{Refusal}
 use Rattle.reading.specs.declared.Refusal.the-variants.{IndexOutOfRange, TooManyPoints, SubscriptOutOfBounds}
+use Rattle.reading.specs.declared.Status.the-variants as Status
 use Rattle.reading.specs.Refusals.{refusal}
 use Rattle.space.specs.Surveys as Space
 use Rattle.space.specs.declared.Verdict.{Verdict}
@@ -20,61 +21,64 @@ use Rattle.sheet.specs.declared.Sheet.{Sheet}
 use Rattle.sheet.specs.Sheets.{nestOf, SheetIn}
 use Rattle.sheet.specs.Stages.{Surveyed, ListIn, PointsAre, StrayIn, Searched}
 use Rattle.sheet.proofs.StageLaws.{depth-is}
-use Rattle.admission.specs.declared.Enumerated.{Enumerated}
-use Rattle.admission.specs.declared.Enumerated.the-variants.{Points, Refused}
-use Rattle.admission.specs.Admission.{answerOf, EnumerateIn, Enumerates}
+use Rattle.admission.specs.declared.Counted.{Counted}
+use Rattle.admission.specs.declared.Counted.the-variants.{Points, Refused}
+use Rattle.admission.specs.Admission.{answerOf, passed, Counts, EnumerateIn, Enumerates}
 
--- a refusal is no list of points
+-- a refusal is no count of points
 pub not-points : {A : Type 0} (r : Refusal) (n : ℕ) → Refused r ≡ Points n → A
-not-points r n e = absurd (subst (λ (x : Enumerated). isRefused x) e tt)
+not-points r n e = absurd (subst (λ (x : Counted). isRefused x) e tt)
   where
-    isRefused : Enumerated → Type 0
+    isRefused : Counted → Type 0
     isRefused (Points k) = ⊥
     isRefused (Refused q) = Unit {0}
 
-module _ (P : Sheet) (o : List ℤ) (h : EnumerateIn P (length o)) (v : Verdict) (g : Surveyed P 32767 4096 v) where
+-- ---- 7 and 8
+
+module _ (P : Sheet) (v : Verdict) (g : Surveyed P 32767 4096 v) where
   surveyed : Space.answerOf 7 8 v ≡ space (nestOf P .loops)
   unfolding space
-  surveyed = g 7 8
+  surveyed = g .same 7 8
 
-  refuse : (r : Refusal) → refusal r ≡ space (nestOf P .loops) → (e : List ℤ) → length e ≡ length o → Enumerates P o e (Refused r)
+  pub far-out : (k : ℕ) → v ≡ FarIndex k → Counts P (Refused (IndexOutOfRange k))
+  far-out k q = record { same = sym (ap (Space.answerOf 7 8) q) ∙ surveyed; count = λ n z. not-points (IndexOutOfRange k) n z }
+
+  pub crowded-out : (k : ℕ) → v ≡ Crowded k → Counts P (Refused (TooManyPoints k))
+  crowded-out k q = record { same = sym (ap (Space.answerOf 7 8) q) ∙ surveyed; count = λ n z. not-points (TooManyPoints k) n z }
+
+  pub counted-out : (n : ℕ) → v ≡ Admitted n → Counts P (Points n)
+  counted-out n q = record { same = sym (ap (Space.answerOf 7 8) q) ∙ surveyed; count = λ m z. sym (ap count z) ∙ g .count n q }
+    where
+      count : Counted → ℕ
+      count (Points k) = k
+      count (Refused r) = 0
+
+-- ---- 9
+
+module _ (P : Sheet) (o : List ℤ) (h : EnumerateIn P (length o)) where
+  pub list-in : ListIn P (length o)
+  list-in = record {
+    sheet = h .sheet;
+    near = admitted-near (nestOf P .loops) (h .spacious);
+    few = admitted-few (nestOf P .loops) (let d = depth-is P in let s = h .sheet .some in omega arith) (h .spacious);
+    fits = h .fits;
+  }
+
+  rest : admitted (nestOf P) ≡ inArrays (nestOf P .arrays) (iterations (nestOf P .loops)) 1 (nestOf P .statements)
   unfolding admitted _>>_ _>>=_
-  refuse r q e l = record { same = ap (_>> inArrays (nestOf P .arrays) (iterations (nestOf P .loops)) 1 (nestOf P .statements)) q; points = λ n z. not-points r n z; room = l }
+  rest = ap (_>> inArrays (nestOf P .arrays) (iterations (nestOf P .loops)) 1 (nestOf P .statements)) (h .spacious)
 
-  pub far-out : (k : ℕ) → v ≡ FarIndex k → Enumerates P o o (Refused (IndexOutOfRange k))
-  far-out k q = refuse (IndexOutOfRange k) (sym (ap (Space.answerOf 7 8) q) ∙ surveyed) o refl
+  module _ (e : List ℤ) (n : ℕ) (f : PointsAre P e n × (length e ≡ length o)) where
+    pub stray-in : StrayIn P e n
+    stray-in = record { sheet = h .sheet; points-are = f .0 }
 
-  pub crowded-out : (k : ℕ) → v ≡ Crowded k → Enumerates P o o (Refused (TooManyPoints k))
-  crowded-out k q = refuse (TooManyPoints k) (sym (ap (Space.answerOf 7 8) q) ∙ surveyed) o refl
+    points : PointsAre P e (length (iterations (nestOf P .loops)))
+    points = subst (PointsAre P e) (f .0 .count) (f .0)
 
-  module _ (q : v ≡ Admitted) where
-    spacious : space (nestOf P .loops) ≡ accepted tt
-    spacious = sym surveyed ∙ ap (Space.answerOf 7 8) q
+    pub stray-out : (r : ℕ) → Searched P r → 0 < r → Enumerates P o e (Status.Refused (SubscriptOutOfBounds r))
+    stray-out zero s z = absurd (omega arith)
+    stray-out (suc r) s z = record { same = s ∙ sym rest; points = points; room = f .1 }
 
-    pub list-in : ListIn P (length o)
-    list-in = record {
-      sheet = h .sheet;
-      near = admitted-near (nestOf P .loops) spacious;
-      few = admitted-few (nestOf P .loops) (let d = depth-is P in let s = h .sheet .some in omega arith) spacious;
-      fits = h .fits;
-    }
-
-    rest : admitted (nestOf P) ≡ inArrays (nestOf P .arrays) (iterations (nestOf P .loops)) 1 (nestOf P .statements)
-    unfolding admitted _>>_ _>>=_
-    rest = ap (_>> inArrays (nestOf P .arrays) (iterations (nestOf P .loops)) 1 (nestOf P .statements)) spacious
-
-    module _ (e : List ℤ) (n : ℕ) (f : PointsAre P e n × (length e ≡ length o)) where
-      pub stray-in : StrayIn P e n
-      stray-in = record { sheet = h .sheet; points-are = f .0 }
-
-      pub stray-out : (r : ℕ) → Searched P r → 0 < r → Enumerates P o e (Refused (SubscriptOutOfBounds r))
-      stray-out zero s z = absurd (omega arith)
-      stray-out (suc r) s z = record { same = s ∙ sym rest; points = λ k x. not-points (SubscriptOutOfBounds (suc r)) k x; room = f .1 }
-
-      pub admitted-out : (r : ℕ) → Searched P r → r ≤ 0 → Enumerates P o e (Points n)
-      admitted-out zero s z = record { same = s ∙ sym rest; points = λ k x. subst (PointsAre P e) (ap count x) (f .0); room = f .1 }
-        where
-          count : Enumerated → ℕ
-          count (Points k) = k
-          count (Refused r) = 0
-      admitted-out (suc r) s z = absurd (omega arith)
+    pub admitted-out : (r : ℕ) → Searched P r → r ≤ 0 → Enumerates P o e Status.Fine
+    admitted-out zero s z = record { same = s ∙ sym rest; points = points; room = f .1 }
+    admitted-out (suc r) s z = absurd (omega arith)

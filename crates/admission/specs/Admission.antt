@@ -5,25 +5,38 @@ use Prim.Native.Nat.{ℕ, _*_, _≤_}
 use lib.IntN.{ℤ}
 use lib.ListN.{length}
 use Rattle.model.specs.Answer.{Answer, accepted}
-use Rattle.model.specs.Bounds.{admitted}
+use Rattle.model.specs.Points.{iterations}
+use Rattle.model.specs.Bounds.{space, admitted}
 use Rattle.reading.specs.Refusals.{refusal}
+use Rattle.reading.specs.declared.Status.{Status}
+use Rattle.reading.specs.declared.Status.the-variants as Status
 use Rattle.sheet.specs.declared.Sheet.{Sheet}
 use Rattle.sheet.specs.Sheets.{nestOf, SheetIn}
 use Rattle.sheet.specs.Stages.{PointsAre}
-use Rattle.admission.specs.declared.Enumerated.{Enumerated}
-use Rattle.admission.specs.declared.Enumerated.the-variants.{Points, Refused}
+use Rattle.admission.specs.declared.Counted.{Counted}
+use Rattle.admission.specs.declared.Counted.the-variants.{Points, Refused}
 
-abbrev pub answerOf : Enumerated → Answer (Unit {0})
+abbrev pub answerOf : Counted → Answer (Unit {0})
 answerOf (Points n) = accepted tt
 answerOf (Refused r) = refusal r
 
--- there is room for 4096 points
+-- 7 and 8, and the count of the points
+pub record Counts (P : Sheet) (r : Counted) : Type 0 where
+  pub same : answerOf r ≡ space (nestOf P .loops)
+  pub count : (n : ℕ) → r ≡ Points n → n ≡ length (iterations (nestOf P .loops))
+
+abbrev pub passed : Status → Answer (Unit {0})
+passed Status.Fine = accepted tt
+passed (Status.Refused r) = refusal r
+
+-- a nest that passes 7 and 8, and room for its points
 pub record EnumerateIn (P : Sheet) (room : ℕ) : Type 0 where
   pub sheet : SheetIn P
-  pub fits : 4096 * P .depth ≤ room
+  pub spacious : space (nestOf P .loops) ≡ accepted tt
+  pub fits : length (iterations (nestOf P .loops)) * P .depth ≤ room
 
--- the slice o became e; it has the points if the nest is admitted
-pub record Enumerates (P : Sheet) (o e : List ℤ) (r : Enumerated) : Type 0 where
-  pub same : answerOf r ≡ admitted (nestOf P)
-  pub points : (n : ℕ) → r ≡ Points n → PointsAre P e n
+-- the slice o became e; it has the points
+pub record Enumerates (P : Sheet) (o e : List ℤ) (r : Status) : Type 0 where
+  pub same : passed r ≡ admitted (nestOf P)
+  pub points : PointsAre P e (length (iterations (nestOf P .loops)))
   pub room : length e ≡ length o

@@ -1,31 +1,39 @@
-// Whether a nest on its sheet is admitted: refusals 7 to 9, and its points.
+// Whether a nest on its sheet is admitted: refusals 7 and 8 and the count of its points, then its points and refusal 9.
 ghost use mathlib.Core.Path.{_≡_};
 ghost use lib.ListN.{length};
-ghost use Rattle.admission.specs.Admission.{EnumerateIn, Enumerates};
+ghost use Rattle.sheet.specs.Sheets.{SheetIn};
+ghost use Rattle.admission.specs.Admission.{Counts, EnumerateIn, Enumerates};
 use reading::Refusal;
+use reading::Status;
 use sheet::Sheet;
 use space::Verdict;
 
-pub enum Enumerated {
+pub enum Counted {
     // so many
     Points(usize),
     Refused(Refusal),
 }
 
-// Writes the points row by row in order where the nest is admitted.
-pub fn enumerate(sheet: Sheet, points: &mut [i64]) -> Enumerated
+pub fn count_points(sheet: Sheet) -> Counted
+    requires { ⌜ SheetIn sheet ⌝ }
+    ensures { λ r. ⌜ Counts sheet r ⌝ }
+{
+    match sheet::survey(sheet, 32767, 4096) {
+        Verdict::Admitted(n) => Counted::Points(n),
+        Verdict::FarIndex(k) => Counted::Refused(Refusal::IndexOutOfRange(k)),
+        Verdict::Crowded(k) => Counted::Refused(Refusal::TooManyPoints(k)),
+    }
+}
+
+// Writes the points row by row in order, then looks for a subscript that leaves its extent.
+pub fn enumerate(sheet: Sheet, points: &mut [i64]) -> Status
     requires { ⌜ EnumerateIn sheet (length (now points)) ⌝ }
     ensures { λ r. ⌜ Enumerates sheet (now (points .entry)) (now (points .exit)) r ⌝ }
 {
-    match sheet::survey(sheet, 32767, 4096) {
-        Verdict::Admitted => {}
-        Verdict::FarIndex(k) => return Enumerated::Refused(Refusal::IndexOutOfRange(k)),
-        Verdict::Crowded(k) => return Enumerated::Refused(Refusal::TooManyPoints(k)),
-    }
     let count = sheet::list_points(sheet, points);
     let stray = sheet::find_stray(sheet, points, count);
     if 0 < stray {
-        return Enumerated::Refused(Refusal::SubscriptOutOfBounds(stray));
+        return Status::Refused(Refusal::SubscriptOutOfBounds(stray));
     }
-    Enumerated::Points(count)
+    Status::Fine
 }

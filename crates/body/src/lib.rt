@@ -17,8 +17,8 @@ use reading::Status;
 
 // constant + coefficients · indices of all loops.
 pub struct Subscript {
-    pub constant: i64,
-    pub coefficients: [i64; 6],
+    pub constant: i32,
+    pub coefficients: [i32; 6],
 }
 
 // An array, from 0, and its first `dimensions` subscripts.
@@ -80,7 +80,7 @@ fn no_subscript(r: Refusal, at: usize) -> SubscriptRead
         status: Status::Refused(r),
         subscript: Subscript {
             constant: 0,
-            coefficients: [0i64; 6],
+            coefficients: [0i32; 6],
         },
         next: at,
     }
@@ -119,7 +119,7 @@ fn no_subscripts() -> [Subscript; 3]
 {
     let blank = Subscript {
         constant: 0,
-        coefficients: [0i64; 6],
+        coefficients: [0i32; 6],
     };
     [blank; 3]
 }

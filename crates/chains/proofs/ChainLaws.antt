@@ -1,7 +1,7 @@
 -- Chains of places by element. In order: a chain passes over no place that has the element; the heads from which links are read; the
 -- links; a walk along them.
 use mathlib.Core.Path.{_≡_, refl, sym, ap, _∙_}
-use mathlib.Core.Bool.{Bool, true, false, cond, _&&_, _||_}
+use mathlib.Core.Bool.{Bool, true, false, cond, not, _&&_, _||_, true≢false}
 use mathlib.Core.Logic.{_⊎_, inl, inr, ⊎-elim}
 use mathlib.Core.List.{List}
 use Prim.Native.Nat.{ℕ, zero, suc, _+_, _-_, _≤_, _<_}
@@ -12,8 +12,8 @@ use lib.Dec.{T, eqb}
 use lib.ListN.{length, getD, set}
 use lib.Seq.{getD-set-same, getD-set-other}
 use borrow.Author.Count.{below-more}
-use borrow.Author.Tests.{eq-eqb, eqb-true, eqb-false}
-use Rattle.chains.specs.Search.{some, latest, upTo, Links, Clear, ClearElse, along}
+use borrow.Author.Tests.{eq-eqb, eqb-true, eqb-false, not-false}
+use Rattle.chains.specs.Search.{some, latest, upTo, Links, Unlinked, Clear, ClearElse, along}
 
 -- ---- chains
 
@@ -120,6 +120,12 @@ pub links-more : (from to : List ℕ) (own : Bool) (out : List ℕ) (y l : ℕ) 
     → (k : ℕ) → k < y + 1 → getD (set out y l) k 0 ≡ latest from (getD to k 0) (upTo own k)
 links-more from to own out y l b e h = below-more (λ k. getD (set out y l) k 0 ≡ latest from (getD to k 0) (upTo own k)) y
     (λ k g. getD-set-other out y k l 0 (λ a. let r : k ≡ y = a in absurd (omega arith)) ∙ h k g) (getD-set-same out y l 0 b ∙ e)
+
+-- whether there is a link
+pub unlinked-more : (out : List ℕ) (any : Bool) (y l : ℕ) → y < length out → (any ≡ false → Unlinked y out) → any || not (eqb l 0) ≡ false → Unlinked (y + 1) (set out y l)
+unlinked-more out true y l b h e = absurd (true≢false e)
+unlinked-more out false y l b h e = below-more (λ k. getD (set out y l) k 0 ≡ 0) y
+    (λ k g. getD-set-other out y k l 0 (λ a. let r : k ≡ y = a in absurd (omega arith)) ∙ h refl k g) (getD-set-same out y l 0 b ∙ eqb-true l 0 (not-false (eqb l 0) e))
 
 -- the link of y is read before its own place is entered, or after
 pub link-turn : (from head head′ : List ℕ) (own : Bool) (y e e′ l : ℕ) → e < 16384 → e ≡ e′ → Heads from head y → Heads from head′ (y + 1)

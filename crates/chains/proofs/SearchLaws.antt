@@ -1,8 +1,8 @@
--- The search of two accesses, sink by sink.
-use mathlib.Core.Path.{_≡_, refl, ap, _∙_}
-use mathlib.Core.Bool.{Bool, false, _||_}
+-- The search of two accesses, sink by sink; sinks without a source are passed over.
+use mathlib.Core.Path.{_≡_, refl, sym, ap, _∙_}
+use mathlib.Core.Bool.{Bool, false, _&&_, _||_}
 use mathlib.Core.List.{List}
-use Prim.Native.Nat.{ℕ, _+_, _≤_, _<_}
+use Prim.Native.Nat.{ℕ, _+_, _-_, _≤_, _<_}
 use native.Mathlib.Nat.{mul-le-mul-right}
 use native.Mathlib.Omega.{arith}
 use lib.Dec.{eqb}
@@ -10,9 +10,9 @@ use lib.IntN.{ℤ}
 use lib.ListN.{length, getD}
 use Rattle.lists.proofs.PartLaws.{row-fits}
 use Rattle.vectors.specs.Candidates.{code}
-use Rattle.chains.specs.Search.{some, latest, upTo, Links, hit, found, Adds, walked, Walkable, Tabled, Searchable, Followable}
-use Rattle.chains.proofs.SomeLaws.{gathered-none, gathered-more}
-use Rattle.chains.proofs.ChainLaws.{latest-le, upTo-le, links-fall, along-finds}
+use Rattle.chains.specs.Search.{some, latest, upTo, Links, Unlinked, NextLinked, hit, found, Adds, walked, Walkable, Tabled, Searchable, Followable}
+use Rattle.chains.proofs.SomeLaws.{some-skips, gathered-none, gathered-more}
+use Rattle.chains.proofs.ChainLaws.{chain-skips-none, latest-le, upTo-le, links-fall, along-finds}
 
 module _ (s : List ℤ) (d : ℕ) (from to : List ℕ) (own : Bool) (base : ℕ) where
   -- the marks of all sinks below y are set
@@ -72,6 +72,37 @@ module _ (s : List ℤ) (d : ℕ) (from to : List ℕ) (own : Bool) (base : ℕ)
       starts = w .starts;
       adds = gathered-more m₀ m m′ y (λ y j. some (upTo own y) (hit d s from to base j y)) (w .adds) (λ j. a j ∙ ap (getD m j false ||_) (walked-is j));
     }
+
+  -- ---- sinks without a source
+
+  finds-none : (start : List ℕ) → Links from to own start → (y j : ℕ) → y < length from → getD start y 0 ≡ 0 → some (upTo own y) (hit d s from to base j y) ≡ false
+  unfolding hit some
+  finds-none start k y j h z = chain-skips-none from (getD to y 0) (λ x. eqb (base + code d s x y) j) (upTo own y)
+      ∙ ap (λ n. some n (λ x. eqb (getD from x 0) (getD to y 0) && eqb (base + code d s x y) j)) (sym (k y h) ∙ z)
+
+  found-skips : (start : List ℕ) (y r j : ℕ) → Links from to own start → NextLinked start y (length from) r → found d s r from to own base j ≡ found d s y from to own base j
+  unfolding found
+  found-skips start y r j k g = let a = g .after in let b = g .inside in let e : r ≡ y + (r - y) = omega arith in
+      ap (λ n. some n (λ y. some (upTo own y) (hit d s from to base j y))) e
+      ∙ some-skips y (r - y) (λ y. some (upTo own y) (hit d s from to base j y)) (λ i p q. finds-none start k i j (omega arith) (g .passed i (omega arith) p))
+
+  pub search-skips : (next start : List ℕ) (m₀ m : List Bool) (spent y r : ℕ) → NextLinked start y (length from) r → Searching next start m₀ m spent y → Searching next start m₀ m spent r
+  search-skips next start m₀ m spent y r g w = record {
+    inside = g .inside;
+    light = w .light;
+    same-length = w .same-length;
+    table = w .table;
+    nexts = w .nexts;
+    starts = w .starts;
+    adds = λ j. w .adds j ∙ ap (getD m₀ j false ||_) (sym (found-skips start y r j (w .starts) g));
+  }
+
+  -- no sink has a source
+  pub search-none : (next start : List ℕ) (m : List Bool) → length from ≤ length next → Links from from false next → Links from to own start → Unlinked (length from) start
+      → Adds m m (found d s (length from) from to own base)
+  search-none next start m l n k z =
+      let g : NextLinked start 0 (length from) (length from) = record { after = omega arith; inside = omega arith; passed = λ i h _. z i h; there = λ h. absurd (omega arith) } in
+      (search-skips next start m m 0 0 (length from) g (search-begins next start m l n k)) .adds
 
 -- both tables of links are tables of links
 pub tabled : (s : List ℤ) (d : ℕ) (from to : List ℕ) (own : Bool) (base : ℕ) (next start : List ℕ) (m : List Bool) → Searchable s d from to base m → Followable from to own next start

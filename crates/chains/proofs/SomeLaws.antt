@@ -1,10 +1,10 @@
--- Laws of `some`: as a statement; equal tests; the marks that a loop gathers.
+-- Laws of `some`: as a statement; numbers that do not pass; the marks that a loop gathers.
 use mathlib.Core.Path.{_≡_, sym, ap, _∙_, subst}
 use mathlib.Core.Bool.{Bool, false, _||_, or-false, or-assoc, or-comm}
 use mathlib.Core.Logic.{_⊎_, inl, inr, ⊎-elim}
 use mathlib.Core.List.{List}
-use Prim.Native.Nat.{ℕ, zero, suc, _+_, _<_}
-use native.Mathlib.Nat.{eq-or-lt-of-le, le-of-suc-le-suc}
+use Prim.Native.Nat.{ℕ, zero, suc, _+_, _≤_, _<_}
+use native.Mathlib.Nat.{add-zero, add-suc, eq-or-lt-of-le, le-of-suc-le-suc}
 use native.Mathlib.Omega.{arith}
 use native.Mathlib.Numerals.{add-one}
 use lib.Dec.{T}
@@ -28,6 +28,12 @@ pub some-none : (n : ℕ) → some n (λ k. false) ≡ false
 unfolding some
 some-none zero = λ _. false
 some-none (suc n) = some-none n
+
+-- numbers that do not pass
+pub some-skips : (n k : ℕ) (p : ℕ → Bool) → ((i : ℕ) → n ≤ i → i < n + k → p i ≡ false) → some (n + k) p ≡ some n p
+unfolding some
+some-skips n zero p h = rw (add-zero n)
+some-skips n (suc k) p h = rw (add-suc n k) (ap (_|| some (n + k) p) (h (n + k) (omega arith) (omega arith)) ∙ some-skips n k p (λ i a b. h i a (omega arith)))
 
 -- ---- the marks that a loop gathers
 

@@ -36,6 +36,17 @@ Below m numbers = (i : ℕ) → i < length numbers → getD numbers i 0 < m
 abbrev pub Links : List ℕ → List ℕ → Bool → List ℕ → Type 0
 Links from to own out = (y : ℕ) → y < length from → getD out y 0 ≡ latest from (getD to y 0) (upTo own y)
 
+-- none of n places has a link
+abbrev pub Unlinked : ℕ → List ℕ → Type 0
+Unlinked n links = (y : ℕ) → y < n → getD links y 0 ≡ 0
+
+-- the place r is the first of n places from y on that has a link, or n
+pub record NextLinked (links : List ℕ) (y n r : ℕ) : Type 0 where
+  pub after : y ≤ r
+  pub inside : r ≤ n
+  pub passed : (k : ℕ) → k < r → y ≤ k → getD links k 0 ≡ 0
+  pub there : r < n → getD links r 0 ≡ 0 → ⊥
+
 -- no element has a head
 abbrev pub Clear : List ℕ → Type 0
 Clear head = (e : ℕ) → e < 16384 → getD head e 0 ≡ 0

@@ -3,7 +3,7 @@ ghost use mathlib.Core.Path.{_≡_};
 ghost use mathlib.Core.Bool.{true, false};
 ghost use Prim.Native.Nat.{_+_, _-_, _≤_, _<_};
 ghost use lib.ListN.{length};
-ghost use Rattle.chains.specs.Search.{Below, Links, Clear, ClearElse, Linkable, Linked, Followable, upTo, Adds, walked, Walkable, Level, LevelElse, Tabled, Full, found, Searchable};
+ghost use Rattle.chains.specs.Search.{Below, Links, Unlinked, NextLinked, Clear, ClearElse, Linkable, Linked, Followable, upTo, Adds, walked, Walkable, Level, LevelElse, Tabled, Full, found, Searchable};
 
 // ---- chains of points by element
 
@@ -33,11 +33,12 @@ fn clear(from: &[u16], head: &mut [u16])
 }
 
 // For each y, one more than the last x before y (or up to y, if `own`) at which `from` has the element that `to` has at y, or 0.
-// No element has a head before and after.
-pub fn link(from: &[u16], to: &[u16], own: bool, head: &mut [u16], out: &mut [u16])
+// No element has a head before and after. Answers whether there is a link.
+pub fn link(from: &[u16], to: &[u16], own: bool, head: &mut [u16], out: &mut [u16]) -> bool
     requires { ⌜ Linkable (now from) (now to) (now head) (now out) ⌝ }
-    ensures { λ _. ⌜ Links (now (from .entry)) (now (to .entry)) own (now (out .exit)) × Clear (now (head .exit)) ⌝ }
+    ensures { λ r. ⌜ Links (now (from .entry)) (now (to .entry)) own (now (out .exit)) × Clear (now (head .exit)) × (r ≡ false → Unlinked (length (now (from .entry))) (now (out .exit))) ⌝ }
 {
+    let mut any = false;
     let mut y = 0;
     while y < from.len() {
         let e = wide(to[y]);
@@ -47,9 +48,11 @@ pub fn link(from: &[u16], to: &[u16], own: bool, head: &mut [u16], out: &mut [u1
             l = head[e];
         }
         out[y] = l;
+        any = any | (l != 0);
         y += 1;
     }
     clear(from, head);
+    any
 }
 
 // Marks the vectors of the sink y with all sources of the chain that begins at `first`, and counts them.
@@ -153,6 +156,21 @@ fn full(marks: &[bool], base: usize, varying: &[bool], own: bool) -> bool
     true
 }
 
+// The first sink from y on that has a source, or the end.
+fn linked(start: &[u16], y: usize, end: usize) -> usize
+    requires { ⌜ (y ≤ end) × (end ≤ length (now start)) ⌝ }
+    ensures { λ r. ⌜ NextLinked (now (start .entry)) y end r ⌝ }
+{
+    let mut i = y;
+    while i < end {
+        if start[i] != 0 {
+            return i;
+        }
+        i += 1;
+    }
+    i
+}
+
 // Marks the vectors of all sinks with the sources on their chains. Left once there is nothing more to find, which is looked at as often
 // as the walks pay for it.
 fn follow(
@@ -172,10 +190,10 @@ fn follow(
     let mut varying = [false; 6];
     let mut known = false;
     let mut spent = 0;
-    let mut y = 0;
+    let mut y = linked(start, 0, from.len());
     while y < from.len() {
         spent = spent + walk(points, depth, y, wide(start[y]), next, base, marks);
-        y += 1;
+        y = linked(start, y + 1, from.len());
         if 729 < spent {
             if !known {
                 vary(points, depth, from.len(), next, start, &mut varying);
@@ -205,6 +223,7 @@ pub fn search(
     requires { ⌜ Searchable (now points) depth (now from) (now to) base (now marks) × Linked (now from) (now next) (now head) (now start) ⌝ }
     ensures { λ _. ⌜ Adds (now (marks .entry)) (now (marks .exit)) (found depth (now (points .entry)) (length (now (from .entry))) (now (from .entry)) (now (to .entry)) own base) × Clear (now (head .exit)) ⌝ }
 {
-    link(from, to, own, head, start);
-    follow(points, depth, from, to, own, base, next, start, marks);
+    if link(from, to, own, head, start) {
+        follow(points, depth, from, to, own, base, next, start, marks);
+    }
 }

@@ -17,7 +17,7 @@ use Rattle.elements.proofs.LayoutLaws.{extents-are, extents-length, ext
 abbrev pub Small : List ℕ → Type 0
 Small ns = All (λ (n : ℕ). n ≤ 4096) ns
 
-pub two-small : (ns : List ℕ) → length ns ≤ 2 → Small ns → elements ns ≤ 16777216
+two-small : (ns : List ℕ) → length ns ≤ 2 → Small ns → elements ns ≤ 16777216
 unfolding elements
 two-small [] h s = omega arith
 two-small (n ∷ []) h s = let a = s n (List·Memᴰ·head refl) in omega arith

@@ -7,20 +7,26 @@ use Prim.Native.Nat.{ℕ, zero, suc, _+_, _*_, _-_, _≤_, _<_}
 use native.Mathlib.Omega.{arith}
 use native.Mathlib.Nat.{eq-or-lt-of-le}
 use native.Mathlib.Numerals.{add-one}
-use lib.IntN.{ℤ}
+use lib.IntN.{ℤ, natAbs}
 use lib.ListN.{length, getD, take, drop, set, length-map}
 use Rattle.lists.specs.Parts.{rows, put}
 use Rattle.lists.proofs.PartLaws.{length-rows, length-put, set-put, put-nil, getD-put, getD-put-before}
 use Rattle.model.specs.Bounds.{strays}
 use Rattle.model.specs.Store.{base}
 use Rattle.elements.specs.Layout.{arraysOf, accessAt}
-use Rattle.elements.specs.Places.{BaseIn, PlaceIn, NumberIn, placeAt, placesOf, numbered}
+use Rattle.elements.specs.Forms.{formOf, valueAt, FormIn, ValueIn}
+use Rattle.elements.specs.Places.{BaseIn, NumberIn, placeAt, placesOf, numbered}
 use Rattle.elements.proofs.LayoutLaws.{array-in}
+use Rattle.elements.proofs.ElementLaws.{array-fits}
+use Rattle.elements.proofs.PlaceLaws.{PlaceIn, value-is-place, value-in}
 use Rattle.elements.proofs.RowLaws.{lent, row-is, row-length, row-mem, row-near, next-rows}
 
 module _ {w : List ℤ} {o a : List ℕ} {points : List ℤ} {depth count room : ℕ} (p : NumberIn w o a points depth count room) {k : ℕ} (h : k < length o) where
   pub base-in : BaseIn a (getD o k 0)
   base-in = record { array = array-in w o a depth (getD o k 0) (p .accesses) (p .accesses .there k h); fits = p .fits }
+
+  pub form-in : {b : ℕ} → b ≡ base (arraysOf a) (getD o k 0) → FormIn w o a k b
+  form-in {b} q = record { loops = depth; accesses = p .accesses; there = h; begins = let f = array-fits a (getD o k 0) (base-in .array) in let t = p .fits in omega arith }
 
   places-length : (i : ℕ) → length (placesOf w o a depth (rows depth i points) k) ≡ i
   unfolding placesOf
@@ -34,11 +40,11 @@ module _ {w : List ℤ} {o a : List ℕ} {points : List ℤ} {depth count room :
   unfolding placesOf rows
   no-place out₀ = sym (put-nil out₀ (k * 4096))
 
-  module _ {b i at : ℕ} (q : b ≡ base (arraysOf a) (getD o k 0)) (l : i < count) (e : at ≡ i * depth) where
+  module _ {b i at : ℕ} {f : List ℤ} (q : b ≡ base (arraysOf a) (getD o k 0)) (g : f ≡ formOf w o a k b) (l : i < count) (e : at ≡ i * depth) where
     width : length (lent (p .stored) l e) ≡ depth
     width = row-length (p .stored) l e
 
-    pub place-in : PlaceIn w o a k b (take (at + depth - at) (drop at points))
+    place-in : PlaceIn w o a k b (take (at + depth - at) (drop at points))
     place-in = record {
       accesses = rw width (p .accesses);
       there = h;
@@ -48,23 +54,30 @@ module _ {w : List ℤ} {o a : List ℕ} {points : List ℤ} {depth count room :
       begins = q;
     }
 
-    module _ {out : List ℕ} (out₀ : List ℕ) (len : length out₀ ≡ room) (f : out ≡ put out₀ (k * 4096) (placesOf w o a depth (rows depth i points) k)) where
+    pub place-lent : ValueIn f (take (at + depth - at) (drop at points))
+    place-lent = subst (λ (x : List ℤ). ValueIn x (take (at + depth - at) (drop at points))) (sym g) (value-in place-in)
+
+    place-value : natAbs (valueAt f (take (at + depth - at) (drop at points))) ≡ placeAt w o a depth k (take (at + depth - at) (drop at points))
+    place-value = ap (λ (x : List ℤ). natAbs (valueAt x (take (at + depth - at) (drop at points)))) g
+        ∙ ap natAbs (value-is-place place-in)
+        ∙ ap (λ (m : ℕ). placeAt w o a m k (take (at + depth - at) (drop at points))) width
+
+    module _ {out : List ℕ} (out₀ : List ℕ) (len : length out₀ ≡ room) (s : out ≡ put out₀ (k * 4096) (placesOf w o a depth (rows depth i points) k)) where
       ends : k * 4096 + i < room
       ends = let s = p .space in let c = p .stored .bound in omega arith
 
       pub in-room : k * 4096 + i < length out
-      in-room = let g = ends in let z = same-room i (omega arith) out out₀ len f in omega arith
+      in-room = let g = ends in let z = same-room i (omega arith) out out₀ len s in omega arith
 
-      pub place-more : (r : ℕ) → r ≡ placeAt w o a (length (take (at + depth - at) (drop at points))) k (take (at + depth - at) (drop at points))
+      pub one-place : (r : ℕ) → r ≡ natAbs (valueAt f (take (at + depth - at) (drop at points)))
           → set out (k * 4096 + i) r ≡ put out₀ (k * 4096) (placesOf w o a depth (rows depth (i + 1) points) k)
       unfolding placesOf
-      place-more r g =
+      one-place r v =
           let n = places-length i in let z = ends in
-          let v : r ≡ placeAt w o a depth k (take (at + depth - at) (drop at points)) = g ∙ ap (λ (m : ℕ). placeAt w o a m k (take (at + depth - at) (drop at points))) width in
-          ap (λ (x : List ℕ). set x (k * 4096 + i) r) f
+          ap (λ (x : List ℕ). set x (k * 4096 + i) r) s
           ∙ ap (λ (m : ℕ). set (put out₀ (k * 4096) (map (placeAt w o a depth k) (rows depth i points))) (k * 4096 + m) r) (sym n)
           ∙ set-put out₀ (k * 4096) (map (placeAt w o a depth k) (rows depth i points)) r (omega arith)
-          ∙ ap (put out₀ (k * 4096)) (ap (λ (x : ℕ). map (placeAt w o a depth k) (rows depth i points) ++ (x ∷ [])) v
+          ∙ ap (put out₀ (k * 4096)) (ap (λ (x : ℕ). map (placeAt w o a depth k) (rows depth i points) ++ (x ∷ [])) (v ∙ place-value)
           ∙ sym (map-append (placeAt w o a depth k) (rows depth i points) (take (at + depth - at) (drop at points) ∷ []))
           ∙ ap (map (placeAt w o a depth k)) (sym (next-rows (p .stored) l e)))
 

@@ -1,34 +1,31 @@
--- The place of an access in the store, dimension by dimension: one more, what each subscript is within its extent, and the whole.
+-- The place of an access in the store, dimension by dimension: one more, what each subscript is within its extent, and the whole. The
+-- access's form has it as its value, and at a point within the extents its numbers are small.
 use mathlib.Core.Path.{_≡_, refl, sym, _∙_, ap, ap₂, subst}
 use mathlib.Core.Bool.{Bool, true, false, _||_}
 use mathlib.Core.List.{List, [], _∷_, _++_, map, map-append}
-use Prim.Native.Nat.{ℕ, zero, suc, _+_, _*_, _/_, _≤_, _<_}
+use Prim.Native.Nat.{ℕ, zero, suc, _+_, _*_, _≤_, _<_}
 use native.Mathlib.Omega.{arith}
-use native.Mathlib.Nat.{mul-one, one-mul, mul-assoc, suc-mul, mul-le-mul, mul-le-mul-right, add-zero, add-suc, suc-add}
-use native.Mathlib.Numerals.{add-one}
-use lib.IntN.{ℤ, pos, natAbs}
+use native.Mathlib.Nat.{mul-one, one-mul, mul-assoc, suc-mul, mul-le-mul, mul-le-mul-right, add-zero, add-suc, suc-add, add-comm}
+use lib.IntN.{ℤ, pos, natAbs, _+ℤ_, _*ℤ_}
 use lib.Signed.{_≤ℤ_, _<ℤ_, ltZ, leZ}
 use lib.ListN.{length, getD, take, length-map}
 use lib.Seq.{take-suc, take-length, length-take-le}
-use mir.Syntax.{w64}
-use mir.Val.{Fits, toZ, ofZ}
-use lib.Dec.{T}
-use lib.Signed.{nonNeg}
-use Rattle.lists.proofs.MembershipLaws.{all-take}
+use Rattle.integers.specs.Affine.{Within}
 use Rattle.integers.proofs.RingLaws.{zarith, nonneg-down}
-use Rattle.integers.proofs.RangeLaws.{test-lt-no, test-le-no, size-natAbs, size-fits, cast-ok}
+use Rattle.integers.proofs.RangeLaws.{test-lt-no, test-le-no, size-natAbs, to-nat}
+use Rattle.integers.proofs.AffineLaws.{within-more}
 use Rattle.model.specs.Ticket.{Subscript}
-use Rattle.model.specs.Grammar.{elements, extents}
+use Rattle.model.specs.Grammar.{elements, total}
 use Rattle.model.specs.Bounds.{subscriptAt, outside, strays}
 use Rattle.model.specs.Machine.{element}
-use Rattle.model.specs.Store.{placeFrom, placeOf}
-use Rattle.bounds.proofs.LimitLaws.{copied}
-use Rattle.bounds.specs.Ranges.{Narrow}
-use Rattle.elements.specs.Layout.{extentsAt, formAt, formsFrom, accessAt, ArrayIn}
+use Rattle.model.specs.Store.{base, placeFrom, placeOf}
+use Rattle.elements.specs.Layout.{extentsAt, arraysOf, formAt, formsFrom, accessAt, ArrayIn, AccessesOk}
 use Rattle.elements.specs.Search.{off}
-use Rattle.elements.specs.Places.{IndexIn, PlaceIn, placeAt}
-use Rattle.elements.proofs.LayoutLaws.{array-in, array-ends, extents-are, extents-length, extent-read, forms-snoc, forms-length}
-use Rattle.elements.proofs.ElementLaws.{extents-small, two-small, array-fits}
+use Rattle.elements.specs.Forms.{wordsAt, formTo, formOf, valueAt, ValueIn}
+use Rattle.elements.specs.Places.{placeAt}
+use Rattle.elements.proofs.LayoutLaws.{extents-are, extents-length, extent-read, forms-snoc, forms-length}
+use Rattle.elements.proofs.ElementLaws.{array-fits}
+use Rattle.elements.proofs.FormLaws.{owner, flat, words-length, form-length, within-zeros, within-folded, within-words, value-folded, value-none, value-raised, value-words, raised-length, raised-in}
 
 -- ---- one dimension more
 
@@ -72,43 +69,34 @@ forms-getD f w n j zero d h = absurd (omega arith)
 forms-getD f w n j (suc m) zero h = ap (λ (k : ℕ). f (formAt w n k)) (sym (add-zero j))
 forms-getD f w n j (suc m) (suc d) h = forms-getD f w n (suc j) m d (omega arith) ∙ ap (λ (k : ℕ). f (formAt w n k)) (suc-add j d ∙ sym (add-suc j d))
 
--- ---- an index
-
-module _ {w : List ℤ} {j : ℕ} {point : List ℤ} (p : IndexIn w j point) {r : ℤ} (e : r ≡ subscriptAt point (formAt w (length point) j)) (b : Narrow r) where
-  not-negative : pos 0 ≤ℤ r
-  not-negative = subst (λ (z : ℤ). pos 0 ≤ℤ z) (sym e) (p .inside)
-
-  pub index-cast : T (nonNeg (toZ w64 (ofZ w64 r))) × Fits w64 (natAbs (toZ w64 (ofZ w64 r)))
-  index-cast = rw (copied r b) (cast-ok r not-negative (size-fits b (omega arith)))
-
-  pub index-is : natAbs (toZ w64 (ofZ w64 r)) ≡ natAbs (subscriptAt point (formAt w (length point) j))
-  index-is = ap natAbs (copied r b ∙ e)
+-- a bound of 32767 for each of d dimensions and each of r places, with one dimension more
+grows : (d r n r′ : ℕ) → r′ ≡ r * n → 1 ≤ r′ → 32767 * (d * r) * n + 32767 ≤ 32767 * (suc d * r′)
+grows d r n r′ e h = let q : 32767 * (d * r) * n ≡ 32767 * (d * r′) = mul-assoc 32767 (d * r) n ∙ ap (32767 *_) (mul-assoc d r n ∙ ap (d *_) (sym e)) in omega (arith, suc-mul d r′)
 
 -- ---- the place of an access
 
+-- access k at a point where it keeps its extents; its array begins at b
+pub record PlaceIn (w : List ℤ) (o a : List ℕ) (k b : ℕ) (point : List ℤ) : Type 0 where
+  pub accesses : AccessesOk w o a (length point)
+  pub there : k < length o
+  pub near : Within 100000 point
+  pub inside : strays (arraysOf a) point (accessAt w o a (length point) k) ≡ false
+  pub fits : total (arraysOf a) ≤ 16384
+  pub begins : b ≡ base (arraysOf a) (getD o k 0)
+
 -- the place by the first d dimensions, and how many places these have
-abbrev pub partialAt : List ℤ → List ℕ → List ℕ → ℕ → List ℤ → ℕ → ℕ
+abbrev partialAt : List ℤ → List ℕ → List ℕ → ℕ → List ℤ → ℕ → ℕ
 partialAt w o a k point d = placeFrom 0 (take d (extentsAt a (getD o k 0))) (map (subscriptAt point) (formsFrom w (length point) (k * 3) d))
 
-abbrev pub roomAt : List ℕ → List ℕ → ℕ → ℕ → ℕ
+abbrev roomAt : List ℕ → List ℕ → ℕ → ℕ → ℕ
 roomAt o a k d = elements (take d (extentsAt a (getD o k 0)))
 
 module _ {w : List ℤ} {o a : List ℕ} {k b : ℕ} {point : List ℤ} (p : PlaceIn w o a k b point) where
-  pub owner : getD o k 0 < length a / 4
-  owner = p .accesses .there k (p .there)
-
   array : ArrayIn a (getD o k 0)
-  array = array-in w o a (length point) (getD o k 0) (p .accesses) owner
+  array = owner (p .accesses) (p .there)
 
-  pub owner-ends : getD o k 0 * 4 + 4 ≤ length a
-  owner-ends = array-ends a (getD o k 0) array
-
-  pub flat : getD a (getD o k 0 * 4) 0 ≤ 3
-  flat = p .accesses .dimensions (getD o k 0) owner
-
-  pub start : (0 ≡ partialAt w o a k point 0) × (0 < roomAt o a k 0)
-  unfolding placeFrom elements
-  start = (refl, omega arith)
+  three : getD a (getD o k 0 * 4) 0 ≤ 3
+  three = flat (p .accesses) (p .there)
 
   whole : outside (extentsAt a (getD o k 0)) (map (subscriptAt point) (formsFrom w (length point) (k * 3) (getD a (getD o k 0 * 4) 0))) ≡ false
   unfolding strays accessAt
@@ -125,50 +113,74 @@ module _ {w : List ℤ} {o a : List ℕ} {k b : ℕ} {point : List ℤ} (p : Pla
         off-inside (getD a (getD o k 0 * 4 + 1 + d) 0) (subscriptAt point (formAt w (length point) (k * 3 + d)))
         (ap₂ off (sym (extent-read a (getD o k 0) array d h)) (sym (forms-getD (subscriptAt point) w (length point) (k * 3) (getD a (getD o k 0 * 4) 0) d h)) ∙ e)
 
-    pub index-in : IndexIn w (k * 3 + d) point
-    index-in = let f = flat in let t = p .there in let v = p .accesses .words in let m = p .accesses .many in record {
-      subscript = record { inside = omega arith; room = omega arith; small = p .accesses .small; few = p .accesses .shallow; near = p .near };
-      inside = kept .0;
-    }
-
     take-more : take (suc d) (extentsAt a (getD o k 0)) ≡ take d (extentsAt a (getD o k 0)) ++ (getD a (getD o k 0 * 4 + 1 + d) 0 ∷ [])
     take-more = take-suc (extentsAt a (getD o k 0)) d 0 below ∙ ap (λ (n : ℕ). take d (extentsAt a (getD o k 0)) ++ (n ∷ [])) (extent-read a (getD o k 0) array d h)
 
-    extent-small : getD a (getD o k 0 * 4 + 1 + d) 0 ≤ 4096
-    extent-small = p .accesses .extents (getD o k 0 * 4 + 1 + d)
+    place-more : partialAt w o a k point (suc d) ≡ partialAt w o a k point d * getD a (getD o k 0 * 4 + 1 + d) 0 + natAbs (subscriptAt point (formAt w (length point) (k * 3 + d)))
+    place-more =
+        ap₂ (placeFrom 0) take-more (ap (map (subscriptAt point)) (forms-snoc w (length point) (k * 3) d) ∙ map-append (subscriptAt point) (formsFrom w (length point) (k * 3) d) (formAt w (length point) (k * 3 + d) ∷ []))
+        ∙ place-snoc 0 (take d (extentsAt a (getD o k 0))) (map (subscriptAt point) (formsFrom w (length point) (k * 3) d)) (getD a (getD o k 0 * 4 + 1 + d) 0) (subscriptAt point (formAt w (length point) (k * 3 + d)))
+        (length-take-le d (extentsAt a (getD o k 0)) (let l = below in omega arith) ∙ sym (length-map (formsFrom w (length point) (k * 3) d) (subscriptAt point) ∙ forms-length w (length point) (k * 3) d))
 
-    module _ {r x : ℕ} (e : r ≡ partialAt w o a k point d) (g : r < roomAt o a k d) (q : x ≡ natAbs (subscriptAt point (formAt w (length point) (k * 3 + d)))) where
-      pub more : r * getD a (getD o k 0 * 4 + 1 + d) 0 + x ≡ partialAt w o a k point (d + 1)
-      more = rw (add-one d) (sym (
-          ap₂ (placeFrom 0) take-more (ap (map (subscriptAt point)) (forms-snoc w (length point) (k * 3) d) ∙ map-append (subscriptAt point) (formsFrom w (length point) (k * 3) d) (formAt w (length point) (k * 3 + d) ∷ []))
-          ∙ place-snoc 0 (take d (extentsAt a (getD o k 0))) (map (subscriptAt point) (formsFrom w (length point) (k * 3) d)) (getD a (getD o k 0 * 4 + 1 + d) 0) (subscriptAt point (formAt w (length point) (k * 3 + d)))
-          (length-take-le d (extentsAt a (getD o k 0)) (let l = below in omega arith) ∙ sym (length-map (formsFrom w (length point) (k * 3) d) (subscriptAt point) ∙ forms-length w (length point) (k * 3) d))
-          ∙ ap₂ (λ (u v : ℕ). u * getD a (getD o k 0 * 4 + 1 + d) 0 + v) (sym e) (sym q)))
+    room-more : roomAt o a k (suc d) ≡ roomAt o a k d * getD a (getD o k 0 * 4 + 1 + d) 0
+    room-more = ap elements take-more ∙ elements-snoc (take d (extentsAt a (getD o k 0))) (getD a (getD o k 0 * 4 + 1 + d) 0)
 
-      step : suc (r * getD a (getD o k 0 * 4 + 1 + d) 0 + x) ≤ suc r * getD a (getD o k 0 * 4 + 1 + d) 0
-      step = let i = kept .1 in omega (arith, suc-mul r (getD a (getD o k 0 * 4 + 1 + d) 0))
+  place-below : (d : ℕ) → d ≤ getD a (getD o k 0 * 4) 0 → partialAt w o a k point d < roomAt o a k d
+  unfolding placeFrom elements
+  place-below zero h = omega arith
+  place-below (suc d) h =
+      let g = place-below d (omega arith) in let i = kept h .1 in
+      omega (arith, place-more h, room-more h, suc-mul (partialAt w o a k point d) (getD a (getD o k 0 * 4 + 1 + d) 0), mul-le-mul-right (getD a (getD o k 0 * 4 + 1 + d) 0) g)
 
-      pub more-room : r * getD a (getD o k 0 * 4 + 1 + d) 0 + x < roomAt o a k (d + 1)
-      more-room = rw (add-one d) (subst (λ (n : ℕ). suc (r * getD a (getD o k 0 * 4 + 1 + d) 0 + x) ≤ n) (sym (ap elements take-more ∙ elements-snoc (take d (extentsAt a (getD o k 0))) (getD a (getD o k 0 * 4 + 1 + d) 0)))
-          (let s = step in omega (arith, mul-le-mul-right (getD a (getD o k 0 * 4 + 1 + d) 0) g)))
+  -- ---- its form
 
-    pub partial-small : (r : ℕ) → r < roomAt o a k d → r * getD a (getD o k 0 * 4 + 1 + d) 0 ≤ 68719476736
-    partial-small r g =
-        let f = flat in let l = below in
-        let t = two-small (take d (extentsAt a (getD o k 0))) (let z = length-take-le d (extentsAt a (getD o k 0)) (omega arith) in omega arith) (all-take (λ (n : ℕ). n ≤ 4096) d (extentsAt a (getD o k 0)) (extents-small a (getD o k 0) array)) in
-        mul-le-mul {n₁ = r} {m₁ = getD a (getD o k 0 * 4 + 1 + d) 0} {n₂ = 16777216} {m₂ = 4096} (omega arith) extent-small
+  few : length point ≤ 6
+  few = p .accesses .shallow
 
-    pub index-small : natAbs (subscriptAt point (formAt w (length point) (k * 3 + d))) ≤ 4096
-    index-small = let i = kept .1 in let e = extent-small in omega arith
+  value-to : (d : ℕ) → d ≤ getD a (getD o k 0 * 4) 0 → valueAt (formTo w o a k d) point ≡ pos (partialAt w o a k point d)
+  unfolding formTo placeFrom
+  value-to zero h = value-none point few
+  value-to (suc d) h = let t = three in let v = p .accesses .words in let z = p .there in
+      value-folded point few (getD a (getD o k 0 * 4 + 1 + d) 0) (formTo w o a k d) (wordsAt w (k * 3 + d)) (form-length (p .accesses) (p .there) d (omega arith)) (words-length w (k * 3 + d) (omega arith))
+      ∙ ap₂ (λ (s t : ℤ). s *ℤ pos (getD a (getD o k 0 * 4 + 1 + d) 0) +ℤ t) (value-to d (omega arith)) (value-words point few w (k * 3 + d) ∙ sym (to-nat (subscriptAt point (formAt w (length point) (k * 3 + d))) (kept h .0)))
+      ∙ ap pos (sym (place-more h))
 
-  module _ {d r : ℕ} (h : d ≤ getD a (getD o k 0 * 4) 0) (g : getD a (getD o k 0 * 4) 0 ≤ d) (e : r ≡ partialAt w o a k point d) (l : r < roomAt o a k d) where
-    all-extents : take d (extentsAt a (getD o k 0)) ≡ extentsAt a (getD o k 0)
-    all-extents = let q : d ≡ length (extentsAt a (getD o k 0)) = (let z = extents-length a (getD o k 0) array in omega arith) in ap (λ (n : ℕ). take n (extentsAt a (getD o k 0))) q ∙ take-length (extentsAt a (getD o k 0))
+  -- every extent is 1 or more, so no product of some of them is above that of all
+  form-small : (d : ℕ) → d ≤ getD a (getD o k 0 * 4) 0 → Within (32767 * (d * roomAt o a k d)) (formTo w o a k d)
+  unfolding formTo
+  form-small zero h = within-zeros (32767 * (0 * roomAt o a k 0)) 8
+  form-small (suc d) h =
+      within-folded (32767 * (d * roomAt o a k d)) (getD a (getD o k 0 * 4 + 1 + d) 0) (32767 * (suc d * roomAt o a k (suc d))) (formTo w o a k d) (wordsAt w (k * 3 + d)) (form-small d (omega arith)) (within-words w (k * 3 + d) (p .accesses .small))
+      (grows d (roomAt o a k d) (getD a (getD o k 0 * 4 + 1 + d) 0) (roomAt o a k (suc d)) (room-more h) (let g = place-below (suc d) h in omega arith))
 
-    pub place-small : b + r < 16384
-    place-small = let z = subst (λ (ns : List ℕ). r < elements ns) all-extents l in let f = array-fits a (getD o k 0) array in let t = p .fits in let q = p .begins in omega arith
+  -- ---- all dimensions
 
-    pub place-is : b + r ≡ placeAt w o a (length point) k point
-    unfolding placeAt placeOf element accessAt
-    place-is = let q : d ≡ getD a (getD o k 0 * 4) 0 = omega arith in
-        ap₂ _+_ (p .begins) (e ∙ ap₂ (placeFrom 0) (all-extents ∙ sym (extents-are a (getD o k 0) array)) (ap (λ (n : ℕ). map (subscriptAt point) (formsFrom w (length point) (k * 3) n)) q))
+  all-extents : take (getD a (getD o k 0 * 4) 0) (extentsAt a (getD o k 0)) ≡ extentsAt a (getD o k 0)
+  all-extents = ap (λ (n : ℕ). take n (extentsAt a (getD o k 0))) (sym (extents-length a (getD o k 0) array)) ∙ take-length (extentsAt a (getD o k 0))
+
+  room-small : b + roomAt o a k (getD a (getD o k 0 * 4) 0) ≤ 16384
+  room-small = let f = array-fits a (getD o k 0) array in let t = p .fits in let q = p .begins in let e = ap elements all-extents in omega arith
+
+  place-is : b + partialAt w o a k point (getD a (getD o k 0 * 4) 0) ≡ placeAt w o a (length point) k point
+  unfolding placeAt placeOf element accessAt
+  place-is = ap₂ _+_ (p .begins) (ap (λ (ns : List ℕ). placeFrom 0 ns (map (subscriptAt point) (formsFrom w (length point) (k * 3) (getD a (getD o k 0 * 4) 0)))) (all-extents ∙ sym (extents-are a (getD o k 0) array)))
+
+  pub value-is-place : valueAt (formOf w o a k b) point ≡ pos (placeAt w o a (length point) k point)
+  unfolding formOf
+  value-is-place = let t = three in
+      value-raised point few b (formTo w o a k (getD a (getD o k 0 * 4) 0)) (form-length (p .accesses) (p .there) (getD a (getD o k 0 * 4) 0) t)
+      ∙ ap (_+ℤ pos b) (value-to (getD a (getD o k 0 * 4) 0) (omega arith))
+      ∙ ap pos (add-comm (partialAt w o a k point (getD a (getD o k 0 * 4) 0)) b ∙ place-is)
+
+  pub value-in : ValueIn (formOf w o a k b) point
+  unfolding formOf
+  value-in =
+      let t = three in let r = room-small in let l = form-length (p .accesses) (p .there) (getD a (getD o k 0 * 4) 0) t in
+      let v = value-is-place in let i = place-is in let u = place-below (getD a (getD o k 0 * 4) 0) (omega arith) in
+      let m = mul-le-mul {n₁ = getD a (getD o k 0 * 4) 0} {m₁ = roomAt o a k (getD a (getD o k 0 * 4) 0)} {n₂ = 3} {m₂ = 16384} t (omega arith) in record {
+        words = raised-length b (formTo w o a k (getD a (getD o k 0 * 4) 0)) l;
+        few = few;
+        lent = raised-in b (formTo w o a k (getD a (getD o k 0 * 4) 0)) point l (within-more (formTo w o a k (getD a (getD o k 0 * 4) 0)) (form-small (getD a (getD o k 0 * 4) 0) (omega arith)) (omega arith)) (omega arith) few (p .near);
+        inside = subst (λ (z : ℤ). pos 0 ≤ℤ z) (sym v) (omega zarith);
+        below = subst (λ (z : ℤ). natAbs z < 16384) (sym v) (omega arith);
+      }

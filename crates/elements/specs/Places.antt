@@ -3,35 +3,20 @@ use mathlib.Core.Path.{_≡_}
 use mathlib.Core.Bool.{false}
 use mathlib.Core.List.{List, map}
 use Prim.Native.Nat.{ℕ, zero, suc, _*_, _≤_, _<_}
-use lib.IntN.{ℤ, pos}
-use lib.Signed.{_≤ℤ_}
-use lib.ListN.{length, getD}
+use lib.IntN.{ℤ}
+use lib.ListN.{length}
 use Rattle.lists.specs.Membership.{All}
 use Rattle.lists.specs.Parts.{rows, put}
-use Rattle.integers.specs.Affine.{Within}
 use Rattle.model.specs.Grammar.{total}
-use Rattle.model.specs.Bounds.{subscriptAt, strays}
+use Rattle.model.specs.Bounds.{strays}
 use Rattle.model.specs.Machine.{element}
-use Rattle.model.specs.Store.{base, placeOf}
-use Rattle.elements.specs.Layout.{arraysOf, formAt, accessAt, ArrayIn, AccessesOk}
-use Rattle.elements.specs.Search.{SubscriptIn, RowsIn}
+use Rattle.model.specs.Store.{placeOf}
+use Rattle.elements.specs.Layout.{arraysOf, accessAt, ArrayIn, AccessesOk}
+use Rattle.elements.specs.Search.{RowsIn}
 
 pub record BaseIn (a : List ℕ) (i : ℕ) : Type 0 where
   pub array : ArrayIn a i
   pub fits : total (arraysOf a) ≤ 16384
-
-pub record IndexIn (w : List ℤ) (j : ℕ) (point : List ℤ) : Type 0 where
-  pub subscript : SubscriptIn w j point
-  pub inside : pos 0 ≤ℤ subscriptAt point (formAt w (length point) j)
-
--- access k at a point where it keeps its extents; its array begins at b
-pub record PlaceIn (w : List ℤ) (o a : List ℕ) (k b : ℕ) (point : List ℤ) : Type 0 where
-  pub accesses : AccessesOk w o a (length point)
-  pub there : k < length o
-  pub near : Within 100000 point
-  pub inside : strays (arraysOf a) point (accessAt w o a (length point) k) ≡ false
-  pub fits : total (arraysOf a) ≤ 16384
-  pub begins : b ≡ base (arraysOf a) (getD o k 0)
 
 -- the place of access k of all at a point
 unfoldable pub placeAt : List ℤ → List ℕ → List ℕ → ℕ → ℕ → List ℤ → ℕ

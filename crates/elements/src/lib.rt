@@ -2,16 +2,19 @@
 // (specs/Layout), points as rows.
 ghost use mathlib.Core.Path.{_≡_};
 ghost use Prim.Native.Nat.{_*_, _≤_, _<_};
-ghost use lib.IntN.{natAbs};
+ghost use lib.IntN.{pos, natAbs, _+ℤ_, _*ℤ_};
 ghost use lib.ListN.{length};
 ghost use Rattle.lists.specs.Parts.{rows, put};
+ghost use Rattle.integers.specs.Difference.{size};
+ghost use Rattle.integers.specs.Affine.{Within};
 ghost use Rattle.model.specs.Grammar.{elements};
 ghost use Rattle.model.specs.Bounds.{subscriptAt};
 ghost use Rattle.model.specs.Store.{base};
 ghost use Rattle.bounds.specs.Ranges.{Narrow};
 ghost use Rattle.elements.specs.Layout.{extentsAt, arraysOf, formAt, ArrayIn};
 ghost use Rattle.elements.specs.Search.{off, straysAt, SubscriptIn, StrayIn, SearchIn, Searched};
-ghost use Rattle.elements.specs.Places.{BaseIn, IndexIn, PlaceIn, NumberIn, placeAt, placesOf, numbered};
+ghost use Rattle.elements.specs.Forms.{wordsAt, folded, raised, formOf, valueAt, FoldIn, FormIn, ValueIn};
+ghost use Rattle.elements.specs.Places.{BaseIn, NumberIn, placesOf, numbered};
 
 // Subscript j of all, at a point.
 fn subscript(words: &[i64], j: usize, point: &[i64]) -> i64
@@ -126,35 +129,65 @@ pub fn base_of(arrays: &[usize], i: usize) -> usize
     r
 }
 
-// Subscript j of all at a point, where it is not negative.
-fn index(words: &[i64], j: usize, point: &[i64]) -> usize
-    requires { ⌜ IndexIn (now words) j (now point) ⌝ }
-    ensures { λ r. ⌜ r ≡ natAbs (subscriptAt (now (point .entry)) (formAt (now (words .entry)) (length (now (point .entry))) j)) ⌝ }
+// One number of a form, with one dimension more.
+fn number(x: i64, extent: usize, word: i64) -> i64
+    requires { ⌜ (size x ≤ 134246399) × (extent ≤ 4096) × (size word ≤ 32767) ⌝ }
+    ensures { λ r. ⌜ r ≡ x *ℤ pos extent +ℤ word ⌝ }
 {
-    subscript(words, j, point) as usize
+    x * (extent as i64) + word
 }
 
-// The place in the store of access k at a point; its array begins at b.
-fn place(
-    words: &[i64],
-    owners: &[usize],
-    arrays: &[usize],
-    k: usize,
-    b: usize,
-    point: &[i64],
-) -> usize
-    requires { ⌜ PlaceIn (now words) (now owners) (now arrays) k b (now point) ⌝ }
-    ensures { λ r. ⌜ (r ≡ placeAt (now (words .entry)) (now (owners .entry)) (now (arrays .entry)) (length (now (point .entry))) k (now (point .entry))) × (r < 16384) ⌝ }
+// A form with one dimension more: its extent, and subscript j of all.
+fn deepen(form: [i64; 8], extent: usize, words: &[i64], j: usize) -> [i64; 8]
+    requires { ⌜ FoldIn form extent (now words) j ⌝ }
+    ensures { λ r. ⌜ r ≡ folded extent form (wordsAt (now (words .entry)) j) ⌝ }
+{
+    let at = j * 8;
+    let mut r = form;
+    let mut l = 0;
+    while l < 8 {
+        let x = form[l];
+        let z = number(x, extent, words[at + l]);
+        r[l] = z;
+        l += 1;
+    }
+    r
+}
+
+// A form with b more.
+fn raise(form: [i64; 8], b: usize) -> [i64; 8]
+    requires { ⌜ Within 549873283071 form × (b ≤ 16384) ⌝ }
+    ensures { λ r. ⌜ r ≡ raised b form ⌝ }
+{
+    let mut r = form;
+    let x = form[0];
+    r[0] = x + (b as i64);
+    r
+}
+
+// The place of access k as a form; its array begins at b.
+fn form_of(words: &[i64], owners: &[usize], arrays: &[usize], k: usize, b: usize) -> [i64; 8]
+    requires { ⌜ FormIn (now words) (now owners) (now arrays) k b ⌝ }
+    ensures { λ r. ⌜ r ≡ formOf (now (words .entry)) (now (owners .entry)) (now (arrays .entry)) k b ⌝ }
 {
     let at = owners[k] * 4;
     let dimensions = arrays[at];
-    let mut r = 0;
+    let mut form = [0i64; 8];
     let mut d = 0;
     while d < dimensions {
-        r = r * arrays[at + 1 + d] + index(words, k * 3 + d, point);
+        let deeper = deepen(form, arrays[at + 1 + d], words, k * 3 + d);
+        form = deeper;
         d += 1;
     }
-    b + r
+    raise(form, b)
+}
+
+// The value of a form at a point.
+fn place(form: &[i64], point: &[i64]) -> u16
+    requires { ⌜ ValueIn (now form) (now point) ⌝ }
+    ensures { λ r. ⌜ r ≡ natAbs (valueAt (now (form .entry)) (now (point .entry))) ⌝ }
+{
+    integers::affine(form[0], &form[1..1 + point.len()], point) as u16
 }
 
 // Writes the place of access k at every point, from place 4096 k on.
@@ -172,12 +205,12 @@ fn number_access(
     ensures { λ _. ⌜ now (out .exit) ≡ put (now (out .entry)) (k * 4096) (placesOf (now (words .entry)) (now (owners .entry)) (now (arrays .entry)) depth (rows depth count (now (points .entry))) k) ⌝ }
 {
     let b = base_of(arrays, owners[k]);
+    let form = form_of(words, owners, arrays, k, b);
     let first = k * 4096;
     let mut at = 0;
     let mut i = 0;
     while i < count {
-        let p = place(words, owners, arrays, k, b, &points[at..at + depth]);
-        out[first + i] = p as u16;
+        out[first + i] = place(&form, &points[at..at + depth]);
         at += depth;
         i += 1;
     }

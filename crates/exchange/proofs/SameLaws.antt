@@ -9,7 +9,7 @@ use lib.Dec.{eqb, T}
 use lib.IntN.{ℤ, pos}
 use lib.ListN.{length, getD, take}
 use lib.Seq.{take-suc, getD-take, length-take-le}
-use mir.Syntax.{w64}
+use mir.Syntax.{w32}
 use mir.Val.{SFits, ofZ}
 use borrow.Author.Tests.{eqb-true, eqb-false, eq-eqb, ne-eqb}
 use Rattle.integers.specs.Sign.{eqZ}
@@ -24,12 +24,12 @@ use Rattle.nest.specs.declared.Limit.{Limit}
 
 -- ---- numbers: the machine's test, on the bits
 
-pub bits-same : (x y : ℤ) → SFits w64 x → SFits w64 y → eqb (ofZ w64 x) (ofZ w64 y) ≡ eqZ x y
-bits-same x y f g = go (eqb (ofZ w64 x) (ofZ w64 y)) refl
+pub bits-same : (x y : ℤ) → SFits w32 x → SFits w32 y → eqb (ofZ w32 x) (ofZ w32 y) ≡ eqZ x y
+bits-same x y f g = go (eqb (ofZ w32 x) (ofZ w32 y)) refl
   where
-    go : (b : Bool) → eqb (ofZ w64 x) (ofZ w64 y) ≡ b → b ≡ eqZ x y
-    go true e = let q : x ≡ y = bits-inj f g (eqb-true (ofZ w64 x) (ofZ w64 y) e) in sym (T-true (eqZ x y) (subst (λ z. T (eqZ x z)) q (eqZ-decides .itself x)))
-    go false e = sym (not-T-false (eqZ x y) (λ t. eqb-false (ofZ w64 x) (ofZ w64 y) e (ap (ofZ w64) (eqZ-decides .equal x y t))))
+    go : (b : Bool) → eqb (ofZ w32 x) (ofZ w32 y) ≡ b → b ≡ eqZ x y
+    go true e = let q : x ≡ y = bits-inj f g (eqb-true (ofZ w32 x) (ofZ w32 y) e) in sym (T-true (eqZ x y) (subst (λ z. T (eqZ x z)) q (eqZ-decides .itself x)))
+    go false e = sym (not-T-false (eqZ x y) (λ t. eqb-false (ofZ w32 x) (ofZ w32 y) e (ap (ofZ w32) (eqZ-decides .equal x y t))))
 
 -- ---- rows
 

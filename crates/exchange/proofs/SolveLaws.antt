@@ -9,16 +9,17 @@ use lib.IntN.{ℤ, pos, negsuc, negℤ, natAbs, _+ℤ_, _*ℤ_}
 use lib.ListN.{length, getD, take, set, length-set}
 use lib.Seq.{getD-take}
 use lib.Signed.{_≤ℤ_, _<ℤ_, ltZ}
-use mir.Syntax.{w64}
+use mir.Syntax.{w32}
 use mir.Val.{ofZ}
 use Rattle.integers.specs.Difference.{size}
 use Rattle.integers.proofs.DifferenceLaws.{le-nat, lt-nat, nat-lt, nat-le, neg-fact}
-use Rattle.integers.proofs.RangeLaws.{size-fits, bits-inj, test-lt, test-lt-no, lt-test, lt-test-no}
+use Rattle.integers.proofs.RangeLaws.{bits-inj, test-lt, test-lt-no, lt-test, lt-test-no}
 use Rattle.model.specs.Ticket as Model
 use Rattle.model.specs.Limits.{combined, widened, kept, outerPart, outerCoefficient, solvedPositive, solvedNegative, whenPositive, whenNegative}
 use Rattle.nest.specs.Nested.{limitOf}
 use Rattle.nest.specs.declared.Limit.{Limit}
 use Rattle.limits.specs.Makes.{mixed, RowIs, LimitIs}
+use Rattle.limits.proofs.NumberLaws.{size-fits}
 use Rattle.limits.proofs.RowLaws.{front-shorter, front-longer, mixed-negates}
 use Rattle.limits.proofs.LimitLaws.{same-limit}
 use Rattle.exchange.specs.Filling.{solved, takenOf}
@@ -29,11 +30,11 @@ coefficient-at a l = getD-take (a + 1) (l .coefficients) a (pos 0) (omega arith)
 
 -- ---- tests
 
-pub zero-bits : (z : ℤ) → size z ≤ 32767 → ofZ w64 z ≡ 0 → z ≡ pos 0
-zero-bits z h e = bits-inj {w = w64} (size-fits h (omega arith)) (size-fits {z = pos 0} {n = 0} (omega arith) (omega arith)) e
+pub zero-bits : (z : ℤ) → size z ≤ 32767 → ofZ w32 z ≡ 0 → z ≡ pos 0
+zero-bits z h e = bits-inj {w = w32} (size-fits h (omega arith)) (size-fits {z = pos 0} {n = 0} (omega arith) (omega arith)) e
 
-pub zero-test : (z : ℤ) → (ofZ w64 z ≡ 0 → ⊥) → z ≡ pos 0 → ⊥
-zero-test z h e = h (ap (ofZ w64) e)
+pub zero-test : (z : ℤ) → (ofZ w32 z ≡ 0 → ⊥) → z ≡ pos 0 → ⊥
+zero-test z h e = h (ap (ofZ w32) e)
 
 pub negated-positive : (z : ℤ) → z ≤ℤ pos 0 → pos 0 ≤ℤ negℤ z
 negated-positive z h = nat-le (pos 0) (negℤ z) (let u = le-nat z (pos 0) h in omega (arith, neg-fact z))

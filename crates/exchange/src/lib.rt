@@ -20,11 +20,11 @@ use nest::Side;
 // ---- limits
 
 // p J against e + c I, and q I against f: p q J against q e + c f.
-fn combined(a: usize, c: i64, l: Limit, m: Limit) -> Limit
+fn combined(a: usize, c: i32, l: Limit, m: Limit) -> Limit
     requires { ⌜ (a < 6) × (size c ≤ 32767) × SmallLimit (limitOf (a + 1) l) × SmallLimit (limitOf a m) ⌝ }
     ensures { λ r. ⌜ LimitIs a r (combined a c (limitOf (a + 1) l) (limitOf a m)) ⌝ }
 {
-    let q = m.multiplier as i64;
+    let q = m.multiplier as i32;
     let lc = l.constant;
     let mc = m.constant;
     let ls = l.coefficients;
@@ -43,7 +43,7 @@ fn solved(a: usize, l: Limit) -> Limit
     requires { ⌜ (a < 6) × SmallLimit (limitOf (a + 1) l) × (outerCoefficient a (limitOf (a + 1) l) ≡ pos 0 → ⊥) ⌝ }
     ensures { λ r. ⌜ LimitIs (a + 1) r (solved a (outerCoefficient a (limitOf (a + 1) l)) (limitOf (a + 1) l)) ⌝ }
 {
-    let p = l.multiplier as i64;
+    let p = l.multiplier as i32;
     let k = l.constant;
     let cs = l.coefficients;
     let c = cs[a];
@@ -51,7 +51,7 @@ fn solved(a: usize, l: Limit) -> Limit
         let mut up = limits::mix(a, -1, cs, 0, cs);
         up[a] = p;
         Limit {
-            multiplier: c as u64,
+            multiplier: c as u32,
             constant: limits::minus(k),
             coefficients: up,
         }
@@ -60,7 +60,7 @@ fn solved(a: usize, l: Limit) -> Limit
         let q = limits::minus(p);
         down[a] = q;
         Limit {
-            multiplier: limits::minus(c) as u64,
+            multiplier: limits::minus(c) as u32,
             constant: k,
             coefficients: down,
         }
@@ -83,13 +83,13 @@ fn widened(l: Limit, n: usize) -> Limit
 
 // ---- equal limits
 
-fn equal(x: i64, y: i64) -> bool
+fn equal(x: i32, y: i32) -> bool
     ensures { λ r. ⌜ r ≡ eqZ x y ⌝ }
 {
     x == y
 }
 
-fn same_row(xs: [i64; 6], ys: [i64; 6], n: usize) -> bool
+fn same_row(xs: [i32; 6], ys: [i32; 6], n: usize) -> bool
     requires { ⌜ n ≤ 6 ⌝ }
     ensures { λ r. ⌜ r ≡ sameBy eqZ (take n xs) (take n ys) ⌝ }
 {
@@ -152,7 +152,7 @@ fn empty() -> Filling
     let blank = Limit {
         multiplier: 0,
         constant: 0,
-        coefficients: [0i64; 6],
+        coefficients: [0i32; 6],
     };
     Filling {
         full: false,
@@ -194,7 +194,7 @@ fn push(f: Filling, x: Limit, n: usize) -> Filling
 // ---- the loop that J becomes, outside
 
 // A limit of J with coefficient c, combined with each of a side of I.
-fn push_combined(f: Filling, a: usize, c: i64, l: Limit, side: Side) -> Filling
+fn push_combined(f: Filling, a: usize, c: i32, l: Limit, side: Side) -> Filling
     requires { ⌜ (size c ≤ 32767) × CombineIn a f l side ⌝ }
     ensures { λ r. ⌜ Adds a f (map (combined a c (limitOf (a + 1) l)) (sideOf a side)) r ⌝ }
 {

@@ -3,7 +3,7 @@ use mathlib.Core.Path.{_≡_, sym, _∙_, ap}
 use mathlib.Core.List.{List, [], _∷_}
 use Prim.Native.Nat.{ℕ, zero, suc, _+_, _^_, _≤_, _<_}
 use native.Mathlib.Omega.{arith}
-use native.Mathlib.Nat.{add-zero, zero-add, add-suc, suc-add}
+use native.Mathlib.Nat.{add-zero, zero-add, add-suc, suc-add, mul-le-mul}
 use lib.IntN.{ℤ}
 use lib.ListN.{length, getD}
 use Rattle.lists.proofs.MembershipLaws.{all-getD}
@@ -32,7 +32,7 @@ constant-from P k i (suc j) (m ∷ ms) h = constant-from P (k + m) (suc i) j ms 
 module _ (P : Sheet) (room : ℕ) (h : ExecuteIn P room) where
   pub list-in : (size : ℕ) → 24576 ≤ size → ListIn P size
   unfolding sprawl
-  list-in size g = let d = h .sheet .accesses-ok .shallow in record { sheet = h .sheet; near = survey-near 13 13 100000 65536 (nestOf P .loops) (h .nest .sprawls); few = h .nest .few; fits = omega arith }
+  list-in size g = let d = h .sheet .accesses-ok .shallow in record { sheet = h .sheet; near = survey-near 13 13 100000 65536 (nestOf P .loops) (h .nest .sprawls); few = h .nest .few; fits = omega (arith, mul-le-mul (h .nest .few) d) }
 
   constant-is : (i : ℕ) → i < P .statements → bodyAt (nestOf P .statements) i .constant ≡ getD (P .constants) i 0
   unfolding nestOf

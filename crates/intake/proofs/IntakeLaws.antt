@@ -1,15 +1,13 @@
--- The grammar, then refusals 7 to 9 on the sheet, are the model's `admit`; what the grammar gives of an accepted ticket is what the sheet asks.
-use mathlib.Core.Path.{_≡_, refl, sym, _∙_, ap, subst}
+-- The grammar, then refusals 7 and 8 on the sheet, are `received`. What the grammar gives of an accepted ticket is what the sheet asks.
+use mathlib.Core.Path.{_≡_, sym, _∙_, ap, subst}
 use mathlib.Core.List.{List}
-use Prim.Native.Nat.{ℕ, _*_, _≤_}
+use Prim.Native.Nat.{ℕ, _≤_}
 use native.Mathlib.Omega.{arith}
-use lib.IntN.{ℤ}
 use lib.ListN.{length}
-use Rattle.model.specs.Answer.{Answer, accepted, _>>_, _>>=_}
+use Rattle.model.specs.Answer.{accepted, _>>_, _>>=_}
 use Rattle.model.specs.Ticket as Model
 use Rattle.model.specs.Grammar.{decode}
-use Rattle.model.specs.Bounds.{admitted}
-use Rattle.model.specs.Judge.{admit}
+use Rattle.model.specs.Bounds.{space}
 use Rattle.model.specs.Ranges.{TicketRanges}
 use Rattle.model.specs.Shape.{WellFormed}
 use Rattle.model.proofs.Grammar.GrammarLaws.{ranges-wider, decode-ranges, decode-formed}
@@ -23,14 +21,15 @@ use Rattle.ticket.specs.Ticket.{nestOf, ticketOf, decoded, TicketIn, Decodes}
 use Rattle.sheet.specs.declared.Sheet.{Sheet}
 use Rattle.sheet.specs.Sheets as Sheet
 use Rattle.sheet.proofs.StageLaws.{depth-is}
-use Rattle.layout.specs.Sheets.{modelOf, LayIn, Laid}
-use Rattle.admission.specs.Admission.{answerOf, EnumerateIn, Enumerates}
-use Rattle.admission.specs.declared.Enumerated.{Enumerated}
-use Rattle.admission.specs.declared.Enumerated.the-variants as Enumerated
+use Rattle.layout.specs.Sheets.{modelOf, LayIn}
+use Rattle.layout.specs.Sheets as Layout
+use Rattle.admission.specs.Admission.{answerOf, Counts}
+use Rattle.admission.specs.declared.Counted.{Counted}
+use Rattle.admission.specs.declared.Counted.the-variants as Counted
 use Rattle.intake.specs.declared.Intake.{Intake}
-use Rattle.intake.specs.Intake.{Taken, Admits}
+use Rattle.intake.specs.Intake.{received, Laid, Receives}
 
-not-fine : {A : Type 0} (r : Refusal) → Refused r ≡ Fine → A
+pub not-fine : {A : Type 0} (r : Refusal) → Refused r ≡ Fine → A
 not-fine r e = absurd (subst isRefused e tt)
   where
     isRefused : Status → Type 0
@@ -38,22 +37,17 @@ not-fine r e = absurd (subst isRefused e tt)
     isRefused (Refused q) = Unit {0}
 
 -- a refusal, whatever stands beside it
-refuse : (b : List ℕ) (o e : List ℤ) (r : Refusal) (q : Intake) → q .status ≡ Refused r → refusal r ≡ admit b → length e ≡ length o → Admits b o e q
-refuse b o e r q s h l = record {
+refuse : (b : List ℕ) (r : Refusal) (q : Intake) → q .status ≡ Refused r → refusal r ≡ received b → Receives b q
+refuse b r q s h = record {
   same = ap (λ (x : Status). decoded x (ticketOf (q .ticket))) s ∙ h;
-  taken = λ f. not-fine r (sym s ∙ f);
-  room = l;
+  laid = λ f. not-fine r (sym s ∙ f);
 }
 
 module _ (b : List ℕ) (d : Decoded) (h : Decodes b d) where
-  -- ---- refusals 1 to 6
-
-  pub decode-refused : (o : List ℤ) (r : Refusal) (q : Intake) → d .status ≡ Refused r → q .status ≡ Refused r → Admits b o o q
-  unfolding admit _>>=_
-  decode-refused o r q s z = refuse b o o r q z
-      (ap (_>>= (λ T. admitted (T .nest) >> accepted T)) (sym (ap (λ (x : Status). decoded x (ticketOf (d .ticket))) s) ∙ h .same)) refl
-
-  -- ---- a ticket
+  pub decode-refused : (r : Refusal) (q : Intake) → d .status ≡ Refused r → q .status ≡ Refused r → Receives b q
+  unfolding received _>>=_
+  decode-refused r q s z = refuse b r q z
+      (ap (_>>= (λ T. space (T .nest .loops) >> accepted T)) (sym (ap (λ (x : Status). decoded x (ticketOf (d .ticket))) s) ∙ h .same))
 
   module _ (s : d .status ≡ Fine) where
     is-ticket : decode b ≡ accepted (ticketOf (d .ticket))
@@ -76,11 +70,11 @@ module _ (b : List ℕ) (d : Decoded) (h : Decodes b d) where
       formed = formed;
     }
 
-    admits : admit b ≡ (admitted (nestOf (d .ticket)) >> accepted (ticketOf (d .ticket)))
-    unfolding admit _>>=_ ticketOf
-    admits = ap (_>>= (λ T. admitted (T .nest) >> accepted T)) is-ticket
+    receives : received b ≡ (space (nestOf (d .ticket) .loops) >> accepted (ticketOf (d .ticket)))
+    unfolding received _>>=_ ticketOf
+    receives = ap (_>>= (λ T. space (T .nest .loops) >> accepted T)) is-ticket
 
-    module _ (P : Sheet) (l : Laid (d .ticket .nest) (d .ticket .arrays) (d .ticket .body) P) where
+    module _ (P : Sheet) (l : Layout.Laid (d .ticket .nest) (d .ticket .arrays) (d .ticket .body) P) where
       same-nest : Sheet.nestOf P ≡ nestOf (d .ticket)
       unfolding nestOf modelOf
       same-nest = l .same
@@ -89,23 +83,19 @@ module _ (b : List ℕ) (d : Decoded) (h : Decodes b d) where
       unfolding ticketOf
       shallow = let f = ranges .nest .few-loops .high in let k = ap (λ (N : Model.Nest). length (N .loops)) same-nest in let z = depth-is P in omega arith
 
-      pub enumerate-in : (room : ℕ) → 16384 ≤ room → EnumerateIn P room
-      enumerate-in room g = let z = shallow in record { sheet = l .ok; fits = omega arith }
+      module _ (a : Counted) (g : Counts P a) where
+        same-answer : answerOf a ≡ space (nestOf (d .ticket) .loops)
+        same-answer = g .same ∙ ap (λ (N : Model.Nest). space (N .loops)) same-nest
 
-      module _ (o e : List ℤ) (a : Enumerated) (g : Enumerates P o e a) where
-        same-answer : answerOf a ≡ admitted (nestOf (d .ticket))
-        same-answer = g .same ∙ ap admitted same-nest
-
-        pub space-refused : (r : Refusal) (q : Intake) → a ≡ Enumerated.Refused r → q .status ≡ Refused r → Admits b o e q
+        pub space-refused : (r : Refusal) (q : Intake) → a ≡ Counted.Refused r → q .status ≡ Refused r → Receives b q
         unfolding _>>_ _>>=_
-        space-refused r q s z = refuse b o e r q z (ap (_>> accepted (ticketOf (d .ticket))) (sym (ap answerOf s) ∙ same-answer) ∙ sym admits) (g .room)
+        space-refused r q s z = refuse b r q z (ap (_>> accepted (ticketOf (d .ticket))) (sym (ap answerOf s) ∙ same-answer) ∙ sym receives)
 
-        pub admitted-out : (n : ℕ) → a ≡ Enumerated.Points n → Admits b o e (record { status = Fine; ticket = d .ticket; sheet = P; count = n })
+        pub received-out : (n : ℕ) → a ≡ Counted.Points n → Receives b (record { status = Fine; ticket = d .ticket; sheet = P; count = n })
         unfolding _>>_ _>>=_
-        admitted-out n s =
-            let z : admitted (nestOf (d .ticket)) ≡ accepted tt = sym same-answer ∙ ap answerOf s in
+        received-out n s =
+            let z : space (nestOf (d .ticket) .loops) ≡ accepted tt = sym same-answer ∙ ap answerOf s in
             record {
-              same = sym (ap (_>> accepted (ticketOf (d .ticket))) z) ∙ sym admits;
-              taken = λ _. record { within = h .within; ranges = ranges; formed = formed; admitted-is = z; same = same-nest; sheet = l .ok; points-are = g .points n s };
-              room = g .room;
+              same = sym (ap (_>> accepted (ticketOf (d .ticket))) z) ∙ sym receives;
+              laid = λ _. record { within = h .within; ranges = ranges; formed = formed; spacious = z; same = same-nest; sheet = l .ok; shallow = shallow; count = g .count n s };
             }

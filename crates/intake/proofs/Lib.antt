@@ -1,3 +1,4 @@
 -- Laws that the crate's contracts need.
 pub mod IntakeLaws
+pub mod AdmitLaws
 pub mod AnswerLaws

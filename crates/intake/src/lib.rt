@@ -1,11 +1,10 @@
-// From any bytes to a ticket that is admitted, laid out on a sheet, with its points stored; or the first refusal of 1 to 9. Then what the entries
-// answer that give a count.
+// From any bytes to a ticket laid out on a sheet, with its points counted; or the first refusal of 1 to 8. Then its points, and refusal 9. Then what
+// the entries answer that give a count.
 ghost use mathlib.Core.Path.{_≡_};
-ghost use Prim.Native.Nat.{_≤_};
 ghost use lib.ListN.{length};
 ghost use Rattle.reading.specs.declared.Status.the-variants.{Refused};
-ghost use Rattle.intake.specs.Intake.{Admits};
-use admission::Enumerated;
+ghost use Rattle.intake.specs.Intake.{Receives, Waits, withStatus, Admits};
+use admission::Counted;
 use reading::Refusal;
 use reading::Status;
 use sheet::Sheet;
@@ -48,10 +47,8 @@ fn refused(r: Refusal, ticket: Ticket) -> Intake
     }
 }
 
-// A ticket has at most four loops, so that 16384 indices are room for 4096 points.
-pub fn admit(bytes: &[u8], points: &mut [i64]) -> Intake
-    requires { ⌜ 16384 ≤ length (now points) ⌝ }
-    ensures { λ r. ⌜ Admits (now (bytes .entry)) (now (points .entry)) (now (points .exit)) r ⌝ }
+pub fn receive(bytes: &[u8]) -> Intake
+    ensures { λ r. ⌜ Receives (now (bytes .entry)) r ⌝ }
 {
     let d = ticket::decode(bytes);
     let t = d.ticket;
@@ -64,15 +61,23 @@ pub fn admit(bytes: &[u8], points: &mut [i64]) -> Intake
     let arrays = t.arrays;
     let body = t.body;
     let sheet = layout::lay(nest, arrays, body);
-    match admission::enumerate(sheet, points) {
-        Enumerated::Points(n) => Intake {
+    match admission::count_points(sheet) {
+        Counted::Points(n) => Intake {
             status: Status::Fine,
             ticket: t,
             sheet: sheet,
             count: n,
         },
-        Enumerated::Refused(r) => refused(r, t),
+        Counted::Refused(r) => refused(r, t),
     }
+}
+
+// The points of a ticket that was received: at most four indices each. The bytes are lent for the contract alone.
+pub fn admit(bytes: &[u8], all: Intake, points: &mut [i64]) -> Status
+    requires { ⌜ Waits (now bytes) all (length (now points)) ⌝ }
+    ensures { λ r. ⌜ Admits (now (bytes .entry)) (now (points .entry)) (now (points .exit)) (withStatus r all) ⌝ }
+{
+    admission::enumerate(all.sheet, points)
 }
 
 // The answer of judge, write, list and run: a count of iterations or of bytes.

@@ -4,8 +4,8 @@ use mathlib.Core.Path.{_≡_, refl, sym, _∙_, ap}
 use mathlib.Core.List.{List, [], _∷_, _++_, map, zipWith, List·Memᴰ, List·Memᴰ·head, List·Memᴰ·tail}
 use Prim.Native.Nat.{ℕ, zero, suc, _+_, _*_, _≤_, _<_}
 use native.Mathlib.Omega.{arith}
-use lib.ListN.{length, getD, take, replicate}
-use lib.Seq.{take-length}
+use lib.ListN.{length, getD, take, drop, replicate, take-append-drop}
+use lib.Seq.{take-length, length-take-le}
 use lib.IntN.{ℤ, pos, negℤ, _+ℤ_, _*ℤ_}
 use Rattle.lists.specs.Place.{under, onHead}
 use Rattle.integers.specs.Difference.{size}
@@ -52,6 +52,9 @@ dot-short [] ds (x ∷ xs) h = absurd (omega arith)
 dot-short (c ∷ cs) ds [] h = refl
 dot-short (c ∷ cs) ds (x ∷ xs) h = ap (λ t. c *ℤ x +ℤ t) (dot-short cs ds xs (omega arith))
 
+pub dot-front : (n : ℕ) (cs xs : List ℤ) → length xs ≤ n → n ≤ length cs → dot (take n cs) xs ≡ dot cs xs
+dot-front n cs xs h g = let l = length-take-le n cs g in sym (dot-short (take n cs) (drop n cs) xs (omega arith)) ∙ ap (λ t. dot t xs) (take-append-drop n cs)
+
 -- ---- changed coefficients
 
 pub dot-neg : (cs xs : List ℤ) → dot (map negℤ cs) xs ≡ negℤ (dot cs xs)
@@ -76,6 +79,22 @@ dot-mixed u v (c ∷ cs) (d ∷ ds) [] e = lin (u ∷ v ∷ []) (λ u v. # 0 ≐
 dot-mixed u v (c ∷ cs) (d ∷ ds) (x ∷ xs) e =
     ap (λ t. (u *ℤ c +ℤ v *ℤ d) *ℤ x +ℤ t) (dot-mixed u v cs ds xs (omega arith))
     ∙ lin (u ∷ v ∷ c ∷ d ∷ x ∷ dot cs xs ∷ dot ds xs ∷ []) (λ u v c d x s t. (u ⊗ c ⊕ v ⊗ d) ⊗ x ⊕ (u ⊗ s ⊕ v ⊗ t) ≐ u ⊗ (c ⊗ x ⊕ s) ⊕ v ⊗ (d ⊗ x ⊕ t)) tt
+
+-- the one u times, and the other
+pub dot-scaled : (u : ℤ) (cs ds xs : List ℤ) → length cs ≡ length ds → dot (zipWith (λ c d. c *ℤ u +ℤ d) cs ds) xs ≡ dot cs xs *ℤ u +ℤ dot ds xs
+unfolding dot zipWith
+dot-scaled u [] [] xs e = lin (u ∷ []) (λ u. # 0 ≐ # 0 ⊗ u ⊕ # 0) tt
+dot-scaled u [] (d ∷ ds) xs e = absurd (omega arith)
+dot-scaled u (c ∷ cs) [] xs e = absurd (omega arith)
+dot-scaled u (c ∷ cs) (d ∷ ds) [] e = lin (u ∷ []) (λ u. # 0 ≐ # 0 ⊗ u ⊕ # 0) tt
+dot-scaled u (c ∷ cs) (d ∷ ds) (x ∷ xs) e =
+    ap (λ t. (c *ℤ u +ℤ d) *ℤ x +ℤ t) (dot-scaled u cs ds xs (omega arith))
+    ∙ lin (u ∷ c ∷ d ∷ x ∷ dot cs xs ∷ dot ds xs ∷ []) (λ u c d x s t. (c ⊗ u ⊕ d) ⊗ x ⊕ (s ⊗ u ⊕ t) ≐ (c ⊗ x ⊕ s) ⊗ u ⊕ (d ⊗ x ⊕ t)) tt
+
+pub affine-scaled : (u e f : ℤ) (cs ds xs : List ℤ) → length cs ≡ length ds → affine (e *ℤ u +ℤ f) (zipWith (λ c d. c *ℤ u +ℤ d) cs ds) xs ≡ affine e cs xs *ℤ u +ℤ affine f ds xs
+unfolding affine
+affine-scaled u e f cs ds xs h = ap (λ t. e *ℤ u +ℤ f +ℤ t) (dot-scaled u cs ds xs h)
+    ∙ lin (u ∷ e ∷ f ∷ dot cs xs ∷ dot ds xs ∷ []) (λ u e f s t. e ⊗ u ⊕ f ⊕ (s ⊗ u ⊕ t) ≐ (e ⊕ s) ⊗ u ⊕ (f ⊕ t)) tt
 
 -- one coefficient more by t
 pub dot-coefficient : (outer : List ℤ) (x t : ℤ) (z ds : List ℤ) → length outer < length ds → dot (under (length outer) (onHead (λ b. b +ℤ t)) ds) (outer ++ x ∷ z) ≡ dot ds (outer ++ x ∷ z) +ℤ t *ℤ x

@@ -78,6 +78,13 @@ ceil-unique e p q h lo hi = omega (
       (lin (e ∷ p ∷ q ∷ []) (λ e p q. p ⊗ q ⊏ e ⊕ p ⟶ ⊝ e ⊏ p ⊗ ⊝ q ⊕ p) tt hi),
 )
 
+-- by 1
+pub floor-one : (e : ℤ) → e ≡ floorDiv e (pos 1)
+floor-one e = floor-unique e (pos 1) e (omega zarith) (lin (e ∷ []) (λ e. # 1 ⊗ e ⊑ e) tt) (lin (e ∷ []) (λ e. e ⊏ # 1 ⊗ e ⊕ # 1) tt)
+
+pub ceil-one : (e : ℤ) → e ≡ ceilDiv e (pos 1)
+ceil-one e = ceil-unique e (pos 1) e (omega zarith) (lin (e ∷ []) (λ e. e ⊑ # 1 ⊗ e) tt) (lin (e ∷ []) (λ e. # 1 ⊗ e ⊏ e ⊕ # 1) tt)
+
 -- ---- quotient and rest, parted and joined again: x = w × quotient + rest, the rest from 0 to w − 1
 
 module _ (w : ℤ) where

@@ -9,5 +9,6 @@ pub mod DivisionLaws
 pub mod GcdLaws
 pub mod RangeLaws
 pub mod AffineLaws
+pub mod SumLaws
 pub mod SignLaws
 pub mod Examples

@@ -2,7 +2,7 @@
 use mathlib.Core.List.{List, [], _∷_}
 use mathlib.Core.Path.{_≡_}
 use Prim.Native.Nat.{ℕ, _≤_}
-use lib.ListN.{length}
+use lib.ListN.{length, take}
 use lib.IntN.{ℤ, pos, _+ℤ_, _*ℤ_}
 use Rattle.integers.specs.Difference.{size}
 
@@ -28,3 +28,8 @@ pub record AffineIn (e : ℤ) (cs xs : List ℤ) : Type 0 where
   pub constant : size e ≤ 1099511627776
   pub coefficients : Within 2147483648 cs
   pub indices : Within 1048576 xs
+
+-- s is the sum of the constant and the first i products
+pub record SumTo (e : ℤ) (cs xs : List ℤ) (i : ℕ) (s : ℤ) : Type 0 where
+  pub lent : AffineIn e cs xs
+  pub total : s ≡ affine e (take i cs) (take i xs)

@@ -1,12 +1,13 @@
 // Exact integers: the arithmetic of limits and subscripts. The solver for proofs over them is in proofs/.
 ghost use mathlib.Core.Path.{_≡_};
-ghost use Prim.Native.Nat.{_+_, _≤_};
+ghost use Prim.Native.Nat.{_+_, _≤_, _<_};
 ghost use lib.IntN.{pos, _+ℤ_, _*ℤ_};
 ghost use lib.Signed.{_<ℤ_};
+ghost use lib.ListN.{length};
 ghost use Rattle.integers.specs.Difference.{size};
 ghost use Rattle.integers.specs.Division.{floorDiv, ceilDiv};
 ghost use Rattle.integers.specs.Gcd.{gcd};
-ghost use Rattle.integers.specs.Affine.{affine, AffineIn};
+ghost use Rattle.integers.specs.Affine.{affine, AffineIn, SumTo};
 ghost use Rattle.integers.specs.Sign.{sign, signValue};
 
 // a divided by b, rounded down: −3/4 is −1.
@@ -14,6 +15,10 @@ pub fn floor_div(a: i64, b: i64) -> i64
     requires { ⌜ pos 0 <ℤ b ⌝ }
     ensures { λ r. ⌜ r ≡ floorDiv a b ⌝ }
 {
+    // most multipliers are 1, and a division takes long
+    if b == 1 {
+        return a;
+    }
     let q = a / b;
     let r = a % b;
     if r < 0 { q - 1 } else { q }
@@ -24,6 +29,9 @@ pub fn ceil_div(a: i64, b: i64) -> i64
     requires { ⌜ pos 0 <ℤ b ⌝ }
     ensures { λ r. ⌜ r ≡ ceilDiv a b ⌝ }
 {
+    if b == 1 {
+        return a;
+    }
     let q = a / b;
     let r = a % b;
     if r > 0 { q + 1 } else { q }
@@ -58,18 +66,73 @@ fn plus(sum: Whole, c: i64, x: i64) -> Whole
     }
 }
 
-// The constant and the coefficients times the indices.
+// The sum of the first i products, and one product more.
+fn next(start: Whole, coefficients: &[i64], indices: &[i64], i: usize, sum: Whole) -> Whole
+    requires { ⌜ SumTo (start .value) (now coefficients) (now indices) i (sum .value) × (i < length (now coefficients)) ⌝ }
+    ensures { λ r. ⌜ SumTo (start .value) (now (coefficients .entry)) (now (indices .entry)) (i + 1) (r .value) ⌝ }
+{
+    plus(sum, coefficients[i], indices[i])
+}
+
+// The constant and the first product; below it the first two, three and four, then all.
+fn one(start: Whole, coefficients: &[i64], indices: &[i64]) -> Whole
+    requires { ⌜ AffineIn (start .value) (now coefficients) (now indices) × (1 ≤ length (now coefficients)) ⌝ }
+    ensures { λ r. ⌜ SumTo (start .value) (now (coefficients .entry)) (now (indices .entry)) 1 (r .value) ⌝ }
+{
+    next(start, coefficients, indices, 0, start)
+}
+
+fn two(start: Whole, coefficients: &[i64], indices: &[i64]) -> Whole
+    requires { ⌜ AffineIn (start .value) (now coefficients) (now indices) × (2 ≤ length (now coefficients)) ⌝ }
+    ensures { λ r. ⌜ SumTo (start .value) (now (coefficients .entry)) (now (indices .entry)) 2 (r .value) ⌝ }
+{
+    let sum = one(start, coefficients, indices);
+    next(start, coefficients, indices, 1, sum)
+}
+
+fn three(start: Whole, coefficients: &[i64], indices: &[i64]) -> Whole
+    requires { ⌜ AffineIn (start .value) (now coefficients) (now indices) × (3 ≤ length (now coefficients)) ⌝ }
+    ensures { λ r. ⌜ SumTo (start .value) (now (coefficients .entry)) (now (indices .entry)) 3 (r .value) ⌝ }
+{
+    let sum = two(start, coefficients, indices);
+    next(start, coefficients, indices, 2, sum)
+}
+
+fn four(start: Whole, coefficients: &[i64], indices: &[i64]) -> Whole
+    requires { ⌜ AffineIn (start .value) (now coefficients) (now indices) × (4 ≤ length (now coefficients)) ⌝ }
+    ensures { λ r. ⌜ SumTo (start .value) (now (coefficients .entry)) (now (indices .entry)) 4 (r .value) ⌝ }
+{
+    let sum = three(start, coefficients, indices);
+    next(start, coefficients, indices, 3, sum)
+}
+
+fn all(start: Whole, coefficients: &[i64], indices: &[i64]) -> Whole
+    requires { ⌜ AffineIn (start .value) (now coefficients) (now indices) ⌝ }
+    ensures { λ r. ⌜ SumTo (start .value) (now (coefficients .entry)) (now (indices .entry)) (length (now (coefficients .entry))) (r .value) ⌝ }
+{
+    let mut sum = start;
+    let mut i = 0;
+    while i < coefficients.len() {
+        sum = next(start, coefficients, indices, i, sum);
+        i += 1;
+    }
+    sum
+}
+
+// The constant and the coefficients times the indices. Up to four of them are summed with no loop, so that the compiler can lift the choice
+// out of a caller's loop over points.
 pub fn affine(constant: i64, coefficients: &[i64], indices: &[i64]) -> i64
     requires { ⌜ AffineIn constant (now coefficients) (now indices) ⌝ }
     ensures { λ r. ⌜ r ≡ Rattle.integers.specs.Affine.affine constant (now (coefficients .entry)) (now (indices .entry)) ⌝ }
 {
-    let mut sum = Whole { value: constant };
-    let mut i = 0;
-    while i < coefficients.len() {
-        sum = plus(sum, coefficients[i], indices[i]);
-        i += 1;
+    let start = Whole { value: constant };
+    match coefficients.len() {
+        1 => one(start, coefficients, indices).value,
+        2 => two(start, coefficients, indices).value,
+        3 => three(start, coefficients, indices).value,
+        4 => four(start, coefficients, indices).value,
+        _ => all(start, coefficients, indices).value,
     }
-    sum.value
 }
 
 // −1, 0 or 1 as a is below, equal to or above b.

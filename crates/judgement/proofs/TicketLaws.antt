@@ -36,10 +36,10 @@ use Rattle.judgement.proofs.StepLaws.{not-fine}
 module _ (P : Sheet) (v : Verdict) (g : Surveyed P 100000 65536 v) where
   surveyed : Space.answerOf 13 13 v ≡ sprawl (Sheet.nestOf P .loops)
   unfolding sprawl
-  surveyed = g 13 13
+  surveyed = g .same 13 13
 
-  pub new-admitted : v ≡ Admitted → SurveyedNew P Fine
-  new-admitted e = sym (ap (Space.answerOf 13 13) e) ∙ surveyed
+  pub new-admitted : (n : ℕ) → v ≡ Admitted n → SurveyedNew P Fine
+  new-admitted n e = sym (ap (Space.answerOf 13 13) e) ∙ surveyed
 
   pub new-far : (k : ℕ) → v ≡ FarIndex k → SurveyedNew P (Refused (NewNestTooLarge k))
   new-far k e = sym (ap (Space.answerOf 13 13) e) ∙ surveyed

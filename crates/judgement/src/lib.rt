@@ -137,7 +137,7 @@ fn survey_new(sheet: Sheet) -> Status
     ensures { λ r. ⌜ SurveyedNew sheet r ⌝ }
 {
     match sheet::survey(sheet, 100000, 65536) {
-        Verdict::Admitted => Status::Fine,
+        Verdict::Admitted(_) => Status::Fine,
         Verdict::FarIndex(k) => Status::Refused(Refusal::NewNestTooLarge(k)),
         Verdict::Crowded(k) => Status::Refused(Refusal::NewNestTooLarge(k)),
     }

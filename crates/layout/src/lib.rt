@@ -26,8 +26,8 @@ fn lay_subscript(words: &mut [i64], j: usize, subscript: Subscript, depth: usize
     let at = j * 8;
     let constant = subscript.constant;
     let coefficients = subscript.coefficients;
-    words[at] = constant;
-    space::store(words, at + 1, &coefficients[..depth]);
+    words[at] = constant as i64;
+    loop_layout::widen(words, at + 1, &coefficients[..depth]);
 }
 
 // Access k, and the number of its array.

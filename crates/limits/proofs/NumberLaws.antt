@@ -1,35 +1,46 @@
--- Sums and products of numbers within ±32767 fit 64 bits, and the machine reads back what it wrote.
-use mathlib.Core.Path.{_≡_}
+-- Sums and products of numbers within ±32767 fit 32 bits, and the machine reads back what it wrote.
+use mathlib.Core.Path.{_≡_, refl, _∙_}
 use mathlib.Core.Bool.{Bool, true, false, not}
 use mathlib.Core.List.{[], _∷_}
 use Prim.Native.Nat.{ℕ, _<_, _≤_, _*_, _^_}
 use native.Mathlib.Omega.{arith}
 use native.Mathlib.Nat.{mul-le-mul}
-use lib.IntN.{ℤ, pos, negℤ, _+ℤ_, _-ℤ_, _*ℤ_}
-use mir.Syntax.{w64}
+use lib.Dec.{T}
+use lib.IntN.{ℤ, pos, negsuc, negℤ, natAbs, _+ℤ_, _-ℤ_, _*ℤ_}
+use lib.Signed.{_≤ℤ_, nonNeg}
+use mir.Syntax.{w32}
 use mir.Val.{SFits, Fits, toZ, ofZ}
+use mir.Facts.{toZ-ofZ, toZ-pos}
 use Rattle.integers.specs.Difference.{size}
 use Rattle.integers.proofs.Linear.{lin, _≐_}
 use Rattle.integers.proofs.Polynomial.{_⊕_, _⊖_, ⊝, #}
-use Rattle.integers.proofs.RangeLaws.{size-add, size-sub, size-mul, size-fits, back, from-nat}
+use Rattle.integers.proofs.RangeLaws.{size-add, size-sub, size-mul, sfits}
 use Rattle.model.specs.Steps.{signed}
 
 -- ---- one number
 
-pub small-fits : (z : ℤ) → size z ≤ 32767 → SFits w64 z
+pub size-fits : {z : ℤ} {n : ℕ} → size z ≤ n → n < 2 ^ 31 → SFits w32 z
+size-fits {z} {n} h g = sfits (omega arith)
+
+pub small-fits : (z : ℤ) → size z ≤ 32767 → SFits w32 z
 small-fits z h = size-fits h (omega arith)
 
-pub small-back : (z : ℤ) → size z ≤ 32767 → toZ w64 (ofZ w64 z) ≡ z
-small-back z h = back (small-fits z h)
+pub small-back : (z : ℤ) → size z ≤ 32767 → toZ w32 (ofZ w32 z) ≡ z
+small-back z h = toZ-ofZ (small-fits z h)
 
-pub fits-below : {n : ℕ} → n < 2 ^ 64 → Fits w64 n
+pub fits-below : {n : ℕ} → n < 2 ^ 32 → Fits w32 n
 fits-below h = record { fits = h }
 
--- a multiplier that is read as signed
-pub read-multiplier : (n : ℕ) → n ≤ 32767 → toZ w64 n ≡ pos n
-read-multiplier n h = from-nat (omega arith)
+-- a number that becomes a multiplier
+pub cast-fits : (z : ℤ) → pos 0 ≤ℤ z → size z ≤ 32767 → T (nonNeg z) × Fits w32 (natAbs z)
+cast-fits (pos n) h g = (tt, record { fits = omega arith })
+cast-fits (negsuc n) h g = absurd (h .le)
 
-pub small-multiplier : (n : ℕ) → n ≤ 32767 → size (toZ w64 n) ≤ 32767
+-- a multiplier that is read as signed
+pub read-multiplier : (n : ℕ) → n ≤ 32767 → toZ w32 n ≡ pos n
+read-multiplier n h = toZ-pos w32 (omega arith)
+
+pub small-multiplier : (n : ℕ) → n ≤ 32767 → size (toZ w32 n) ≤ 32767
 small-multiplier n h = rw (read-multiplier n h) (omega arith)
 
 -- ---- a multiplier times a width
@@ -37,18 +48,37 @@ small-multiplier n h = rw (read-multiplier n h) (omega arith)
 pub widened : (p w : ℕ) → p ≤ 32767 → w ≤ 256 → p * w ≤ 8388352
 widened p w h g = mul-le-mul h g
 
-pub read-widened : (n : ℕ) → n ≤ 8388352 → toZ w64 n ≡ pos n
-read-widened n h = from-nat (omega arith)
+pub read-widened : (n : ℕ) → n ≤ 8388352 → toZ w32 n ≡ pos n
+read-widened n h = toZ-pos w32 (omega arith)
 
-pub less-fits : (k : ℤ) (n : ℕ) → size k ≤ 32767 → n ≤ 8388352 → SFits w64 (k -ℤ pos n)
+-- k is the width, or one less
+module _ (p k : ℕ) (h : p ≤ 32767) (g : k ≤ 256) where
+  pub product-fits : Fits w32 (p * k)
+  product-fits = fits-below (omega (arith, widened p k h g))
+
+  pub product-signed : SFits w32 (pos (p * k))
+  product-signed = sfits (omega (arith, widened p k h g))
+
+pub less-fits : (k : ℤ) (n : ℕ) → size k ≤ 32767 → n ≤ 8388352 → SFits w32 (k -ℤ pos n)
 less-fits k n h g = size-fits {n = 8421119} (omega (arith, size-sub k (pos n))) (omega arith)
+
+-- p k taken from a constant
+module _ (c : ℤ) (p k : ℕ) (s : size c ≤ 32767) (h : p ≤ 32767) (g : k ≤ 256) where
+  less : toZ w32 (ofZ w32 c) -ℤ toZ w32 (p * k) ≡ c -ℤ pos (p * k)
+  less = rw (small-back c s, read-widened (p * k) (widened p k h g)) refl
+
+  pub taken-fits : SFits w32 (toZ w32 (ofZ w32 c) -ℤ toZ w32 (p * k))
+  taken-fits = rw less (less-fits c (p * k) s (widened p k h g))
+
+  pub taken-is : toZ w32 (ofZ w32 (toZ w32 (ofZ w32 c) -ℤ toZ w32 (p * k))) ≡ c -ℤ pos (p * k)
+  taken-is = toZ-ofZ taken-fits ∙ less
 
 -- ---- sums and products
 
-pub sums-fit : (x y : ℤ) → size x ≤ 32767 → size y ≤ 32767 → SFits w64 (x +ℤ y) × SFits w64 (x -ℤ y)
+pub sums-fit : (x y : ℤ) → size x ≤ 32767 → size y ≤ 32767 → SFits w32 (x +ℤ y) × SFits w32 (x -ℤ y)
 sums-fit x y h g = (size-fits {n = 65534} (omega (arith, size-add x y)) (omega arith), size-fits {n = 65534} (omega (arith, size-sub x y)) (omega arith))
 
-pub times-fits : (x : ℤ) (w : ℕ) → size x ≤ 32767 → w ≤ 32767 → SFits w64 (x *ℤ pos w)
+pub times-fits : (x : ℤ) (w : ℕ) → size x ≤ 32767 → w ≤ 32767 → SFits w32 (x *ℤ pos w)
 times-fits x w h g = let k : size (pos w) ≤ 32767 = omega arith in size-fits {n = 1073676289} (size-mul x (pos w) h k) (omega arith)
 
 pub zero-less : (z : ℤ) → pos 0 -ℤ z ≡ negℤ z

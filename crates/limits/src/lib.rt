@@ -20,14 +20,14 @@ use nest::Side;
 // ---- numbers
 
 // u x + v y
-pub fn blend(u: i64, x: i64, v: i64, y: i64) -> i64
+pub fn blend(u: i32, x: i32, v: i32, y: i32) -> i32
     requires { ⌜ (size u ≤ 32767) × (size x ≤ 32767) × (size v ≤ 32767) × (size y ≤ 32767) ⌝ }
     ensures { λ r. ⌜ r ≡ u *ℤ x +ℤ v *ℤ y ⌝ }
 {
     u * x + v * y
 }
 
-pub fn minus(x: i64) -> i64
+pub fn minus(x: i32) -> i32
     requires { ⌜ size x ≤ 32767 ⌝ }
     ensures { λ r. ⌜ r ≡ negℤ x ⌝ }
 {
@@ -35,28 +35,28 @@ pub fn minus(x: i64) -> i64
 }
 
 // x + y, or x − y
-fn plus(x: i64, y: i64, positive: bool) -> i64
+fn plus(x: i32, y: i32, positive: bool) -> i32
     requires { ⌜ (size x ≤ 32767) × (size y ≤ 32767) ⌝ }
     ensures { λ r. ⌜ r ≡ x +ℤ signed positive y ⌝ }
 {
     if positive { x + y } else { x - y }
 }
 
-fn times(x: i64, w: u64) -> i64
+fn times(x: i32, w: u32) -> i32
     requires { ⌜ (size x ≤ 32767) × (w ≤ 32767) ⌝ }
     ensures { λ r. ⌜ r ≡ x *ℤ pos w ⌝ }
 {
-    x * (w as i64)
+    x * (w as i32)
 }
 
 // ---- rows
 
 // u xs + v ys
-pub fn mix(n: usize, u: i64, xs: [i64; 6], v: i64, ys: [i64; 6]) -> [i64; 6]
+pub fn mix(n: usize, u: i32, xs: [i32; 6], v: i32, ys: [i32; 6]) -> [i32; 6]
     requires { ⌜ (n ≤ 6) × (size u ≤ 32767) × (size v ≤ 32767) × Within 32767 (take n xs) × Within 32767 (take n ys) ⌝ }
     ensures { λ r. ⌜ RowIs n r (mixed u v (take n xs) (take n ys)) ⌝ }
 {
-    let mut r = [0i64; 6];
+    let mut r = [0i32; 6];
     let mut k = 0;
     while k < n {
         let x = xs[k];
@@ -69,7 +69,7 @@ pub fn mix(n: usize, u: i64, xs: [i64; 6], v: i64, ys: [i64; 6]) -> [i64; 6]
 }
 
 // The coefficient at place a changes sign.
-pub fn turned(cs: [i64; 6], n: usize, a: usize) -> [i64; 6]
+pub fn turned(cs: [i32; 6], n: usize, a: usize) -> [i32; 6]
     requires { ⌜ (a < n) × (n ≤ 6) × Within 32767 (take n cs) ⌝ }
     ensures { λ r. ⌜ RowIs n r (under a (onHead negℤ) (take n cs)) ⌝ }
 {
@@ -80,7 +80,7 @@ pub fn turned(cs: [i64; 6], n: usize, a: usize) -> [i64; 6]
 }
 
 // The coefficients at a and a + 1 trade places.
-pub fn swapped(cs: [i64; 6], n: usize, a: usize) -> [i64; 6]
+pub fn swapped(cs: [i32; 6], n: usize, a: usize) -> [i32; 6]
     requires { ⌜ (a + 1 < n) × (n ≤ 6) ⌝ }
     ensures { λ r. ⌜ RowIs n r (under a swapped (take n cs)) ⌝ }
 {
@@ -94,7 +94,7 @@ pub fn swapped(cs: [i64; 6], n: usize, a: usize) -> [i64; 6]
 }
 
 // The loop d + 1 places inside loop a is skewed: what its coefficient takes from that of a.
-pub fn skewed(cs: [i64; 6], n: usize, a: usize, d: usize, positive: bool) -> [i64; 6]
+pub fn skewed(cs: [i32; 6], n: usize, a: usize, d: usize, positive: bool) -> [i32; 6]
     requires { ⌜ (a + 1 + d < n) × (n ≤ 6) × Within 32767 (take n cs) ⌝ }
     ensures { λ r. ⌜ RowIs n r (under a (skewCoefficients d positive) (take n cs)) ⌝ }
 {
@@ -108,7 +108,7 @@ pub fn skewed(cs: [i64; 6], n: usize, a: usize, d: usize, positive: bool) -> [i6
 }
 
 // Coefficient a becomes w times itself, and itself.
-pub fn split(cs: [i64; 6], n: usize, a: usize, w: u64) -> [i64; 6]
+pub fn split(cs: [i32; 6], n: usize, a: usize, w: u32) -> [i32; 6]
     requires { ⌜ (a < n) × (n < 6) × (w ≤ 32767) × Within 32767 (take n cs) ⌝ }
     ensures { λ r. ⌜ RowIs (n + 1) r (under a (splitCoefficients w) (take n cs)) ⌝ }
 {
@@ -148,7 +148,7 @@ fn leaning(l: Limit, n: usize, a: usize, positive: bool) -> Limit
     requires { ⌜ (a < n) × (n ≤ 6) × SmallLimit (limitOf n l) ⌝ }
     ensures { λ r. ⌜ LimitIs n r (skewLimit a positive (limitOf n l)) ⌝ }
 {
-    let p = l.multiplier as i64;
+    let p = l.multiplier as i32;
     let mut cs = l.coefficients;
     let x = cs[a];
     let y = plus(x, p, positive);
@@ -161,20 +161,20 @@ fn leaning(l: Limit, n: usize, a: usize, positive: bool) -> Limit
 }
 
 // p w S ≥ e − p (w − 1)
-fn section_lower(l: Limit, n: usize, w: u64) -> Limit
+fn section_lower(l: Limit, n: usize, w: u32) -> Limit
     requires { ⌜ (1 ≤ w) × (w ≤ 256) × SmallLimit (limitOf n l) ⌝ }
     ensures { λ r. ⌜ LimitIs n r (sectionLower w (limitOf n l)) ⌝ }
 {
     let cs = l.coefficients;
     Limit {
         multiplier: l.multiplier * w,
-        constant: l.constant - ((l.multiplier * (w - 1)) as i64),
+        constant: l.constant - ((l.multiplier * (w - 1)) as i32),
         coefficients: cs,
     }
 }
 
 // p w S ≤ e
-fn section_upper(l: Limit, n: usize, w: u64) -> Limit
+fn section_upper(l: Limit, n: usize, w: u32) -> Limit
     requires { ⌜ (w ≤ 256) × SmallLimit (limitOf n l) ⌝ }
     ensures { λ r. ⌜ LimitIs n r (sectionUpper w (limitOf n l)) ⌝ }
 {
@@ -187,12 +187,12 @@ fn section_upper(l: Limit, n: usize, w: u64) -> Limit
 }
 
 // w S moved across
-fn element(l: Limit, n: usize, w: u64) -> Limit
+fn element(l: Limit, n: usize, w: u32) -> Limit
     requires { ⌜ (n < 6) × (w ≤ 256) × SmallLimit (limitOf n l) ⌝ }
     ensures { λ r. ⌜ LimitIs (n + 1) r (elementLimit w (limitOf n l)) ⌝ }
 {
     let mut cs = l.coefficients;
-    cs[n] = 0 - ((l.multiplier * w) as i64);
+    cs[n] = 0 - ((l.multiplier * w) as i32);
     Limit {
         multiplier: l.multiplier,
         constant: l.constant,
@@ -200,7 +200,7 @@ fn element(l: Limit, n: usize, w: u64) -> Limit
     }
 }
 
-fn with_row(l: Limit, cs: [i64; 6]) -> Limit
+fn with_row(l: Limit, cs: [i32; 6]) -> Limit
     ensures { λ r. ⌜ r ≡ record { multiplier = l .multiplier; constant = l .constant; coefficients = cs } ⌝ }
 {
     Limit {
@@ -221,7 +221,7 @@ pub struct Slant {
 
 pub struct Cut {
     pub place: usize,
-    pub width: u64,
+    pub width: u32,
 }
 
 pub enum Change {
@@ -234,9 +234,9 @@ pub enum Change {
     Lean(Slant),
     Skew(Slant),
     // the two loops of a section, and those inside
-    Low(u64),
-    Up(u64),
-    Element(u64),
+    Low(u32),
+    Up(u32),
+    Element(u32),
     Split(Cut),
 }
 

@@ -4,8 +4,9 @@
 use mathlib.Core.Path.{_≡_, refl, sym, _∙_, ap, ap₂, subst}
 use mathlib.Core.Bool.{Bool, true, false, _||_}
 use mathlib.Core.List.{List, [], _∷_, _++_, map, flatMap, map-append, List·Memᴰ·head, List·Memᴰ·tail}
-use Prim.Native.Nat.{ℕ, zero, suc, _+_, _<_}
+use Prim.Native.Nat.{ℕ, zero, suc, _+_, _*_, _≤_, _<_}
 use native.Mathlib.Omega.{arith}
+use native.Mathlib.Nat.{mul-le-mul}
 use lib.Dec.{T, eqb, eqb→eq, eqb-refl}
 use lib.IntN.{ℤ}
 use lib.ListN.{length, getD, take, replicate, length-map, length-replicate, List·getD-map}
@@ -44,7 +45,7 @@ use Rattle.sheet.proofs.SheetLaws.{access-count, sizes-count}
 use Rattle.sheet.proofs.StageLaws.{depth-is, access-valid}
 use Rattle.lines.specs.declared.Uses.{Uses}
 use Rattle.lines.specs.Uses.{UsesAre}
-use Rattle.lines.specs.Lines.{LinesIn, LinesAre}
+use Rattle.lines.specs.Lines.{Admitted, LinesIn, LinesAre}
 
 -- ---- equal places are equal elements
 
@@ -108,23 +109,23 @@ clear-marks zero j = refl
 clear-marks (suc n) zero = refl
 clear-marks (suc n) (suc j) = clear-marks n j
 
-pub lines-in : (P : Sheet) (points : List ℤ) (n : ℕ) → SheetIn P → PointsAre P points n → WellFormed (nestOf P) → admitted (nestOf P) ≡ accepted tt → LinesIn P points n (replicate 34992 false)
-lines-in P points n h p f a = record {
-  stray = record { sheet = h; points-are = p };
-  formed = f;
-  inside = admitted-accepted (nestOf P) a .1;
-  clear = clear-marks 34992;
-  room = omega (arith, length-replicate {A = Bool} 34992 false);
+pub lines-in : (P : Sheet) (points : List ℤ) (n : ℕ) → Admitted P points n → (k : ℕ) → P .statements ≤ k → (m : ℕ) → k * k * 2187 ≡ m → LinesIn P points n (replicate m false)
+lines-in P points n h k l m e = record {
+  stray = record { sheet = h .sheet; points-are = h .points-are };
+  formed = h .formed;
+  inside = admitted-accepted (nestOf P) (h .admitted-is) .1;
+  clear = clear-marks m;
+  room = let q = length-replicate {A = Bool} m false in let r = mul-le-mul l l in omega arith;
 }
 
 -- ---- what the search is lent
 
-module _ (P : Sheet) (points : List ℤ) (n : ℕ) (marks : List Bool) (h : LinesIn P points n marks) where
+module _ (P : Sheet) (points : List ℤ) (n : ℕ) (marks : List Bool) (h : LinesIn P points n marks) (room : ℕ) (fits : P .accesses * 4096 ≤ room) where
   abbrev sheet-in : SheetIn P
   sheet-in = h .stray .sheet
 
-  pub number-in : NumberIn P points n 81920
-  number-in = let f = sheet-in .few-accesses in record { stray = h .stray; formed = h .formed; inside = h .inside; fits = omega arith }
+  pub number-in : NumberIn P points n room
+  number-in = record { stray = h .stray; formed = h .formed; inside = h .inside; fits = fits }
 
   abbrev flatOf : List ℕ → Uses → Flat
   flatOf e r = flat points (P .depth) n e (take (P .accesses) (r .statements)) (take (P .accesses) (r .writes)) (P .statements)
@@ -150,7 +151,7 @@ module _ (P : Sheet) (points : List ℤ) (n : ℕ) (marks : List Bool) (h : Line
       writes = u .writes;
       elements = λ a b x y la lb lx ly. let c = use-count P sheet-in in let q = h .stray .points-are .count in
           ap₂ eqb (g .are a x (omega arith) (omega arith)) (g .are b y (omega arith) (omega arith))
-          ∙ place-same (nestOf P .arrays) (at a x) (at b y) (access-valid P points n 81920 number-in a x (omega arith) (omega arith)) (access-valid P points n 81920 number-in b y (omega arith) (omega arith))
+          ∙ place-same (nestOf P .arrays) (at a x) (at b y) (access-valid P points n room number-in a x (omega arith) (omega arith)) (access-valid P points n room number-in b y (omega arith) (omega arith))
           ∙ sym (ap₂ same (element-is a x lx) (element-is b y ly));
     }
 
@@ -172,7 +173,7 @@ module _ (P : Sheet) (points : List ℤ) (n : ℕ) (marks : List Bool) (h : Line
       inBody = in-body;
       table = omega arith;
       small = λ a x la lx. g .small a x (omega arith) (omega arith);
-      room = let m = h .room in let b = count-small (P .statements) 729 (sheet-in .few-statements) (omega arith) .0 in omega arith;
+      room = h .room;
     }
 
     occurs-marked : (m : List Bool) → Searched F marks m → (l : Line) → Mem l (allLines (P .statements) (P .depth))
@@ -188,7 +189,7 @@ module _ (P : Sheet) (points : List ℤ) (n : ℕ) (marks : List Bool) (h : Line
       lines =
           select-same (marked m (P .statements)) (occurs (accesses (nestOf P .statements)) (iterations (nestOf P .loops))) (allLines (P .statements) (P .depth)) (occurs-marked m s)
           ∙ ap₂ (λ (i j : ℕ). select (occurs (accesses (nestOf P .statements)) (iterations (nestOf P .loops))) (allLines i j)) (sym (statement-count P sheet-in)) (sym (depth-is P));
-      marks-in = let a = h .room in let b = count-small (P .statements) 729 (sheet-in .few-statements) (omega arith) .0 in record {
+      marks-in = let a = h .room in record {
         statements = sheet-in .few-statements;
         shallow = h .stray .points-are .stored .few;
         room = omega arith;

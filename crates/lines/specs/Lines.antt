@@ -2,30 +2,38 @@
 use mathlib.Core.Path.{_≡_}
 use mathlib.Core.Bool.{Bool, false}
 use mathlib.Core.List.{List, map}
-use Prim.Native.Nat.{ℕ, _≤_}
+use Prim.Native.Nat.{ℕ, _*_, _≤_}
 use lib.IntN.{ℤ}
 use lib.ListN.{length, getD}
 use Rattle.lists.specs.Membership.{SameMembers}
 use Rattle.model.specs.Answer.{accepted}
 use Rattle.model.specs.Points.{iterations}
-use Rattle.model.specs.Bounds.{inArrays}
+use Rattle.model.specs.Bounds.{inArrays, admitted}
 use Rattle.model.specs.Shape.{WellFormed}
 use Rattle.model.specs.Directions.{Line}
+use Rattle.model.specs.Judge.{directionsOf}
 use Rattle.model.specs.Listing.{linesOf}
 use Rattle.listing_text.specs.Text.{shown, Marks}
 use Rattle.directions.specs.declared.DirectionSet.{DirectionSet}
 use Rattle.directions.specs.Sets.{vectorsOf}
 use Rattle.sheet.specs.declared.Sheet.{Sheet}
-use Rattle.sheet.specs.Sheets.{nestOf}
-use Rattle.sheet.specs.Stages.{StrayIn}
+use Rattle.sheet.specs.Sheets.{nestOf, SheetIn}
+use Rattle.sheet.specs.Stages.{PointsAre, StrayIn}
 
--- n points of an admitted nest, and marks that are all clear: 3 × 729 for each of 4 × 4 pairs of statements
+-- an admitted nest on its sheet, and its n points
+pub record Admitted (P : Sheet) (points : List ℤ) (n : ℕ) : Type 0 where
+  pub sheet : SheetIn P
+  pub points-are : PointsAre P points n
+  pub formed : WellFormed (nestOf P)
+  pub admitted-is : admitted (nestOf P) ≡ accepted tt
+
+-- n points of an admitted nest, and marks that are all clear: 3 × 729 for each pair of statements
 pub record LinesIn (P : Sheet) (points : List ℤ) (n : ℕ) (marks : List Bool) : Type 0 where
   pub stray : StrayIn P points n
   pub formed : WellFormed (nestOf P)
   pub inside : inArrays (nestOf P .arrays) (iterations (nestOf P .loops)) 1 (nestOf P .statements) ≡ accepted tt
   pub clear : (j : ℕ) → getD marks j false ≡ false
-  pub room : 34992 ≤ length marks
+  pub room : P .statements * P .statements * 2187 ≤ length marks
 
 -- the lines of the nest's listing are those that are marked
 pub record LinesAre (P : Sheet) (marks : List Bool) : Type 0 where
@@ -36,3 +44,8 @@ pub record LinesAre (P : Sheet) (marks : List Bool) : Type 0 where
 pub record Shows (marks : List Bool) (n d : ℕ) (r : DirectionSet) : Type 0 where
   pub depth : r .depth ≡ d
   pub vectors : SameMembers (vectorsOf r) (map (λ (l : Line). l .vector) (shown marks n d))
+
+-- the vectors of the nest's directions
+pub record DirectionsAre (P : Sheet) (s : DirectionSet) : Type 0 where
+  pub depth : s .depth ≡ P .depth
+  pub vectors : SameMembers (vectorsOf s) (directionsOf (nestOf P))

@@ -1,11 +1,12 @@
 // The lines of a nest's listing, found on its sheet: a mark for each that there could be; and the directions of a nest from them.
 ghost use mathlib.Core.Path.{_≡_};
+ghost use Prim.Native.Nat.{_*_, _≤_};
 ghost use lib.ListN.{length, replicate};
 ghost use Rattle.lists.specs.Parts.{put};
 ghost use Rattle.listing_text.specs.Text.{Marks};
 ghost use Rattle.sheet.specs.Sheets.{SheetIn};
 ghost use Rattle.lines.specs.Uses.{firstWritten, EnterIn, UsesAre};
-ghost use Rattle.lines.specs.Lines.{LinesIn, LinesAre, Shows};
+ghost use Rattle.lines.specs.Lines.{Admitted, LinesIn, LinesAre, Shows, DirectionsAre};
 use directions::DirectionSet;
 use sheet::Sheet;
 
@@ -50,13 +51,12 @@ fn uses_of(sheet: Sheet) -> Uses
     }
 }
 
-// Marks every line of the nest's listing, where the dependence search lays its mark.
-pub fn mark_lines(sheet: Sheet, points: &[i64], count: usize, marks: &mut [bool])
-    requires { ⌜ LinesIn sheet (now points) count (now marks) ⌝ }
+// Marks every line of the nest's listing, where the dependence search lays its mark. Lent is room for 4096 numbers of each access.
+fn mark_by(sheet: Sheet, points: &[i64], count: usize, numbers: &mut [u16], marks: &mut [bool])
+    requires { ⌜ LinesIn sheet (now points) count (now marks) × (sheet .accesses * 4096 ≤ length (now numbers)) ⌝ }
     ensures { λ _. ⌜ LinesAre sheet (now (marks .exit)) × (length (now (marks .exit)) ≡ length (now (marks .entry))) ⌝ }
 {
-    let mut numbers = [0u16; 81920];
-    sheet::number_accesses(sheet, points, count, &mut numbers);
+    sheet::number_accesses(sheet, points, count, numbers);
     let uses = uses_of(sheet);
     let statements = uses.statements;
     let writes = uses.writes;
@@ -65,12 +65,26 @@ pub fn mark_lines(sheet: Sheet, points: &[i64], count: usize, marks: &mut [bool]
         points,
         sheet.depth,
         count,
-        &numbers,
+        numbers,
         &statements[..accesses],
         &writes[..accesses],
         sheet.statements,
         marks,
     );
+}
+
+// Few accesses have fewer numbers to clear.
+pub fn mark_lines(sheet: Sheet, points: &[i64], count: usize, marks: &mut [bool])
+    requires { ⌜ LinesIn sheet (now points) count (now marks) ⌝ }
+    ensures { λ _. ⌜ LinesAre sheet (now (marks .exit)) × (length (now (marks .exit)) ≡ length (now (marks .entry))) ⌝ }
+{
+    if sheet.accesses <= 4 {
+        let mut few = [0u16; 16384];
+        mark_by(sheet, points, count, &mut few, marks);
+        return;
+    }
+    let mut numbers = [0u16; 81920];
+    mark_by(sheet, points, count, &mut numbers, marks);
 }
 
 // The vectors of the lines that are marked: a row of 729 marks for each source, sink and kind.
@@ -86,4 +100,25 @@ pub fn directions_of(marks: &[bool], n: usize, depth: usize) -> DirectionSet
         b += 1;
     }
     set
+}
+
+fn directions_by(sheet: Sheet, points: &[i64], count: usize, marks: &mut [bool]) -> DirectionSet
+    requires { ⌜ LinesIn sheet (now points) count (now marks) ⌝ }
+    ensures { λ r. ⌜ DirectionsAre sheet r ⌝ }
+{
+    mark_lines(sheet, points, count, marks);
+    directions_of(marks, sheet.statements, sheet.depth)
+}
+
+// The directions of an admitted nest. Few statements have fewer marks to clear.
+pub fn directions_in(sheet: Sheet, points: &[i64], count: usize) -> DirectionSet
+    requires { ⌜ Admitted sheet (now points) count ⌝ }
+    ensures { λ r. ⌜ DirectionsAre sheet r ⌝ }
+{
+    if sheet.statements <= 2 {
+        let mut few = [false; 8748];
+        return directions_by(sheet, points, count, &mut few);
+    }
+    let mut marks = [false; 34992];
+    directions_by(sheet, points, count, &mut marks)
 }

@@ -25,16 +25,16 @@ use Rattle.reading.specs.declared.Status.the-variants as Status
 use Rattle.ticket.specs.Ticket.{ticketOf, decoded}
 use Rattle.sheet.specs.declared.Sheet.{Sheet}
 use Rattle.sheet.specs.Sheets.{nestOf}
+use Rattle.sheet.specs.Stages.{PointsAre}
 use Rattle.listing_text.specs.Text.{text, Written}
-use Rattle.lines.specs.Lines.{LinesIn, LinesAre}
-use Rattle.lines.proofs.MarkLaws.{lines-in, listing-is}
+use Rattle.lines.specs.Lines.{Admitted, LinesAre}
+use Rattle.lines.proofs.MarkLaws.{listing-is}
 use Rattle.intake.specs.declared.Intake.{Intake}
 use Rattle.intake.specs.declared.Answer.{Answer}
 use Rattle.intake.specs.declared.Answer.the-variants.{Accepted, Refused}
 use Rattle.intake.specs.Intake.{Admits}
 use Rattle.intake.specs.Answers.{Hands}
 use Rattle.intake.proofs.AnswerLaws.{refused-before, too-short, written, handed-fits}
-use Rattle.list_entry.specs.Admitted.{Admitted}
 
 -- ---- a text that is not empty: no bytes are written where the buffer is short, and only there
 
@@ -70,13 +70,10 @@ never-empty N =
     let h = length-append (a ++ (32 ∷ b)) (flatMap lineText (linesOf N)) in
     let g = length-append a (32 ∷ b) in omega arith
 
-module _ (P : Sheet) (points : List ℤ) (n : ℕ) (h : Admitted P points n) where
-  pub marks-in : LinesIn P points n (replicate 34992 false)
-  marks-in = lines-in P points n (h .sheet) (h .points-are) (h .formed) (h .passes)
-
+module _ (P : Sheet) (points : List ℤ) (n : ℕ) (h : PointsAre P points n) where
   module _ (marks : List Bool) (l : LinesAre P marks) (o e : List ℕ) (k : ℕ) (w : Written (text marks (P .statements) (P .depth) n) o e k) where
     whole : Written (listing (nestOf P)) o e k
-    whole = subst (λ (t : List ℕ). Written t o e k) (listing-is P points n marks (h .points-are) l) w
+    whole = subst (λ (t : List ℕ). Written t o e k) (listing-is P points n marks h l) w
 
     pub short-buffer : k ≡ 0 → Hands (handOut (accepted (listing (nestOf P))) o) (Refused BufferTooShort) e
     short-buffer = no-bytes (listing (nestOf P)) o e k whole (never-empty (nestOf P))
@@ -103,7 +100,7 @@ module _ (b : List ℕ) (o e : List ℤ) (q : Intake) (h : Admits b o e q) where
       sheet = t .sheet;
       points-are = t .points-are;
       formed = subst WellFormed (sym (t .same)) (t .formed);
-      passes = ap admitted (t .same) ∙ t .admitted-is;
+      admitted-is = ap admitted (t .same) ∙ t .admitted-is;
     }
 
     pub handed : (m m′ : List ℕ) (a : Answer) → Hands (handOut (accepted (listing (nestOf (q .sheet)))) m) a m′ → Hands (list b m) a m′

@@ -1,13 +1,15 @@
 -- Laws of what a list holds. In order: a member cuts the list; one element more in the midst; members by number; parts;
--- `All`, and functions equal on all members; `SameMembers`; `Distinct`; two laws of lengths.
+-- `All`, and functions equal on all members; `SameMembers`; `Distinct`; two laws of lengths; two lists taken together by a loop.
 -- Not here: membership in `map` and `_++_` (`mathlib.Core.List`), in `flatMap` (`FlatMapLaws`), and tests of it (`TestLaws`).
-use mathlib.Core.Path.{_≡_, refl, sym, ap, subst}
+use mathlib.Core.Path.{_≡_, refl, sym, _∙_, ap, subst}
 use mathlib.Core.Logic.{_⊎_, inl, inr, ⊎-elim, _↔_}
 use mathlib.Core.List.{List, [], _∷_, _++_, map, zipWith, List·Memᴰ·head, List·Memᴰ·tail, List·Memᴰ·cases-cons, List·Memᴰ·append-cases, List·Memᴰ·not-nil, Memᴰ·append-left, Memᴰ·append-right, Memᴰ·cast, Memᴰ·map, Memᴰ·of-map}
-use Prim.Native.Nat.{ℕ, zero, suc, _≤_, _<_}
+use Prim.Native.Nat.{ℕ, zero, suc, _+_, _≤_, _<_}
 use native.Mathlib.Nat.{le-antisymm}
 use native.Mathlib.Omega.{arith}
+use native.Mathlib.Numerals.{add-one}
 use lib.ListN.{length, getD, take, drop, set, length-append, take-append-drop}
+use lib.Seq.{take-suc-set}
 use Rattle.lists.specs.Membership.{Mem, All, Distinct, SameMembers}
 
 -- ---- a member cuts the list in two
@@ -177,3 +179,17 @@ length-zipWith f [] [] e = refl
 length-zipWith f [] (y ∷ ys) e = e
 length-zipWith f (x ∷ xs) [] e = absurd (omega arith)
 length-zipWith f (x ∷ xs) (y ∷ ys) e = ap suc (length-zipWith f xs ys (omega arith))
+
+-- ---- two lists taken together, one element more
+
+module _ {A B C : Type 0} (f : A → B → C) (a : A) (b : B) where
+  zipWith-snoc : (k : ℕ) (xs : List A) (ys : List B) → k < length xs → k < length ys → zipWith f (take (suc k) xs) (take (suc k) ys) ≡ zipWith f (take k xs) (take k ys) ++ (f (getD xs k a) (getD ys k b) ∷ [])
+  unfolding zipWith
+  zipWith-snoc k [] ys h g = absurd (omega arith)
+  zipWith-snoc k (x ∷ xs) [] h g = absurd (omega arith)
+  zipWith-snoc zero (x ∷ xs) (y ∷ ys) h g = refl
+  zipWith-snoc (suc k) (x ∷ xs) (y ∷ ys) h g = ap (f x y ∷_) (zipWith-snoc k xs ys (omega arith) (omega arith))
+
+  pub zipWith-more : (k : ℕ) (r : List C) (xs : List A) (ys : List B) (z : C) → k < length r → k < length xs → k < length ys
+      → take k r ≡ zipWith f (take k xs) (take k ys) → z ≡ f (getD xs k a) (getD ys k b) → take (k + 1) (set r k z) ≡ zipWith f (take (k + 1) xs) (take (k + 1) ys)
+  zipWith-more k r xs ys z h hx hy e q = rw add-one (take-suc-set r k z h ∙ ap (_++ (z ∷ [])) e ∙ ap (λ w. zipWith f (take k xs) (take k ys) ++ (w ∷ [])) q ∙ sym (zipWith-snoc k xs ys hx hy))

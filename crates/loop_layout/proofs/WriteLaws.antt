@@ -1,4 +1,4 @@
--- What `lay_limit` writes: two words, and the coefficients after them.
+-- The range of a number that is widened; then what `lay_limit` writes: two words, and the coefficients after them.
 use mathlib.Core.Path.{_≡_, ap, ap₂, _∙_}
 use mathlib.Core.List.{List, [], _∷_}
 use Prim.Native.Nat.{ℕ, _+_, _*_, _≤_, _<_}
@@ -6,15 +6,20 @@ use native.Mathlib.Omega.{arith}
 use lib.IntN.{ℤ, pos}
 use lib.ListN.{length, take, set, length-set}
 use lib.Seq.{length-take-le}
-use mir.Syntax.{w64}
+use mir.Syntax.{w32, w64}
 use mir.Val.{SFits, toZ, ofZ}
+use mir.Facts.{toZ-ofZ}
 use Rattle.lists.specs.Parts.{put}
 use Rattle.lists.proofs.PartLaws.{put-put, set-is-put, set-put, length-put}
-use Rattle.integers.proofs.RangeLaws.{back, from-nat, size-fits, size-natAbs}
+use Rattle.integers.specs.Difference.{size}
+use Rattle.integers.proofs.RangeLaws.{from-nat, size-fits, size-natAbs, sfits, sfits-up, sfits-down}
 use Rattle.model.specs.Encode.{limitWords}
 use Rattle.nest.specs.Nested.{limitOf}
 use Rattle.nest.specs.declared.Limit.{Limit}
 use Rattle.loop_layout.specs.Limits.{LayLimitIn}
+
+pub wider : (z : ℤ) → SFits w32 z → SFits w64 z
+wider z h = let u = sfits-up w32 z h in let d = sfits-down w32 z h in sfits (omega arith)
 
 -- two words and a row are written as one part
 two-and-row : (o : List ℤ) (p : ℕ) (a b : ℤ) (xs : List ℤ) → p + 2 ≤ length o → put (set (set o p a) (p + 1) b) (p + 2) xs ≡ put o p (a ∷ b ∷ xs)
@@ -31,9 +36,12 @@ module _ (o : List ℤ) (j outer : ℕ) (l : Limit) (p : LayLimitIn (length o) j
   pub multiplier-fits : SFits w64 (pos (l .multiplier))
   multiplier-fits = let h = small in size-fits {n = 32767} (omega arith) (omega arith)
 
-  constant-fits : SFits w64 (l .constant)
+  constant-fits : SFits w32 (l .constant)
   unfolding limitOf
-  constant-fits = size-fits {n = 32767} (omega (arith, p .ranges .constant, size-natAbs (l .constant))) (omega arith)
+  constant-fits = let h : size (l .constant) ≤ 32767 = omega (arith, p .ranges .constant, size-natAbs (l .constant)) in sfits (omega arith)
+
+  pub constant-wide : SFits w64 (toZ w32 (ofZ w32 (l .constant)))
+  constant-wide = rw (toZ-ofZ constant-fits) (wider (l .constant) constant-fits)
 
   pub row-length : length (take outer (l .coefficients)) ≡ outer
   row-length = let h = p .shallow in let r = p .within .room in length-take-le outer (l .coefficients) (omega arith)
@@ -41,11 +49,11 @@ module _ (o : List ℤ) (j outer : ℕ) (l : Limit) (p : LayLimitIn (length o) j
   pub constant-room : (a : ℤ) → j * 8 + 1 < length (set o (j * 8) a)
   constant-room a = let h = p .fits in simp length-set (omega arith)
 
-  pub wrote : (e : List ℤ) → e ≡ put (set (set o (j * 8) (toZ w64 (l .multiplier))) (j * 8 + 1) (toZ w64 (ofZ w64 (l .constant)))) (j * 8 + 2) (take outer (l .coefficients))
+  pub wrote : (e : List ℤ) → e ≡ put (set (set o (j * 8) (toZ w64 (l .multiplier))) (j * 8 + 1) (toZ w64 (ofZ w64 (toZ w32 (ofZ w32 (l .constant)))))) (j * 8 + 2) (take outer (l .coefficients))
       → e ≡ put o (j * 8) (limitWords (limitOf outer l))
   unfolding limitWords limitOf
   wrote e q = let h = p .fits in let g = small in
-      q ∙ ap₂ (λ a b. put (set (set o (j * 8) a) (j * 8 + 1) b) (j * 8 + 2) (take outer (l .coefficients))) (from-nat (omega arith)) (back constant-fits)
+      q ∙ ap₂ (λ a b. put (set (set o (j * 8) a) (j * 8 + 1) b) (j * 8 + 2) (take outer (l .coefficients))) (from-nat (omega arith)) (toZ-ofZ constant-wide ∙ toZ-ofZ constant-fits)
       ∙ two-and-row o (j * 8) (pos (l .multiplier)) (l .constant) (take outer (l .coefficients)) (omega arith)
 
   pub wrote-length : (e : List ℤ) → e ≡ put o (j * 8) (limitWords (limitOf outer l)) → length e ≡ length o

@@ -1,6 +1,6 @@
 // The loops of a nest on flat slices.
 ghost use mathlib.Core.Path.{_≡_};
-ghost use Prim.Native.Nat.{_*_};
+ghost use Prim.Native.Nat.{_+_, _*_, _≤_};
 ghost use lib.ListN.{length};
 ghost use Rattle.lists.specs.Parts.{put};
 ghost use Rattle.model.specs.Encode.{limitWords};
@@ -11,6 +11,24 @@ use nest::Loop;
 use nest::Nest;
 use nest::Side;
 
+fn wide(x: i32) -> i64
+    ensures { λ r. ⌜ r ≡ x ⌝ }
+{
+    x as i64
+}
+
+// Writes a row into out from place at on.
+pub fn widen(out: &mut [i64], at: usize, row: &[i32])
+    requires { ⌜ at + length (now row) ≤ length (now out) ⌝ }
+    ensures { λ _. ⌜ now (out .exit) ≡ put (now (out .entry)) at (now (row .entry)) ⌝ }
+{
+    let mut j = 0;
+    while j < row.len() {
+        out[at + j] = wide(row[j]);
+        j += 1;
+    }
+}
+
 // Limit j of all, of a loop with `outer` loops outside.
 fn lay_limit(words: &mut [i64], j: usize, limit: Limit, outer: usize)
     requires { ⌜ LayLimitIn (length (now words)) j outer limit ⌝ }
@@ -20,8 +38,8 @@ fn lay_limit(words: &mut [i64], j: usize, limit: Limit, outer: usize)
     let constant = limit.constant;
     let coefficients = limit.coefficients;
     words[at] = limit.multiplier as i64;
-    words[at + 1] = constant;
-    space::store(words, at + 2, &coefficients[..outer]);
+    words[at + 1] = constant as i64;
+    widen(words, at + 2, &coefficients[..outer]);
 }
 
 // The limits of a side, from limit j on.

@@ -10,11 +10,12 @@ use reading::Number;
 use reading::Refusal;
 use reading::Status;
 
-// multiplier × index against constant + coefficients · indices of the loops outside.
+// multiplier × index against constant + coefficients · indices of the loops outside. Words have 16 bits, and of such numbers a step makes
+// none beyond 2 × 32767² < 2³¹ before the test of refusal 12: 32 bits hold all, and a limit goes by value, so its size is its price.
 pub struct Limit {
-    pub multiplier: u64,
-    pub constant: i64,
-    pub coefficients: [i64; 6],
+    pub multiplier: u32,
+    pub constant: i32,
+    pub coefficients: [i32; 6],
 }
 
 // The first `count` limits.
@@ -66,7 +67,7 @@ fn no_limit(r: Refusal, at: usize) -> LimitRead
         limit: Limit {
             multiplier: 0,
             constant: 0,
-            coefficients: [0i64; 6],
+            coefficients: [0i32; 6],
         },
         next: at,
     }
@@ -94,7 +95,7 @@ pub fn read_limit(s: &[u8], at: usize, outer: usize) -> LimitRead
             LimitRead {
                 status: Status::Fine,
                 limit: Limit {
-                    multiplier: multiplier as u64,
+                    multiplier: multiplier as u32,
                     constant: constant,
                     coefficients: coefficients,
                 },
@@ -111,7 +112,7 @@ fn no_limits() -> [Limit; 16]
     let blank = Limit {
         multiplier: 0,
         constant: 0,
-        coefficients: [0i64; 6],
+        coefficients: [0i32; 6],
     };
     [blank; 16]
 }

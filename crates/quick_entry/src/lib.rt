@@ -2,9 +2,12 @@
 ghost use mathlib.Core.Path.{_≡_};
 ghost use mathlib.Core.Bool.{_&&_};
 ghost use lib.Dec.{leb};
+ghost use lib.ListN.{length};
 ghost use Rattle.model.specs.Entries as Entries;
 ghost use Rattle.sheet.specs.Sheets.{nestOf, SheetIn};
+ghost use Rattle.intake.specs.Intake.{Waits};
 ghost use Rattle.quick_entry.specs.Answers.{answerOf, tested};
+use intake::Intake;
 use reading::Refusal;
 use reading::Status;
 use sheet::Sheet;
@@ -42,17 +45,34 @@ fn test(sheet: Sheet, first: usize, second: usize) -> Tested
     Tested::Perhaps
 }
 
-// Judges 1 to 9, then the two access numbers, from 1. 'Apart' means that the two accesses never meet (model, Demands: apart-never-meet).
-pub fn quick(ticket: &[u8], first: usize, second: usize) -> Tested
+// Refusal 9 of what was received of the ticket, then the test.
+fn quick_by(ticket: &[u8], all: Intake, points: &mut [i64], first: usize, second: usize) -> Tested
+    requires { ⌜ Waits (now ticket) all (length (now points)) ⌝ }
     ensures { λ r. ⌜ answerOf r ≡ Entries.quick (now (ticket .entry)) first second ⌝ }
 {
-    let mut points = [0i64; 16384];
-    let all = intake::admit(ticket, &mut points);
-    let status = all.status;
+    let status = intake::admit(ticket, all, points);
     match status {
         Status::Fine => {}
         Status::Refused(r) => return Tested::Refused(r),
     }
     let sheet = all.sheet;
     test(sheet, first, second)
+}
+
+// Judges 1 to 9, then the two access numbers, from 1. Few points have fewer indices to clear. 'Apart' means that the two accesses never meet (model, Demands: apart-never-meet).
+pub fn quick(ticket: &[u8], first: usize, second: usize) -> Tested
+    ensures { λ r. ⌜ answerOf r ≡ Entries.quick (now (ticket .entry)) first second ⌝ }
+{
+    let all = intake::receive(ticket);
+    let status = all.status;
+    match status {
+        Status::Fine => {}
+        Status::Refused(r) => return Tested::Refused(r),
+    }
+    if all.count <= 256 {
+        let mut few = [0i64; 1024];
+        return quick_by(ticket, all, &mut few, first, second);
+    }
+    let mut points = [0i64; 16384];
+    quick_by(ticket, all, &mut points, first, second)
 }

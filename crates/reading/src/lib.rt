@@ -99,7 +99,7 @@ pub enum Natural {
 }
 
 pub enum Number {
-    Value(i64),
+    Value(i32),
     Refused(Refusal),
 }
 
@@ -122,13 +122,13 @@ pub fn bits_at(s: &[u8], at: usize) -> Bits
 }
 
 // Two's complement.
-pub fn signed_of(v: u16) -> i64
+pub fn signed_of(v: u16) -> i32
     ensures { λ r. ⌜ r ≡ signed v ⌝ }
 {
     if v < 32768 {
-        v as i64
+        v as i32
     } else {
-        (v as i64) - 65536
+        (v as i32) - 65536
     }
 }
 
@@ -214,7 +214,7 @@ pub fn read_number(s: &[u8], at: usize) -> Number
 // One number for each loop, at most six.
 pub struct RowRead {
     pub status: Status,
-    pub row: [i64; 6],
+    pub row: [i32; 6],
     pub next: usize,
 }
 
@@ -222,7 +222,7 @@ pub fn read_row(s: &[u8], at: usize, n: usize) -> RowRead
     requires { ⌜ Reached (now s) at × (n ≤ 6) ⌝ }
     ensures { λ r. ⌜ Reads (times n number (now (s .entry)) at) (now (s .entry)) (r .status) (take n (r .row)) (r .next) × (length (r .row) ≡ 6) ⌝ }
 {
-    let mut row = [0i64; 6];
+    let mut row = [0i32; 6];
     let mut next = at;
     let mut k = 0;
     while k < n {

@@ -114,14 +114,14 @@ pub fn exchanged(nest: Nest, a: usize) -> Stepped
 // ---- section
 
 // v, with a coefficient 0 for each loop outside.
-fn constant_limit(v: u64) -> Limit
+fn constant_limit(v: u32) -> Limit
     requires { ⌜ v ≤ 256 ⌝ }
     ensures { λ r. ⌜ ((a : ℕ) → a < 6 → limitOf (a + 1) r ≡ constantLimit a v) × LimitIn r ⌝ }
 {
     Limit {
         multiplier: 1,
-        constant: v as i64,
-        coefficients: [0i64; 6],
+        constant: v as i32,
+        coefficients: [0i32; 6],
     }
 }
 
@@ -155,7 +155,7 @@ fn prepended(x: Limit, side: Side) -> Filling
 }
 
 // Loop a by width w: S, and E inside it.
-pub fn sectioned(nest: Nest, a: usize, w: u64) -> Stepped
+pub fn sectioned(nest: Nest, a: usize, w: u32) -> Stepped
     requires { ⌜ SectionIn nest a w ⌝ }
     ensures { λ r. ⌜ After (section a w) nest r ⌝ }
 {

@@ -1,4 +1,4 @@
--- An admitted ticket can be marked, and its marks show its directions.
+-- An admitted ticket with its directions can be judged.
 use mathlib.Core.Path.{_≡_, sym, _∙_, ap, subst}
 use mathlib.Core.Bool.{Bool, false}
 use mathlib.Core.List.{List}
@@ -18,25 +18,28 @@ use Rattle.sheet.specs.declared.Sheet.{Sheet}
 use Rattle.sheet.specs.Sheets.{nestOf}
 use Rattle.sheet.proofs.StageLaws.{depth-is}
 use Rattle.loop_layout.proofs.StructLaws.{nest-length}
-use Rattle.lines.specs.Lines.{LinesIn, LinesAre, Shows}
-use Rattle.lines.proofs.MarkLaws.{lines-in}
-use Rattle.lines.proofs.DirectionLaws.{directions-are}
+use Rattle.lines.specs.Lines.{Admitted, DirectionsAre}
 use Rattle.intake.specs.Intake.{Taken}
 use Rattle.judgement.specs.Judgement.{JudgeIn}
 
 module _ (t : Ticket) (P : Sheet) (points : List ℤ) (n : ℕ) (h : Taken t P points n) where
-  pub marks-in : LinesIn P points n (replicate 34992 false)
-  marks-in = lines-in P points n (h .sheet) (h .points-are) (subst WellFormed (sym (h .same)) (h .formed)) (ap admitted (h .same) ∙ h .admitted-is)
+  pub admitted-in : Admitted P points n
+  admitted-in = record {
+    sheet = h .sheet;
+    points-are = h .points-are;
+    formed = subst WellFormed (sym (h .same)) (h .formed);
+    admitted-is = ap admitted (h .same) ∙ h .admitted-is;
+  }
 
   same-depth : P .depth ≡ t .nest .depth
   unfolding Ticket.nestOf
   same-depth = sym (depth-is P) ∙ ap (λ (N : Model.Nest). length (N .loops)) (h .same) ∙ nest-length (t .nest) (h .within .nest)
 
-  pub judge-in : (marks : List Bool) → LinesAre P marks → (s : DirectionSet) → Shows marks (P .statements) (P .depth) s → JudgeIn t s
-  judge-in marks l s g = record {
+  pub judge-in : (s : DirectionSet) → DirectionsAre P s → JudgeIn t s
+  judge-in s g = record {
     within = h .within;
     ranges = h .ranges;
     formed = h .formed;
     level = g .depth ∙ same-depth;
-    vectors = subst (λ (N : Model.Nest). SameMembers (vectorsOf s) (directionsOf N)) (h .same) (directions-are P marks s l g);
+    vectors = subst (λ (N : Model.Nest). SameMembers (vectorsOf s) (directionsOf N)) (h .same) (g .vectors);
   }

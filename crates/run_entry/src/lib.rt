@@ -1,9 +1,11 @@
 // The entry `run`: the nest of a ticket in its new order, on a store.
+ghost use lib.ListN.{length};
 ghost use Rattle.model.specs.Entries as Entries;
-ghost use Rattle.intake.specs.Intake.{Taken};
+ghost use Rattle.intake.specs.Intake.{Waits, Taken};
 ghost use Rattle.intake.specs.Answers.{Hands};
 ghost use Rattle.judgement.specs.Judgement.{Judges};
 use intake::Answer;
+use intake::Intake;
 use judgement::Judged;
 use reading::Status;
 use sheet::Sheet;
@@ -14,19 +16,16 @@ fn judge(ticket: Ticket, sheet: Sheet, points: &[i64], count: usize) -> Judged
     requires { ⌜ Taken ticket sheet (now points) count ⌝ }
     ensures { λ r. ⌜ Judges ticket r ⌝ }
 {
-    let mut marks = [false; 34992];
-    lines::mark_lines(sheet, points, count, &mut marks);
-    let set = lines::directions_of(&marks, sheet.statements, sheet.depth);
+    let set = lines::directions_in(sheet, points, count);
     judgement::judge_ticket(ticket, set)
 }
 
-// Judges 1 to 13, then 15 and 16. An accepted run leaves the store that the old order leaves (model, Demands: demand-3, run-store).
-pub fn run(ticket: &[u8], store: &mut [u32]) -> Answer
+// Refusals 9 to 16 of what was received of the ticket, and the run.
+fn run_by(ticket: &[u8], all: Intake, points: &mut [i64], store: &mut [u32]) -> Answer
+    requires { ⌜ Waits (now ticket) all (length (now points)) ⌝ }
     ensures { λ r. ⌜ Hands (Entries.runEntry (now (ticket .entry)) (now (store .entry))) r (now (store .exit)) ⌝ }
 {
-    let mut points = [0i64; 16384];
-    let all = intake::admit(ticket, &mut points);
-    let status = all.status;
+    let status = intake::admit(ticket, all, points);
     match status {
         Status::Fine => {}
         Status::Refused(r) => return Answer::Refused(r),
@@ -34,7 +33,7 @@ pub fn run(ticket: &[u8], store: &mut [u32]) -> Answer
     let t = all.ticket;
     let sheet = all.sheet;
     let count = all.count;
-    let judged = judge(t, sheet, &points, count);
+    let judged = judge(t, sheet, points, count);
     let verdict = judged.status;
     match verdict {
         Status::Fine => {}
@@ -42,4 +41,22 @@ pub fn run(ticket: &[u8], store: &mut [u32]) -> Answer
     }
     let new = judged.sheet;
     judged_run::run_judged(sheet, new, count, store)
+}
+
+// Judges 1 to 13, then 15 and 16. Few points have fewer indices to clear. An accepted run leaves the store that the old order leaves (model, Demands: demand-3, run-store).
+pub fn run(ticket: &[u8], store: &mut [u32]) -> Answer
+    ensures { λ r. ⌜ Hands (Entries.runEntry (now (ticket .entry)) (now (store .entry))) r (now (store .exit)) ⌝ }
+{
+    let all = intake::receive(ticket);
+    let status = all.status;
+    match status {
+        Status::Fine => {}
+        Status::Refused(r) => return Answer::Refused(r),
+    }
+    if all.count <= 256 {
+        let mut few = [0i64; 1024];
+        return run_by(ticket, all, &mut few, store);
+    }
+    let mut points = [0i64; 16384];
+    run_by(ticket, all, &mut points, store)
 }

@@ -49,9 +49,12 @@ module _ (P : Sheet) where
   unfolding nestOf
   depth-is = loops-length (P .limits) (P .counts) 0 (P .depth)
 
-  pub survey-out : (bound most : ℕ) (r : Verdict) → Space.Surveyed (P .limits) (P .counts) (P .depth) bound most r → Surveyed P bound most r
+  pub survey-out : SheetIn P → (bound most : ℕ) (r : Verdict) → Space.Surveyed (P .limits) (P .counts) (P .depth) bound most r → Surveyed P bound most r
   unfolding nestOf
-  survey-out bound most r h = λ far crowded. h far crowded ∙ ap (survey far crowded bound most (nestOf P .loops) 1) (sym depth-is)
+  survey-out s bound most r h = record {
+    same = λ far crowded. h .same far crowded ∙ ap (survey far crowded bound most (nestOf P .loops) 1) (sym depth-is);
+    count = λ n e. h .count n e (s .some);
+  }
 
   -- ---- points
 

@@ -16,21 +16,23 @@ use Rattle.model.specs.Shape.{WellFormed}
 use Rattle.space.specs.Tallies.{Near}
 use Rattle.space.specs.Surveys as Space
 use Rattle.space.specs.declared.Verdict.{Verdict}
+use Rattle.space.specs.declared.Verdict.the-variants.{Admitted}
 use Rattle.elements.specs.Search as Elements
 use Rattle.elements.specs.Search.{RowsIn}
 use Rattle.sheet.specs.declared.Sheet.{Sheet}
 use Rattle.sheet.specs.Sheets.{nestOf, SheetIn}
 
 -- 7 and 8, or 13 and 13, with these bounds
-abbrev pub Surveyed : Sheet → ℕ → ℕ → Verdict → Type 0
-Surveyed P bound most r = (far crowded : ℕ) → Space.answerOf far crowded r ≡ survey far crowded bound most (nestOf P .loops) 1 (length (nestOf P .loops))
+pub record Surveyed (P : Sheet) (bound most : ℕ) (r : Verdict) : Type 0 where
+  pub same : (far crowded : ℕ) → Space.answerOf far crowded r ≡ survey far crowded bound most (nestOf P .loops) 1 (length (nestOf P .loops))
+  pub count : (n : ℕ) → r ≡ Admitted n → n ≡ length (iterations (nestOf P .loops))
 
 -- the points of the nest can be listed
 pub record ListIn (P : Sheet) (room : ℕ) : Type 0 where
   pub sheet : SheetIn P
   pub near : Near 100000 (nestOf P .loops) []
   pub few : length (iterations (nestOf P .loops)) ≤ 4096
-  pub fits : 4096 * P .depth ≤ room
+  pub fits : length (iterations (nestOf P .loops)) * P .depth ≤ room
 
 -- n points stand in the slice row by row
 pub record PointsAre (P : Sheet) (points : List ℤ) (n : ℕ) : Type 0 where

@@ -10,7 +10,7 @@ use nest::Loop;
 use nest::Nest;
 use nest::Side;
 
-pub fn small_number(x: i64) -> bool
+pub fn small_number(x: i32) -> bool
     ensures { λ r. ⌜ r ≡ small x ⌝ }
 {
     if 32767 < x {
@@ -22,7 +22,7 @@ pub fn small_number(x: i64) -> bool
     true
 }
 
-pub fn small_row(cs: [i64; 6], n: usize) -> bool
+pub fn small_row(cs: [i32; 6], n: usize) -> bool
     requires { ⌜ n ≤ 6 ⌝ }
     ensures { λ r. ⌜ r ≡ all small (take n cs) ⌝ }
 {

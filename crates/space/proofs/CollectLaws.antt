@@ -1,4 +1,4 @@
--- What one level of `collect` needs, over plain lists: no loop left, then one turn, then all.
+-- What one level of `collect` needs, over plain lists: the last loop, then one turn, of the last loop and of another, then all.
 use mathlib.Core.Path.{_≡_, sym, _∙_, ap, subst}
 use mathlib.Core.List.{List, [], _∷_, _++_, flatMap}
 use Prim.Native.Nat.{ℕ, zero, suc, _+_, _-_, _≤_, _<_}
@@ -6,7 +6,7 @@ use native.Mathlib.Omega.{arith}
 use native.Mathlib.Nat.{add-zero, add-suc, le-refl}
 use native.Mathlib.Numerals.{add-one}
 use lib.IntN.{ℤ, pos, _+ℤ_, _-ℤ_}
-use lib.ListN.{length, take, set, length-append}
+use lib.ListN.{length, length-append}
 use Rattle.lists.specs.Parts.{put}
 use Rattle.lists.proofs.FlatMapLaws.{flatMap-append, flatMap-one}
 use Rattle.lists.proofs.PartLaws.{put-nil, length-put, put-put}
@@ -19,7 +19,7 @@ use Rattle.space.specs.Tallies.{through, Near}
 use Rattle.space.specs.Stored.{joined, CollectIn, Collected}
 use Rattle.bounds.proofs.RangeLaws.{range-in}
 use Rattle.space.proofs.ThroughLaws.{loops-none, after, through-nil, through-step, turn, no-turn}
-use Rattle.space.proofs.StepLaws.{within-snoc, take-moved, prefix, near-step}
+use Rattle.space.proofs.StepLaws.{within-snoc, near-step}
 
 -- ---- joined points
 
@@ -36,104 +36,112 @@ joined-grows f a m (suc r) =
 
 -- the words of the first t indices of loop k
 abbrev pub words : List ℤ → List ℕ → ℕ → ℕ → List ℤ → ℤ → ℕ → List ℤ
-words s c k left point lo t = joined (flatMap (after s c k left (take k point)) (ints lo t))
+words s c k left outer lo t = joined (flatMap (after s c k left outer) (ints lo t))
 
-module _ {s : List ℤ} {c : List ℕ} {k left : ℕ} {point : List ℤ} (o : List ℤ) {at : ℕ} (p : CollectIn s c k left point (length o) at) (len : length point ≡ 6) where
+module _ {s : List ℤ} {c : List ℕ} {k left : ℕ} {outer : List ℤ} (o : List ℤ) {at : ℕ} (p : CollectIn s c k left outer (length o) at) where
   pub shallow : k + left ≤ 6
   shallow = p .nest .shallow
 
-  pub outer-length : length (take k point) ≡ k
-  outer-length = let h = shallow in prefix point k len (omega arith)
+  pub outer-range : RangeIn s c outer
+  outer-range = let e = p .stand in let h = p .some in range-in s c (k + left) outer (p .nest) (omega arith) (p .small)
 
-  -- ---- no loop left: the point itself
+  -- the same, of the indices' own number
+  pub last-in : left ≡ 1 → CollectIn s c (length outer) 1 outer (length o) at
+  last-in e = subst (λ (j : ℕ). CollectIn s c j 1 outer (length o) at) (sym (p .stand)) (subst (λ (l : ℕ). CollectIn s c k l outer (length o) at) e p)
 
-  leaf-is : left ≡ 0 → joined (through (loopsFrom s c k left) (take k point)) ≡ take k point
-  leaf-is z = ap (λ (N : List Loop). joined (through N (take k point))) (loops-none s c k left z) ∙ ap joined (through-nil (take k point)) ∙ flatMap-one (λ p. p) (take k point)
+  pub last-out : {e : List ℤ} {place : ℕ} → left ≡ 1 → Collected s c (length outer) 1 outer o e at place → Collected s c k left outer o e at place
+  last-out {e} {place} h g = subst (λ (l : ℕ). Collected s c k l outer o e at place) (sym h) (subst (λ (j : ℕ). Collected s c j 1 outer o e at place) (p .stand) g)
 
-  leaf-length : left ≡ 0 → length (joined (through (loopsFrom s c k left) (take k point))) ≡ k
-  leaf-length z = ap length (leaf-is z) ∙ outer-length
-
-  pub leaf-fits : left ≡ 0 → at + length (take k point) ≤ length o
-  leaf-fits z = let e = outer-length in let l = leaf-length z in let f = p .fits in omega arith
-
-  pub leaf-room : left ≡ 0 → at + k ≤ length o
-  leaf-room z = let l = leaf-length z in let f = p .fits in omega arith
-
-  pub leaf-out : (e : List ℤ) → left ≡ 0 → e ≡ put o at (take k point) → Collected s c k left point o e at (at + k)
-  leaf-out e z w = record { place = ap (at +_) (sym (leaf-length z)); wrote = w ∙ ap (put o at) (sym (leaf-is z)) }
-
-  -- ---- loop k is walked
-
-  module _ (some : left ≡ 0 → ⊥) where
-    pub one : 1 ≤ left
-    one = omega (arith, some)
-
-    pub outer-range : RangeIn s c (take k point)
-    outer-range = let e = outer-length in let h = one in range-in s c (k + left) (take k point) (p .nest) (omega arith) (p .small)
-
-  pub start : (lo : ℤ) → (at ≡ at + length (words s c k left point lo 0)) × (o ≡ put o at (words s c k left point lo 0))
+  pub start : (lo : ℤ) → (at ≡ at + length (words s c k left outer lo 0)) × (o ≡ put o at (words s c k left outer lo 0))
   unfolding flatMap
-  start lo = let e : words s c k left point lo 0 ≡ [] = ap joined (no-turn (after s c k left (take k point)) lo) in
+  start lo = let e : words s c k left outer lo 0 ≡ [] = ap joined (no-turn (after s c k left outer) lo) in
       (sym (ap (λ (l : List ℤ). at + length l) e ∙ add-zero at), sym (ap (put o at) e ∙ put-nil o at))
 
-  module _ {lo hi : ℤ} {n : ℕ} (some : left ≡ 0 → ⊥) (r : Ranged (loopAt s c (length (take k point))) (take k point) lo hi) (cnt : n ≡ span (hi -ℤ lo)) where
-    here : Ranged (loopAt s c k) (take k point) lo hi
-    here = subst (λ (j : ℕ). Ranged (loopAt s c j) (take k point) lo hi) outer-length r
+  module _ {lo hi : ℤ} {n : ℕ} (r : Ranged (loopAt s c (length outer)) outer lo hi) (cnt : n ≡ span (hi -ℤ lo)) where
+    here : Ranged (loopAt s c k) outer lo hi
+    here = subst (λ (j : ℕ). Ranged (loopAt s c j) outer lo hi) (p .stand) r
 
-    whole : joined (through (loopsFrom s c k left) (take k point)) ≡ words s c k left point lo n
-    whole = ap joined (through-step s c k left (take k point) lo hi n (one some) here cnt)
+    whole : joined (through (loopsFrom s c k left) outer) ≡ words s c k left outer lo n
+    whole = ap joined (through-step s c k left outer lo hi n (p .some) here cnt)
 
-    pub room : (t : ℕ) → t ≤ n → at + length (words s c k left point lo t) ≤ length o
+    pub room : (t : ℕ) → t ≤ n → at + length (words s c k left outer lo t) ≤ length o
     room t h =
         let e : t + (n - t) ≡ n = omega arith in
-        let g = subst (λ (m : ℕ). length (words s c k left point lo t) ≤ length (words s c k left point lo m)) e (joined-grows (after s c k left (take k point)) lo t (n - t)) in
+        let g = subst (λ (m : ℕ). length (words s c k left outer lo t) ≤ length (words s c k left outer lo m)) e (joined-grows (after s c k left outer) lo t (n - t)) in
         let f = p .fits in let w = ap length whole in omega arith
 
-    module _ {t place : ℕ} {out q : List ℤ} (lt : t < n) (pe : place ≡ at + length (words s c k left point lo t)) (oe : out ≡ put o at (words s c k left point lo t)) (moved : q ≡ set point k (lo +ℤ pos t)) where
-      next-outer : take (k + 1) q ≡ take k point ++ ((lo +ℤ pos t) ∷ [])
-      next-outer = let h = shallow in let g = one some in take-moved point q k (lo +ℤ pos t) (omega arith) moved
+    pub same-room : (t : ℕ) (out : List ℤ) → t ≤ n → out ≡ put o at (words s c k left outer lo t) → length out ≡ length o
+    same-room t out h oe = ap length oe ∙ length-put o at (words s c k left outer lo t) (room t h)
 
-      near : (size (lo +ℤ pos t) ≤ 100000) × Near 100000 (loopsFrom s c (k + 1) (left - 1)) (take k point ++ ((lo +ℤ pos t) ∷ []))
-      near = near-step 100000 s c k left (take k point) lo hi n t (one some) here cnt lt (p .near)
+    -- ---- one turn
 
-      new-is : joined (through (loopsFrom s c (k + 1) (left - 1)) (take (k + 1) q)) ≡ joined (after s c k left (take k point) (lo +ℤ pos t))
-      new-is = ap (λ (outer : List ℤ). joined (through (loopsFrom s c (k + 1) (left - 1)) outer)) next-outer
+    module _ {t place : ℕ} {out : List ℤ} (lt : t < n) (pe : place ≡ at + length (words s c k left outer lo t)) (oe : out ≡ put o at (words s c k left outer lo t)) where
+      -- the words of the next index
+      abbrev new : List ℤ
+      new = joined (after s c k left outer (lo +ℤ pos t))
 
-      next : words s c k left point lo (t + 1) ≡ words s c k left point lo t ++ joined (after s c k left (take k point) (lo +ℤ pos t))
-      next = joined-turn (after s c k left (take k point)) lo t
+      next : words s c k left outer lo (t + 1) ≡ words s c k left outer lo t ++ new
+      next = joined-turn (after s c k left outer) lo t
 
-      pub same-room : length out ≡ length o
-      same-room = ap length oe ∙ length-put o at (words s c k left point lo t) (room t (omega arith))
-
-      next-fits : place + length (joined (through (loopsFrom s c (k + 1) (left - 1)) (take (k + 1) q))) ≤ length out
-      next-fits =
+      new-fits : place + length new ≤ length out
+      new-fits =
           let a = room (t + 1) (omega arith) in
-          let b = ap length next ∙ length-append (words s c k left point lo t) (joined (after s c k left (take k point) (lo +ℤ pos t))) in
-          let h = ap length new-is in let l = same-room in omega arith
+          let b = ap length next ∙ length-append (words s c k left outer lo t) new in
+          let l = same-room t out (omega arith) oe in omega arith
 
-      pub turn-in : CollectIn s c (k + 1) (left - 1) q (length out) place
-      turn-in = let d : k + 1 + (left - 1) ≡ k + left = (let g = one some in omega arith) in record {
-        nest = subst (NestOk s c) (sym d) (p .nest);
-        small = rw next-outer (within-snoc 100000 (take k point) (lo +ℤ pos t) (p .small) (near .0));
-        near = rw next-outer (near .1);
-        fits = next-fits;
-      }
-
-      pub turn-out : (e : List ℤ) (place′ : ℕ) → Collected s c (k + 1) (left - 1) q out e place place′
-          → (place′ ≡ at + length (words s c k left point lo (t + 1))) × (e ≡ put o at (words s c k left point lo (t + 1)))
-      turn-out e place′ g =
-          let P = joined (after s c k left (take k point) (lo +ℤ pos t)) in
-          let W = words s c k left point lo t in
-          let b = ap length next ∙ length-append W P in
-          let h = ap length new-is in
-          let gp = g .place in (
+      written : (e xs : List ℤ) (place′ : ℕ) → xs ≡ new → place′ ≡ place + length xs → e ≡ put out place xs
+          → (place′ ≡ at + length (words s c k left outer lo (t + 1))) × (e ≡ put o at (words s c k left outer lo (t + 1)))
+      written e xs place′ i pe′ ee =
+          let W = words s c k left outer lo t in
+          let b = ap length next ∙ length-append W new in
+          let h = ap length i in (
             omega arith,
-            g .wrote ∙ ap (put out place) new-is ∙ ap (λ (w : List ℤ). put w place P) oe ∙ ap (λ (j : ℕ). put (put o at W) j P) pe
-                ∙ put-put o at W P (room t (omega arith)) ∙ ap (put o at) (sym next),
+            ee ∙ ap (put out place) i ∙ ap (λ (w : List ℤ). put w place new) oe ∙ ap (λ (j : ℕ). put (put o at W) j new) pe
+                ∙ put-put o at W new (room t (omega arith)) ∙ ap (put o at) (sym next),
           )
 
-    pub level-out : (t place : ℕ) (e : List ℤ) → t ≤ n → n ≤ t → place ≡ at + length (words s c k left point lo t) → e ≡ put o at (words s c k left point lo t) → Collected s c k left point o e at place
+      -- of the last loop: one point
+      module _ (last : left ≡ 1) where
+        point-is : outer ++ ((lo +ℤ pos t) ∷ []) ≡ new
+        point-is = sym (
+            ap (λ (N : List Loop). joined (through N (outer ++ ((lo +ℤ pos t) ∷ [])))) (loops-none s c (k + 1) (left - 1) (omega arith))
+            ∙ ap joined (through-nil (outer ++ ((lo +ℤ pos t) ∷ []))) ∙ flatMap-one (λ p. p) (outer ++ ((lo +ℤ pos t) ∷ []))
+            )
+
+        point-length : length (outer ++ ((lo +ℤ pos t) ∷ [])) ≡ length outer + 1
+        point-length = length-append outer ((lo +ℤ pos t) ∷ [])
+
+        pub point-fits : place + (length outer + 1) ≤ length out
+        point-fits = let f = new-fits in let e = ap length point-is in let l = point-length in omega arith
+
+        pub point-out : (e : List ℤ) → e ≡ put out place (outer ++ ((lo +ℤ pos t) ∷ []))
+            → (place + (length outer + 1) ≡ at + length (words s c k left outer lo (t + 1))) × (e ≡ put o at (words s c k left outer lo (t + 1)))
+        point-out e = written e (outer ++ ((lo +ℤ pos t) ∷ [])) (place + (length outer + 1)) point-is (ap (place +_) (sym point-length))
+
+      -- of a loop with loops inside
+      module _ {inner : List ℤ} (more : left ≡ 1 → ⊥) (moved : inner ≡ outer ++ ((lo +ℤ pos t) ∷ [])) where
+        near : (size (lo +ℤ pos t) ≤ 100000) × Near 100000 (loopsFrom s c (k + 1) (left - 1)) (outer ++ ((lo +ℤ pos t) ∷ []))
+        near = near-step 100000 s c k left outer lo hi n t (p .some) here cnt lt (p .near)
+
+        new-is : joined (through (loopsFrom s c (k + 1) (left - 1)) inner) ≡ new
+        new-is = ap (λ (outer : List ℤ). joined (through (loopsFrom s c (k + 1) (left - 1)) outer)) moved
+
+        pub turn-in : CollectIn s c (k + 1) (left - 1) inner (length out) place
+        turn-in = let g = p .some in let st = p .stand in let d : k + 1 + (left - 1) ≡ k + left = omega arith in record {
+          nest = subst (NestOk s c) (sym d) (p .nest);
+          stand = ap length moved ∙ length-append outer ((lo +ℤ pos t) ∷ []) ∙ ap (_+ 1) st;
+          some = omega (arith, more);
+          small = rw moved (within-snoc 100000 outer (lo +ℤ pos t) (p .small) (near .0));
+          near = rw moved (near .1);
+          fits = (let h = ap length new-is in let f = new-fits in omega arith);
+        }
+
+        pub turn-out : (e : List ℤ) (place′ : ℕ) → Collected s c (k + 1) (left - 1) inner out e place place′
+            → (place′ ≡ at + length (words s c k left outer lo (t + 1))) × (e ≡ put o at (words s c k left outer lo (t + 1)))
+        turn-out e place′ g = written e (joined (through (loopsFrom s c (k + 1) (left - 1)) inner)) place′ new-is (g .place) (g .wrote)
+
+    pub level-out : (t place : ℕ) (e : List ℤ) → t ≤ n → n ≤ t → place ≡ at + length (words s c k left outer lo t) → e ≡ put o at (words s c k left outer lo t) → Collected s c k left outer o e at place
     level-out t place e h g pe ee =
         let q : t ≡ n = omega arith in
-        let w : words s c k left point lo t ≡ joined (through (loopsFrom s c k left) (take k point)) = ap (words s c k left point lo) q ∙ sym whole in
+        let w : words s c k left outer lo t ≡ joined (through (loopsFrom s c k left) outer) = ap (words s c k left outer lo) q ∙ sym whole in
         record { place = pe ∙ ap (λ (l : List ℤ). at + length l) w; wrote = ee ∙ ap (put o at) w }

@@ -1,6 +1,6 @@
 -- What one turn of `survey` needs: the depths before it passed, so its tally can be asked for; what the tally says of the depth; the answer.
 use mathlib.Core.Path.{_≡_, sym, _∙_, ap, subst}
-use mathlib.Core.Bool.{true, false}
+use mathlib.Core.Bool.{Bool, true, false, cond}
 use mathlib.Core.Logic.{⊎-elim}
 use mathlib.Core.List.{List, []}
 use Prim.Native.Nat.{ℕ, suc, _+_, _-_, _≤_, _<_}
@@ -9,15 +9,18 @@ use native.Mathlib.Nat.{zero-add, add-zero, eq-or-lt-of-le}
 use lib.Dec.{ltb}
 use lib.IntN.{ℤ}
 use lib.ListN.{length, take}
+use lib.Seq.{take-length}
 use borrow.Author.Tests.{lt-ltb, le-ltb, ltb-true, ltb-false}
 use Rattle.model.specs.Answer.{accepted, refused}
 use Rattle.model.specs.Ticket.{Loop}
-use Rattle.model.specs.Points.{points, partialPoints}
+use Rattle.model.specs.Points.{points, partialPoints, iterations}
 use Rattle.model.specs.Bounds.{survey}
 use Rattle.space.specs.declared.Tally.{Tally}
 use Rattle.bounds.specs.Flat.{NestOk, loopsFrom}
 use Rattle.space.specs.Tallies.{capped, seen, TallyIn, Tallied}
-use Rattle.space.specs.Surveys.{SurveyIn}
+use Rattle.space.specs.declared.Verdict.{Verdict}
+use Rattle.space.specs.declared.Verdict.the-variants.{Admitted, FarIndex, Crowded}
+use Rattle.space.specs.Surveys.{SurveyIn, Surveyed}
 use Rattle.space.proofs.ThroughLaws.{loops-length, loops-take, partial-are}
 use Rattle.space.proofs.TallyLaws.{capped-test}
 use Rattle.space.proofs.SurveyLaws.{farAmong, Passes, survey-far, survey-crowded, survey-skip, survey-done, near-passed}
@@ -33,6 +36,17 @@ nest-part s c depth d p h = let e = p .shallow in record {
   lower-positive = λ k g. p .lower-positive k (omega arith);
   upper-positive = λ k g. p .upper-positive k (omega arith);
 }
+
+-- only what is admitted is counted
+refuses : Verdict → Type 0
+refuses (Admitted n) = ⊥
+refuses (FarIndex k) = Unit {0}
+refuses (Crowded k) = Unit {0}
+
+counted-in : Verdict → ℕ
+counted-in (Admitted n) = n
+counted-in (FarIndex k) = 0
+counted-in (Crowded k) = 0
 
 abbrev pub blank : Tally
 blank = record { far = false; count = 0 }
@@ -85,6 +99,12 @@ module _ {s : List ℤ} {c : List ℕ} {depth bound most : ℕ} (p : SurveyIn s 
           here : Passes bound most (loopsFrom s c 0 depth) level
           here = record { near = sym far-is ∙ e; few = ltb-false most (length (partialPoints level (loopsFrom s c 0 depth))) (sym test-is ∙ le-ltb most (r .count) f) }
 
+      pub counts : r .count ≤ most → r .count ≡ length (partialPoints (level + 1 - 1) (loopsFrom s c 0 depth))
+      unfolding capped
+      counts f =
+          let e : level ≡ level + 1 - 1 = omega arith in
+          count-is ∙ ap (λ (b : Bool). cond b (suc most) (length (partialPoints level (loopsFrom s c 0 depth)))) (sym test-is ∙ le-ltb most (r .count) f) ∙ ap (λ (j : ℕ). length (partialPoints j (loopsFrom s c 0 depth))) e
+
       module _ (far crowded : ℕ) where
         skipped : survey far crowded bound most (loopsFrom s c 0 depth) 1 depth ≡ survey far crowded bound most (loopsFrom s c 0 depth) level (suc (depth - level))
         skipped =
@@ -94,15 +114,34 @@ module _ {s : List ℤ} {c : List ℕ} {depth bound most : ℕ} (p : SurveyIn s 
             ∙ survey-skip far crowded bound most (loopsFrom s c 0 depth) 1 (level - 1) (suc (depth - level)) (λ j x y. passed j x (omega arith))
             ∙ ap (λ (l : ℕ). survey far crowded bound most (loopsFrom s c 0 depth) l (suc (depth - level))) b
 
-        pub far-answer : r .far ≡ true → refused far level ≡ survey far crowded bound most (loopsFrom s c 0 depth) 1 depth
+        far-answer : r .far ≡ true → refused far level ≡ survey far crowded bound most (loopsFrom s c 0 depth) 1 depth
         far-answer e = sym (skipped ∙ survey-far far crowded bound most (loopsFrom s c 0 depth) level (depth - level) (sym far-is ∙ e))
 
-        pub crowded-answer : r .far ≡ false → most < r .count → refused crowded level ≡ survey far crowded bound most (loopsFrom s c 0 depth) 1 depth
+        crowded-answer : r .far ≡ false → most < r .count → refused crowded level ≡ survey far crowded bound most (loopsFrom s c 0 depth) 1 depth
         crowded-answer e f = sym (skipped ∙ survey-crowded far crowded bound most (loopsFrom s c 0 depth) level (depth - level) (sym far-is ∙ e)
             (ltb-true most (length (partialPoints level (loopsFrom s c 0 depth))) (sym test-is ∙ lt-ltb most (r .count) f)))
 
-  pub admitted-answer : (far crowded : ℕ) → level ≡ depth + 1 → accepted tt ≡ survey far crowded bound most (loopsFrom s c 0 depth) 1 depth
+      pub far-out : r .far ≡ true → Surveyed s c depth bound most (FarIndex level)
+      unfolding refuses
+      far-out e = record { same = λ far crowded. far-answer far crowded e; count = λ n z. absurd (subst refuses z tt) }
+
+      pub crowded-out : r .far ≡ false → most < r .count → Surveyed s c depth bound most (Crowded level)
+      unfolding refuses
+      crowded-out e f = record { same = λ far crowded. crowded-answer far crowded e f; count = λ n z. absurd (subst refuses z tt) }
+
+  admitted-answer : (far crowded : ℕ) → level ≡ depth + 1 → accepted tt ≡ survey far crowded bound most (loopsFrom s c 0 depth) 1 depth
   admitted-answer far crowded e =
       sym (ap (survey far crowded bound most (loopsFrom s c 0 depth) 1) (sym (add-zero depth))
       ∙ survey-skip far crowded bound most (loopsFrom s c 0 depth) 1 depth 0 (λ j x y. passed j x (omega arith))
       ∙ survey-done far crowded bound most (loopsFrom s c 0 depth) (1 + depth))
+
+  -- `n` points of the depth before the level, which is the last
+  pub admitted-out : (n : ℕ) → level ≡ depth + 1 → (1 < level → n ≡ length (partialPoints (level - 1) (loopsFrom s c 0 depth))) → Surveyed s c depth bound most (Admitted n)
+  unfolding partialPoints iterations counted-in
+  admitted-out n e h = record {
+    same = λ far crowded. admitted-answer far crowded e;
+    count = λ m z d.
+        let l = loops-length s c 0 depth in
+        let k : level - 1 ≡ length (loopsFrom s c 0 depth) = omega arith in
+        sym (ap counted-in z) ∙ h (omega arith) ∙ ap (λ (j : ℕ). length (points (take j (loopsFrom s c 0 depth)) [])) k ∙ ap (λ (N : List Loop). length (points N [])) (take-length (loopsFrom s c 0 depth));
+  }

@@ -68,16 +68,18 @@ module _ (s : List ℤ) (c : List ℕ) (depth : ℕ) where
   -- ---- a nest that was surveyed
 
   module _ (room : ℕ) (p : PointsIn s c depth room) where
-    pub list-in : (point : List ℤ) → CollectIn s c 0 depth point room 0
-    list-in point = record {
+    pub list-in : CollectIn s c 0 depth [] room 0
+    list-in = record {
       nest = rw (zero-add depth) (p .nest);
+      stand = refl;
+      some = p .some;
       small = tt;
       near = p .near;
-      fits = rw all-points (let w = words in let f = p .fits in omega (arith, mul-le-mul-right depth (p .few)));
+      fits = rw all-points (let w = words in let f = p .fits in omega arith);
     }
 
-    pub list-out : (point o e : List ℤ) (r : ℕ) → Collected s c 0 depth point o e 0 r → Listed s c depth o e (r / depth)
-    list-out point o e r g = record { count = how-many; few = rw how-many (p .few); points = rw (how-many, written, put-all o (joined (iterations (loopsFrom s c 0 depth)))) rows-are; wrote = written }
+    pub list-out : (o e : List ℤ) (r : ℕ) → Collected s c 0 depth [] o e 0 r → Listed s c depth o e (r / depth)
+    list-out o e r g = record { count = how-many; few = rw how-many (p .few); points = rw (how-many, written, put-all o (joined (iterations (loopsFrom s c 0 depth)))) rows-are; wrote = written }
       where
         place : r ≡ length (iterations (loopsFrom s c 0 depth)) * depth
         place = g .place ∙ zero-add (length (joined (through (loopsFrom s c 0 depth) []))) ∙ ap (λ (ps : List (List ℤ)). length (joined ps)) all-points ∙ words
@@ -111,6 +113,6 @@ listed-near s c depth room o e r p g = subst (All (Within 100000)) (sym (g .poin
 
 pub listed-room : (s : List ℤ) (c : List ℕ) (depth : ℕ) (o e : List ℤ) (r : ℕ) → PointsIn s c depth (length o) → Listed s c depth o e r → (length e ≡ length o) × (r * depth ≤ length e)
 listed-room s c depth o e r p g =
-    let w = words s c depth in let f = p .fits in let n = g .count in let q = g .few in
-    let l : length e ≡ length o = ap length (g .wrote) ∙ length-put o 0 (joined (iterations (loopsFrom s c 0 depth))) (rw (w, ← n) (omega (arith, mul-le-mul-right depth q))) in
-    (l, omega (arith, mul-le-mul-right depth q))
+    let w = words s c depth in let f = p .fits in
+    let l : length e ≡ length o = ap length (g .wrote) ∙ length-put o 0 (joined (iterations (loopsFrom s c 0 depth))) (omega arith) in
+    (l, rw (g .count) (omega arith))

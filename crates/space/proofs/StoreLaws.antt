@@ -1,6 +1,6 @@
--- A row written element by element.
+-- A row written element by element, then one element more.
 use mathlib.Core.Path.{_≡_, sym, _∙_, ap}
-use mathlib.Core.List.{List}
+use mathlib.Core.List.{List, [], _∷_, _++_}
 use Prim.Native.Nat.{ℕ, _+_, _≤_, _<_}
 use native.Mathlib.Omega.{arith}
 use native.Mathlib.Numerals.{add-one}
@@ -31,3 +31,6 @@ module _ (o row : List ℤ) (at : ℕ) (p : at + length row ≤ length o) (out :
 
   pub copy-done : j ≡ length row → out ≡ put o at row
   copy-done h = e ∙ ap (put o at) (ap (λ (m : ℕ). take m row) h ∙ take-length row)
+
+pub copy-one-more : (o row : List ℤ) (at : ℕ) (out : List ℤ) (v : ℤ) → at + length row < length o → out ≡ put o at row → set out (at + length row) v ≡ put o at (row ++ (v ∷ []))
+copy-one-more o row at out v h e = ap (λ (w : List ℤ). set w (at + length row) v) e ∙ set-put o at row v h

@@ -44,7 +44,7 @@ ones-ok = record {
 -- of its first loop, which has the one index 1
 pub ones-points : PointsIn (replicate 1536 (pos 1)) (replicate 12 1) 1 4096
 unfolding space survey _>>_ _>>=_ require any beyond lastOf partialPoints points flatMap indices ints span firstIndex lastIndex largest smallest value affine dot ceilDiv floorDiv loopsFrom loopAt limitsAt limitAt
-ones-points = record { nest = nest-part (replicate 1536 (pos 1)) (replicate 12 1) 6 1 ones-ok (omega arith); some = omega arith; near = admitted-near (loopsFrom (replicate 1536 (pos 1)) (replicate 12 1) 0 1) refl; few = admitted-few (loopsFrom (replicate 1536 (pos 1)) (replicate 12 1) 0 1) (omega arith) refl; fits = omega arith }
+ones-points = record { nest = nest-part (replicate 1536 (pos 1)) (replicate 12 1) 6 1 ones-ok (omega arith); some = omega arith; near = admitted-near (loopsFrom (replicate 1536 (pos 1)) (replicate 12 1) 0 1) refl; few = admitted-few (loopsFrom (replicate 1536 (pos 1)) (replicate 12 1) 0 1) (omega arith) refl; fits = let f = admitted-few (loopsFrom (replicate 1536 (pos 1)) (replicate 12 1) 0 1) (omega arith) refl in omega arith }
 
 pub ones-survey : SurveyIn (replicate 1536 (pos 1)) (replicate 12 1) 6 100000 65536
 ones-survey = record { nest = ones-ok; bounds = record { near = omega arith; few = omega arith } }

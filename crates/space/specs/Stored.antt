@@ -3,7 +3,7 @@ use mathlib.Core.Path.{_≡_}
 use mathlib.Core.List.{List, [], flatMap}
 use Prim.Native.Nat.{ℕ, _+_, _*_, _≤_}
 use lib.IntN.{ℤ}
-use lib.ListN.{length, take}
+use lib.ListN.{length}
 use Rattle.lists.specs.Parts.{rows, put}
 use Rattle.integers.specs.Affine.{Within}
 use Rattle.model.specs.Points.{iterations}
@@ -14,16 +14,18 @@ use Rattle.space.specs.Tallies.{through, Near}
 abbrev pub joined : List (List ℤ) → List ℤ
 joined ps = flatMap (λ p. p) ps
 
--- k indices of the point stand, and `left` loops are to go; there is room from place `at` on
-pub record CollectIn (s : List ℤ) (c : List ℕ) (k left : ℕ) (point : List ℤ) (room at : ℕ) : Type 0 where
+-- the k indices outside stand, and `left` loops are to go; there is room from place `at` on
+pub record CollectIn (s : List ℤ) (c : List ℕ) (k left : ℕ) (outer : List ℤ) (room at : ℕ) : Type 0 where
   pub nest : NestOk s c (k + left)
-  pub small : Within 100000 (take k point)
-  pub near : Near 100000 (loopsFrom s c k left) (take k point)
-  pub fits : at + length (joined (through (loopsFrom s c k left) (take k point))) ≤ room
+  pub stand : length outer ≡ k
+  pub some : 1 ≤ left
+  pub small : Within 100000 outer
+  pub near : Near 100000 (loopsFrom s c k left) outer
+  pub fits : at + length (joined (through (loopsFrom s c k left) outer)) ≤ room
 
-pub record Collected (s : List ℤ) (c : List ℕ) (k left : ℕ) (point o e : List ℤ) (at r : ℕ) : Type 0 where
-  pub place : r ≡ at + length (joined (through (loopsFrom s c k left) (take k point)))
-  pub wrote : e ≡ put o at (joined (through (loopsFrom s c k left) (take k point)))
+pub record Collected (s : List ℤ) (c : List ℕ) (k left : ℕ) (outer o e : List ℤ) (at r : ℕ) : Type 0 where
+  pub place : r ≡ at + length (joined (through (loopsFrom s c k left) outer))
+  pub wrote : e ≡ put o at (joined (through (loopsFrom s c k left) outer))
 
 -- a nest that was surveyed, with at most 4096 points, and room for them
 pub record PointsIn (s : List ℤ) (c : List ℕ) (depth room : ℕ) : Type 0 where
@@ -31,7 +33,7 @@ pub record PointsIn (s : List ℤ) (c : List ℕ) (depth room : ℕ) : Type 0 wh
   pub some : 1 ≤ depth
   pub near : Near 100000 (loopsFrom s c 0 depth) []
   pub few : length (iterations (loopsFrom s c 0 depth)) ≤ 4096
-  pub fits : 4096 * depth ≤ room
+  pub fits : length (iterations (loopsFrom s c 0 depth)) * depth ≤ room
 
 pub record Listed (s : List ℤ) (c : List ℕ) (depth : ℕ) (o e : List ℤ) (r : ℕ) : Type 0 where
   pub count : r ≡ length (iterations (loopsFrom s c 0 depth))

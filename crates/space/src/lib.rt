@@ -1,10 +1,10 @@
 // The iteration points of a loop nest: how many there are, whether one is far, and all of them in order. A nest is lent as flat slices (crate bounds),
 // the indices outside a loop as a slice.
 ghost use mathlib.Core.Path.{_≡_};
-ghost use mathlib.Core.List.{[], _∷_};
+ghost use mathlib.Core.List.{[], _∷_, _++_};
 ghost use Prim.Native.Nat.{suc, _+_, _≤_, _<_};
 ghost use lib.IntN.{pos, _+ℤ_};
-ghost use lib.ListN.{length, set};
+ghost use lib.ListN.{length, take, set};
 ghost use Rattle.lists.specs.Parts.{put};
 ghost use Rattle.bounds.specs.Flat.{loopAt};
 ghost use Rattle.bounds.specs.Ranges.{Narrow};
@@ -103,7 +103,8 @@ pub fn tally_points(
 
 // Whether every depth of a nest keeps its bounds, or the first that does not.
 pub enum Verdict {
-    Admitted,
+    // so many points
+    Admitted(usize),
     // document 01: far index
     FarIndex(usize),
     Crowded(usize),
@@ -114,6 +115,7 @@ pub fn survey(nest: &[i64], counts: &[usize], depth: usize, bound: usize, most: 
     requires { ⌜ SurveyIn (now nest) (now counts) depth bound most ⌝ }
     ensures { λ r. ⌜ Surveyed (now (nest .entry)) (now (counts .entry)) depth bound most r ⌝ }
 {
+    let mut count = 0;
     let mut level = 1;
     while level <= depth {
         let none = Tally {
@@ -127,9 +129,10 @@ pub fn survey(nest: &[i64], counts: &[usize], depth: usize, bound: usize, most: 
         if most < seen.count {
             return Verdict::Crowded(level);
         }
+        count = seen.count;
         level += 1;
     }
-    Verdict::Admitted
+    Verdict::Admitted(count)
 }
 
 // Writes a row into out from place at on.
@@ -144,6 +147,33 @@ pub fn store(out: &mut [i64], at: usize, row: &[i64])
     }
 }
 
+// Writes the indices outer, and after them the index t places after the first of a range.
+fn store_point(out: &mut [i64], at: usize, outer: &[i64], e: Ends, t: usize)
+    requires { ⌜ (at + length (now outer) < length (now out)) × Narrow (e .lo) × (t ≤ 68719476737) ⌝ }
+    ensures { λ _. ⌜ now (out .exit) ≡ put (now (out .entry)) at (now (outer .entry) ++ ((e .lo +ℤ pos t) ∷ [])) ⌝ }
+{
+    store(out, at, outer);
+    out[at + outer.len()] = e.lo + (t as i64);
+}
+
+// Writes the points that go on from the indices outer by one loop; returns the place after them.
+fn collect_last(nest: &[i64], counts: &[usize], outer: &[i64], out: &mut [i64], at: usize) -> usize
+    requires { ⌜ CollectIn (now nest) (now counts) (length (now outer)) 1 (now outer) (length (now out)) at ⌝ }
+    ensures { λ r. ⌜ Collected (now (nest .entry)) (now (counts .entry)) (length (now (outer .entry))) 1 (now (outer .entry)) (now (out .entry)) (now (out .exit)) at r ⌝ }
+{
+    let e = bounds::range(nest, counts, outer);
+    let n = bounds::count(e);
+    let width = outer.len() + 1;
+    let mut p = at;
+    let mut t = 0;
+    while t < n {
+        store_point(out, p, outer, e, t);
+        p += width;
+        t += 1;
+    }
+    p
+}
+
 // Writes the points that go on from the first k indices of a point by the next `left` loops into out, in order; returns the place after them.
 fn collect(
     nest: &[i64],
@@ -154,12 +184,11 @@ fn collect(
     out: &mut [i64],
     at: usize,
 ) -> usize
-    requires { ⌜ CollectIn (now nest) (now counts) k left point (length (now out)) at ⌝ }
-    ensures { λ r. ⌜ Collected (now (nest .entry)) (now (counts .entry)) k left point (now (out .entry)) (now (out .exit)) at r ⌝ }
+    requires { ⌜ CollectIn (now nest) (now counts) k left (take k point) (length (now out)) at ⌝ }
+    ensures { λ r. ⌜ Collected (now (nest .entry)) (now (counts .entry)) k left (take k point) (now (out .entry)) (now (out .exit)) at r ⌝ }
 {
-    if left == 0 {
-        store(out, at, &point[..k]);
-        return at + k;
+    if left == 1 {
+        return collect_last(nest, counts, &point[..k], out, at);
     }
     let e = bounds::range(nest, counts, &point[..k]);
     let n = bounds::count(e);

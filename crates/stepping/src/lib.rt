@@ -43,7 +43,7 @@ fn nest_after(nest: Nest, step: Step) -> Stepped
         }
         Step::Strip(e) => {
             let a = e.target;
-            let w = e.width as u64;
+            let w = e.width as u32;
             restructure::sectioned(nest, a, w)
         }
     }

@@ -20,7 +20,7 @@ use steps::Step;
 
 // ---- after a step
 
-fn row_after(cs: [i64; 6], n: usize, step: Step) -> [i64; 6]
+fn row_after(cs: [i32; 6], n: usize, step: Step) -> [i32; 6]
     requires { ⌜ StepFits n step × Within 32767 (take n cs) ⌝ }
     ensures { λ r. ⌜ RowIs (depthAfter (stepOf step) n) r (coefficientsAfter (stepOf step) (take n cs)) ⌝ }
 {
@@ -41,7 +41,7 @@ fn row_after(cs: [i64; 6], n: usize, step: Step) -> [i64; 6]
         }
         Step::Strip(e) => {
             let a = e.target;
-            let w = e.width as u64;
+            let w = e.width as u32;
             limits::split(cs, n, a, w)
         }
     }

@@ -24,25 +24,14 @@ use Rattle.directions.specs.declared.DirectionSet.{DirectionSet}
 use Rattle.sheet.specs.declared.Sheet.{Sheet}
 use Rattle.sheet.specs.Sheets as Sheet
 use Rattle.sheet.proofs.StageLaws.{depth-is}
-use Rattle.lines.specs.Lines.{LinesIn, LinesAre, Shows}
-use Rattle.lines.proofs.MarkLaws.{lines-in}
-use Rattle.lines.proofs.DirectionLaws.{directions-are}
+use Rattle.lines.specs.Lines.{Admitted, DirectionsAre}
 use Rattle.layout.specs.Sheets.{modelOf}
 use Rattle.intake.specs.declared.Intake.{Intake}
 use Rattle.intake.specs.Intake.{Taken, Admits}
 use Rattle.judgement.specs.Judgement.{judgedAs, JudgeIn, New, Judges}
 use Rattle.judgement.specs.declared.Judged.{Judged}
 use Rattle.verdict.specs.declared.Decided.{Decided}
-use Rattle.verdict.specs.Verdicts.{DirectionsIn, DirectionsAre, newOf, Settled, Decides}
-
--- ---- directions
-
-module _ (P : Sheet) (points : List ℤ) (n : ℕ) (h : DirectionsIn P points n) where
-  pub marks-in : LinesIn P points n (replicate 34992 false)
-  marks-in = lines-in P points n (h .sheet) (h .points-are) (h .formed) (h .admitted-is)
-
-  pub directions-out : (marks : _) (s : DirectionSet) → LinesAre P marks → Shows marks (P .statements) (P .depth) s → DirectionsAre P s
-  directions-out marks s l q = record { depth = q .depth; vectors = directions-are P marks s l q }
+use Rattle.verdict.specs.Verdicts.{newOf, Settled, Decides}
 
 -- ---- a refusal, whatever stands beside it
 
@@ -70,7 +59,7 @@ module _ (b : List ℕ) (o e : List ℤ) (a : Intake) (h : Admits b o e a) where
     t : Taken (a .ticket) (a .sheet) e (a .count)
     t = h .taken s
 
-    pub directions-in : DirectionsIn (a .sheet) e (a .count)
+    pub directions-in : Admitted (a .sheet) e (a .count)
     directions-in = record {
       sheet = t .sheet;
       points-are = t .points-are;

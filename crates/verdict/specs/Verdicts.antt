@@ -26,17 +26,6 @@ use Rattle.layout.specs.Sheets.{modelOf}
 use Rattle.judgement.specs.Judgement.{judgedAs}
 use Rattle.verdict.specs.declared.Decided.{Decided}
 
--- an admitted nest on its sheet, and its points
-pub record DirectionsIn (P : Sheet) (points : List ℤ) (n : ℕ) : Type 0 where
-  pub sheet : SheetIn P
-  pub points-are : PointsAre P points n
-  pub formed : WellFormed (Sheet.nestOf P)
-  pub admitted-is : admitted (Sheet.nestOf P) ≡ accepted tt
-
-pub record DirectionsAre (P : Sheet) (s : DirectionSet) : Type 0 where
-  pub depth : s .depth ≡ P .depth
-  pub vectors : SameMembers (vectorsOf s) (directionsOf (Sheet.nestOf P))
-
 -- the new nest of the answer
 abbrev pub newOf : Decided → Model.Nest
 newOf r = modelOf (r .nest) (r .ticket .arrays) (r .body)

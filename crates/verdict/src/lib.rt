@@ -1,13 +1,14 @@
 // From any bytes to a verdict: refusals 1 to 13, and the new nest.
 ghost use mathlib.Core.Path.{_≡_};
+ghost use lib.ListN.{length};
 ghost use Rattle.reading.specs.declared.Status.the-variants.{Refused};
-ghost use Rattle.verdict.specs.Verdicts.{DirectionsIn, DirectionsAre, Decides};
+ghost use Rattle.intake.specs.Intake.{Waits};
+ghost use Rattle.verdict.specs.Verdicts.{Decides};
 use body::Body;
-use directions::DirectionSet;
+use intake::Intake;
 use nest::Nest;
 use reading::Refusal;
 use reading::Status;
-use sheet::Sheet;
 use ticket::Ticket;
 
 // Where the status is Fine: the ticket and how many iterations it has; the new nest and its statements.
@@ -33,30 +34,20 @@ fn refused(r: Refusal, ticket: Ticket) -> Decided
     }
 }
 
-// The directions of an admitted nest.
-fn directions_in(sheet: Sheet, points: &[i64], count: usize) -> DirectionSet
-    requires { ⌜ DirectionsIn sheet (now points) count ⌝ }
-    ensures { λ r. ⌜ DirectionsAre sheet r ⌝ }
-{
-    let mut marks = [false; 34992];
-    lines::mark_lines(sheet, points, count, &mut marks);
-    lines::directions_of(&marks, sheet.statements, sheet.depth)
-}
-
-pub fn decide(bytes: &[u8]) -> Decided
+// Refusals 9 to 13 of what was received of the bytes.
+fn decide_by(bytes: &[u8], all: Intake, points: &mut [i64]) -> Decided
+    requires { ⌜ Waits (now bytes) all (length (now points)) ⌝ }
     ensures { λ r. ⌜ Decides (now (bytes .entry)) r ⌝ }
 {
-    let mut points = [0i64; 16384];
-    let all = intake::admit(bytes, &mut points);
     let ticket = all.ticket;
     let sheet = all.sheet;
     let count = all.count;
-    let status = all.status;
+    let status = intake::admit(bytes, all, points);
     match status {
         Status::Fine => {}
         Status::Refused(r) => return refused(r, ticket),
     }
-    let set = directions_in(sheet, &points, count);
+    let set = lines::directions_in(sheet, points, count);
     let new = judgement::judge_ticket(ticket, set);
     let verdict = new.status;
     let nest = new.nest;
@@ -68,4 +59,23 @@ pub fn decide(bytes: &[u8]) -> Decided
         nest: nest,
         body: body,
     }
+}
+
+// Few points have fewer indices to clear.
+pub fn decide(bytes: &[u8]) -> Decided
+    ensures { λ r. ⌜ Decides (now (bytes .entry)) r ⌝ }
+{
+    let all = intake::receive(bytes);
+    let ticket = all.ticket;
+    let status = all.status;
+    match status {
+        Status::Fine => {}
+        Status::Refused(r) => return refused(r, ticket),
+    }
+    if all.count <= 256 {
+        let mut few = [0i64; 1024];
+        return decide_by(bytes, all, &mut few);
+    }
+    let mut points = [0i64; 16384];
+    decide_by(bytes, all, &mut points)
 }

@@ -8,7 +8,7 @@ use native.Mathlib.Omega.{arith}
 use lib.IntN.{ℤ, pos, negsuc}
 use lib.ListN.{length, getD, take, drop, set, length-append}
 use lib.Seq.{take-suc, take-add, length-take-le, getD-take}
-use mir.Syntax.{w64}
+use mir.Syntax.{w32}
 use mir.Val.{toZ, ofZ, SFits}
 use mir.Facts.{toZ-ofZ}
 use Rattle.lists.specs.Membership.{All}
@@ -134,16 +134,16 @@ pub word-written : (o o′ : List ℕ) (at : ℕ) (w : ℤ) (v r : ℕ) → v �
 unfolding bytesOf wordBytes flatMap
 word-written o o′ at w v r q e h = record { same = e ∙ ap (λ b. put o at (b % 256 ∷ b / 256 ∷ [])) q; next = h }
 
-pub small-fits : (z : ℤ) → Small z → SFits w64 z
+pub small-fits : (z : ℤ) → Small z → SFits w32 z
 small-fits (pos n) s = record { sfits = omega arith }
 small-fits (negsuc n) s = record { sfits = omega arith }
 
 -- a word that was passed on as bits
-pub kept : {o : List ℕ} {at : ℕ} {rest : List ℤ} (z : ℤ) → Writable o at (z ∷ rest) → toZ w64 (ofZ w64 z) ≡ z
+pub kept : {o : List ℕ} {at : ℕ} {rest : List ℤ} (z : ℤ) → Writable o at (z ∷ rest) → toZ w32 (ofZ w32 z) ≡ z
 kept z h = toZ-ofZ (small-fits z (h .small z (List·Memᴰ·head refl)))
 
-pub kept-room : {o : List ℕ} {at : ℕ} {rest : List ℤ} (z : ℤ) → Writable o at (z ∷ rest) → Writable o at (toZ w64 (ofZ w64 z) ∷ [])
+pub kept-room : {o : List ℕ} {at : ℕ} {rest : List ℤ} (z : ℤ) → Writable o at (z ∷ rest) → Writable o at (toZ w32 (ofZ w32 z) ∷ [])
 kept-room {o} {at} {rest} z h = rw (kept z h) (writable-left (z ∷ []) rest h)
 
-pub kept-written : {o o′ : List ℕ} {at r : ℕ} {rest : List ℤ} (z : ℤ) → Writable o at (z ∷ rest) → Written o o′ at (toZ w64 (ofZ w64 z) ∷ []) r → Written o o′ at (z ∷ []) r
+pub kept-written : {o o′ : List ℕ} {at r : ℕ} {rest : List ℤ} (z : ℤ) → Writable o at (z ∷ rest) → Written o o′ at (toZ w32 (ofZ w32 z) ∷ []) r → Written o o′ at (z ∷ []) r
 kept-written z h w = rw (kept z h) at w

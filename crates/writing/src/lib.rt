@@ -24,7 +24,7 @@ fn put_bits(out: &mut [u8], at: usize, v: usize)
 }
 
 // Two's complement in 16 bits.
-fn bits_of(w: i64) -> usize
+fn bits_of(w: i32) -> usize
     requires { ⌜ natAbs w ≤ 32767 ⌝ }
     ensures { λ r. ⌜ (r ≡ bits w) × (r < 65536) ⌝ }
 {
@@ -35,7 +35,7 @@ fn bits_of(w: i64) -> usize
     }
 }
 
-pub fn put_word(out: &mut [u8], at: usize, w: i64) -> usize
+pub fn put_word(out: &mut [u8], at: usize, w: i32) -> usize
     requires { ⌜ Writable (now out) at (w ∷ []) ⌝ }
     ensures { λ r. ⌜ Written (now (out .entry)) (now (out .exit)) at (w ∷ []) r ⌝ }
 {
@@ -53,7 +53,7 @@ pub fn put_natural(out: &mut [u8], at: usize, n: usize) -> usize
 }
 
 // The first n numbers of a row.
-pub fn put_row(out: &mut [u8], at: usize, n: usize, row: [i64; 6]) -> usize
+pub fn put_row(out: &mut [u8], at: usize, n: usize, row: [i32; 6]) -> usize
     requires { ⌜ Writable (now out) at (take n row) × (n ≤ 6) × (length row ≡ 6) ⌝ }
     ensures { λ r. ⌜ Written (now (out .entry)) (now (out .exit)) at (take n row) r ⌝ }
 {

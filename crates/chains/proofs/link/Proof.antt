@@ -1,21 +1,23 @@
--- `link` meets its contract. The loop's invariant: the heads are those of the places before y, and the links before y are there.
+-- `link` meets its contract. The loop's invariant: the heads are those of the places before y, and the links before y are there; `any`
+-- tells whether one is.
 use mathlib.Core.Path.{_≡_, refl, _∙_, subst}
+use mathlib.Core.Bool.{false}
 use mathlib.Core.Logic.{⊎-elim, inl, inr}
 use Prim.Native.Nat.{ℕ, _+_, _-_, _≤_, _<_}
 use native.Mathlib.Omega.{arith}
 use lib.ListN.{length, getD, set, length-set}
 use borrow.Author.Needs.{needs}
 use borrow.Author.Count.{below-none}
-use Rattle.chains.specs.Search.{latest, upTo, ClearElse}
-use Rattle.chains.proofs.ChainLaws.{Heads, heads-none, heads-more, heads-else, links-more, link-turn}
+use Rattle.chains.specs.Search.{latest, upTo, Unlinked, ClearElse}
+use Rattle.chains.proofs.ChainLaws.{Heads, heads-none, heads-more, heads-else, links-more, unlinked-more, link-turn}
 use Rattle.chains.proofs.link.Statement.{statement}
 use Rattle.chains.proofs.link.Tie as tie
 
 abbrev Inv-loop : tie.InvT-loop
-Inv-loop from to own head₀ out₀ y₀ head out y = (y ≤ length from) × (length head ≡ length head₀) × (length out ≡ length out₀) × Heads from head y × ((k : ℕ) → k < y → getD out k 0 ≡ latest from (getD to k 0) (upTo own k))
+Inv-loop from to own head₀ out₀ any₀ y₀ head out any y = (y ≤ length from) × (length head ≡ length head₀) × (length out ≡ length out₀) × Heads from head y × ((k : ℕ) → k < y → getD out k 0 ≡ latest from (getD to k 0) (upTo own k)) × (any ≡ false → Unlinked y out)
 
 abbrev μ-loop : tie.MeasureT-loop
-μ-loop from to own head₀ out₀ y₀ head out y = length from - y
+μ-loop from to own head₀ out₀ any₀ y₀ head out any y = length from - y
 
 -- the two elements
 e-lt : (c : tie.After-wide Inv-loop μ-loop) → c .wide .result < 16384
@@ -43,7 +45,7 @@ link-is c = let s = c .before .before .before .before .before .before .before .b
     (⊎-elim (λ w. inl (w .0 .taken, w .2)) (λ w. inr (w .0 .left, w .1)) (c .if1 .came))
 
 loop-holds : tie.Need-loop-holds Inv-loop μ-loop
-loop-holds c = let s = c .before .before .before .before in (omega arith, refl, refl, heads-none (s .args .from .now) (s .args .head .now) (s .pre .clear), below-none _)
+loop-holds c = let s = c .before .before .before .before in (omega arith, refl, refl, heads-none (s .args .from .now) (s .args .head .now) (s .pre .clear), below-none _, λ _. below-none _)
 
 mul-wide : tie.Need-mul-wide Inv-loop μ-loop
 mul-wide c = search needs
@@ -107,6 +109,7 @@ loop-again c = let s = c .before .before .before .before .before .before .before
       simp length-set (l .inv .2),
       heads-next (c .before),
       links-more (s .args .from .now) (s .args .to .now) (s .args .own) (l .out) (l .y) (c .if1 .l) (omega (arith, s .pre .room, l .inv .2)) (link-is c) (l .inv .4),
+      unlinked-more (l .out) (l .any) (l .y) (c .if1 .l) (omega (arith, s .pre .room, l .inv .2)) (l .inv .5),
     )
 
 clear-requires : tie.Need-clear-requires Inv-loop μ-loop
@@ -120,7 +123,8 @@ same-length-2 : tie.Need-same-length-2 Inv-loop μ-loop
 same-length-2 c = c .before .before .before .before .before .loop .inv .2
 
 returns : tie.Need-returns Inv-loop μ-loop
-returns c = ((λ y h. c .before .before .before .before .before .loop .inv .4 y (let t = c .before .before .before .before .loop-test .left in omega arith)), c .before .before .clear .ensures)
+returns c = let i = c .before .before .before .before .before .loop .inv in let t = c .before .before .before .before .loop-test .left in
+    (λ y h. i .4 y (omega arith), c .before .before .clear .ensures, λ e y h. i .5 e y (omega arith))
 
 pub link-spec : {M : Type 1} → statement M
 link-spec =

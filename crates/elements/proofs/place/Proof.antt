@@ -1,102 +1,42 @@
--- `place`: r is the place by the first d dimensions.
-use mathlib.Core.Path.{_≡_}
-use Prim.Native.Nat.{_-_, _≤_, _<_}
-use native.Mathlib.Omega.{arith}
-use Rattle.elements.proofs.PlaceLaws.{owner-ends, flat, partialAt, roomAt, start, index-in, more, more-room, partial-small, index-small, place-small, place-is}
+-- `place`: the form's numbers are lent to `affine`, whose value is not negative.
+use borrow.Author.Needs.{needs}
+use Rattle.elements.proofs.FormLaws.{value-lent, value-cast, value-result}
 use Rattle.elements.proofs.place.Statement.{statement}
 use Rattle.elements.proofs.place.Tie as tie
 
-abbrev Inv-loop : tie.InvT-loop
-Inv-loop words owners arrays k b point at dimensions r₀ d₀ r d = (d ≤ dimensions) × (r ≡ partialAt words owners arrays k point d) × (r < roomAt owners arrays k d)
+shared-slice-copy-out-affine : tie.Need-shared-slice-copy-out-affine
+shared-slice-copy-out-affine c = search needs
 
-abbrev μ-loop : tie.MeasureT-loop
-μ-loop words owners arrays k b point at dimensions r₀ d₀ r d = dimensions - d
+add-affine : tie.Need-add-affine
+add-affine c = search needs
 
-mul-at : tie.Need-mul-at Inv-loop μ-loop
-mul-at c = let s = c .before .before in let e = owner-ends (s .pre) in let f = flat (s .pre) in let t = s .pre .there in let m = s .pre .accesses .many in let g = s .pre .accesses .few in omega arith
+sub-affine : tie.Need-sub-affine
+sub-affine c = search needs
 
-shared-slice-read-at : tie.Need-shared-slice-read-at Inv-loop μ-loop
-shared-slice-read-at c = c .before .before .before .pre .there
+part-affine-start : tie.Need-part-affine-start
+part-affine-start c = search needs
 
-mul-at-2 : tie.Need-mul-at-2 Inv-loop μ-loop
-mul-at-2 c = let s = c .before .before .before in let e = owner-ends (s .pre) in let f = flat (s .pre) in let t = s .pre .there in let m = s .pre .accesses .many in let g = s .pre .accesses .few in omega arith
+part-affine-end : tie.Need-part-affine-end
+part-affine-end c = search needs
 
-mul-dimensions : tie.Need-mul-dimensions Inv-loop μ-loop
-mul-dimensions c = let s = c .before .before .before in let e = owner-ends (s .pre) in let f = flat (s .pre) in let t = s .pre .there in let m = s .pre .accesses .many in let g = s .pre .accesses .few in omega arith
+affine-requires : tie.Need-affine-requires
+affine-requires c κs = value-lent (c .before .before .pre)
 
-shared-slice-read-dimensions : tie.Need-shared-slice-read-dimensions Inv-loop μ-loop
-shared-slice-read-dimensions c = let s = c .before .before .before .before in let e = owner-ends (s .pre) in let f = flat (s .pre) in let t = s .pre .there in let m = s .pre .accesses .many in let g = s .pre .accesses .few in omega arith
+cast-result : tie.Need-cast-result
+cast-result c = value-cast (c .before .before .before .pre) (c .affine .ensures)
 
-loop-holds : tie.Need-loop-holds Inv-loop μ-loop
-loop-holds c = let s = c .before .before .before .before in let g = start (s .pre) in (omega arith, g .0, g .1)
-
-add-r : tie.Need-add-r Inv-loop μ-loop
-add-r c = let s = c .before .before .before .before .before .before in let e = owner-ends (s .pre) in let f = flat (s .pre) in let t = s .pre .there in let m = s .pre .accesses .many in let g = s .pre .accesses .few in omega arith
-
-add-r-2 : tie.Need-add-r-2 Inv-loop μ-loop
-add-r-2 c = let s = c .before .before .before .before .before .before in let e = owner-ends (s .pre) in let f = flat (s .pre) in let t = s .pre .there in let m = s .pre .accesses .many in let g = s .pre .accesses .few in let v = c .loop-test .taken in omega arith
-
-mul-r : tie.Need-mul-r Inv-loop μ-loop
-mul-r c = let s = c .before .before .before .before .before .before in let e = owner-ends (s .pre) in let f = flat (s .pre) in let t = s .pre .there in let m = s .pre .accesses .many in let g = s .pre .accesses .few in let v = c .loop-test .taken in omega arith
-
-shared-slice-read-r : tie.Need-shared-slice-read-r Inv-loop μ-loop
-shared-slice-read-r c = let s = c .before .before .before .before .before .before .before in let e = owner-ends (s .pre) in let f = flat (s .pre) in let t = s .pre .there in let m = s .pre .accesses .many in let g = s .pre .accesses .few in let v = c .before .loop-test .taken in omega arith
-
-mul-r-2 : tie.Need-mul-r-2 Inv-loop μ-loop
-mul-r-2 c = let s = c .before .before .before .before .before .before .before in let l = c .before .before .loop in let q = partial-small (s .pre) (c .before .loop-test .taken) (l .r) (l .inv .2) in record { fits = omega arith }
-
-mul-index : tie.Need-mul-index Inv-loop μ-loop
-mul-index c = let s = c .before .before .before .before .before .before .before in let e = owner-ends (s .pre) in let f = flat (s .pre) in let t = s .pre .there in let m = s .pre .accesses .many in let g = s .pre .accesses .few in omega arith
-
-add-index : tie.Need-add-index Inv-loop μ-loop
-add-index c = let s = c .before .before .before .before .before .before .before in let e = owner-ends (s .pre) in let f = flat (s .pre) in let t = s .pre .there in let m = s .pre .accesses .many in let g = s .pre .accesses .few in let v = c .before .loop-test .taken in omega arith
-
-index-requires : tie.Need-index-requires Inv-loop μ-loop
-index-requires c κs = let s = c .before .before .before .before .before .before .before in index-in (s .pre) (c .before .loop-test .taken)
-
-add-r-3 : tie.Need-add-r-3 Inv-loop μ-loop
-add-r-3 c = let s = c .before .before .before .before .before .before .before .before in let l = c .before .before .before .loop in let v = c .before .before .loop-test .taken in let q = partial-small (s .pre) v (l .r) (l .inv .2) in let i = index-small (s .pre) v in let x = c .index .ensures in record { fits = omega arith }
-
-add-d : tie.Need-add-d Inv-loop μ-loop
-add-d c = let s = c .before .before .before .before .before .before .before .before in let e = owner-ends (s .pre) in let f = flat (s .pre) in let t = s .pre .there in let m = s .pre .accesses .many in let g = s .pre .accesses .few in let v = c .before .before .loop-test .taken in omega arith
-
-loop-less : tie.Need-loop-less Inv-loop μ-loop
-loop-less c = let v = c .before .before .loop-test .taken in omega arith
-
-loop-again : tie.Need-loop-again Inv-loop μ-loop
-loop-again c = let s = c .before .before .before .before .before .before .before .before in let l = c .before .before .before .loop in let v = c .before .before .loop-test .taken in
-    (omega arith, more (s .pre) v (l .inv .1) (l .inv .2) (c .index .ensures), more-room (s .pre) v (l .inv .1) (l .inv .2) (c .index .ensures))
-
-add-result : tie.Need-add-result Inv-loop μ-loop
-add-result c = let s = c .before .before .before .before .before .before in let l = c .before .loop in let q = place-small (s .pre) (l .inv .0) (c .loop-test .left) (l .inv .1) (l .inv .2) in record { fits = omega arith }
-
-returns : tie.Need-returns Inv-loop μ-loop
-returns c = let s = c .before .before .before .before .before .before in let l = c .before .loop in
-    (place-is (s .pre) (l .inv .0) (c .loop-test .left) (l .inv .1) (l .inv .2), place-small (s .pre) (l .inv .0) (c .loop-test .left) (l .inv .1) (l .inv .2))
+returns : tie.Need-returns
+returns c = value-result (c .before .before .before .pre) (c .affine .ensures)
 
 pub place-spec : {M : Type 1} → statement M
 place-spec =
     tie.close
     (tie.spec
-    Inv-loop
-    μ-loop
-    mul-at
-    shared-slice-read-at
-    mul-at-2
-    mul-dimensions
-    shared-slice-read-dimensions
-    loop-holds
-    add-r
-    add-r-2
-    mul-r
-    shared-slice-read-r
-    mul-r-2
-    mul-index
-    add-index
-    index-requires
-    add-r-3
-    add-d
-    loop-less
-    loop-again
-    add-result
+    shared-slice-copy-out-affine
+    add-affine
+    sub-affine
+    part-affine-start
+    part-affine-end
+    affine-requires
+    cast-result
     returns)

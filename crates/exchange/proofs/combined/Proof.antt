@@ -4,7 +4,7 @@ use Prim.Native.Nat.{_+_}
 use native.Mathlib.Omega.{arith}
 use native.Mathlib.Nat.{mul-le-mul}
 use lib.IntN.{pos}
-use mir.Syntax.{w64}
+use mir.Syntax.{w32}
 use mir.Val.{toZ, ofZ}
 use borrow.Author.Needs.{needs}
 use Rattle.integers.proofs.RangeLaws.{sfits}
@@ -41,11 +41,11 @@ returns c =
     let s = c .before .before .before .before .before .before .before .before .before in
     let b = c .before .before .before in
     let l = numbers (s .args .a + 1) (s .args .l) (s .pre .2) in let m = numbers (s .args .a) (s .args .m) (s .pre .3) in
-    let x : toZ w64 (ofZ w64 (s .args .l .constant)) ≡ s .args .l .constant = small-back (s .args .l .constant) (l .constant) in
-    let y : toZ w64 (ofZ w64 (s .args .m .constant)) ≡ s .args .m .constant = small-back (s .args .m .constant) (m .constant) in
-    let z : toZ w64 (ofZ w64 (s .args .c)) ≡ s .args .c = small-back (s .args .c) (s .pre .1) in
-    let q : toZ w64 (s .args .m .multiplier) ≡ pos (s .args .m .multiplier) = read-multiplier (s .args .m .multiplier) (m .multiplier) in
-    let e : toZ w64 (ofZ w64 (b .blend .result)) ≡ b .blend .result = search needs in
+    let x : toZ w32 (ofZ w32 (s .args .l .constant)) ≡ s .args .l .constant = small-back (s .args .l .constant) (l .constant) in
+    let y : toZ w32 (ofZ w32 (s .args .m .constant)) ≡ s .args .m .constant = small-back (s .args .m .constant) (m .constant) in
+    let z : toZ w32 (ofZ w32 (s .args .c)) ≡ s .args .c = small-back (s .args .c) (s .pre .1) in
+    let q : toZ w32 (s .args .m .multiplier) ≡ pos (s .args .m .multiplier) = read-multiplier (s .args .m .multiplier) (m .multiplier) in
+    let e : toZ w32 (ofZ w32 (b .blend .result)) ≡ b .blend .result = search needs in
     combined-is (s .args .a) (s .args .c) (s .args .l) (s .args .m) _ _ (e ∙ b .blend .ensures ∙ simp (x, y, z, q))
     (record { is = c .before .before .mix .ensures .is ∙ simp (z, q); room = c .before .before .mix .ensures .room })
 

@@ -3,7 +3,7 @@ use mathlib.Core.List.{[], _∷_, map, flatMap}
 use Prim.Native.Nat.{_+_, _-_, _≤_}
 use native.Mathlib.Omega.{arith}
 use lib.ListN.{length, take}
-use mir.Syntax.{w64}
+use mir.Syntax.{w32}
 use mir.Val.{toZ, ofZ}
 use borrow.Author.Needs.{needs}
 use Rattle.lists.proofs.FlatMapLaws.{flatMap-single}
@@ -18,7 +18,7 @@ use Rattle.exchange.proofs.push_combined.Statement.{statement}
 use Rattle.exchange.proofs.push_combined.Tie as tie
 
 abbrev Inv-loop : tie.InvT-loop
-Inv-loop a c l count limits g₀ k₀ g k = (k ≤ count) × Adds a g₀ (flatMap (λ m. combined a (toZ w64 c) (limitOf (a + 1) l) m ∷ []) (map (limitOf a) (take k limits))) g
+Inv-loop a c l count limits g₀ k₀ g k = (k ≤ count) × Adds a g₀ (flatMap (λ m. combined a (toZ w32 c) (limitOf (a + 1) l) m ∷ []) (map (limitOf a) (take k limits))) g
 
 abbrev μ-loop : tie.MeasureT-loop
 μ-loop a c l count limits g₀ k₀ g k = count - k
@@ -27,7 +27,7 @@ len : (c : tie.Start Inv-loop μ-loop) → length (c .args .side .limits) ≡ 16
 len c = search needs
 
 loop-holds : tie.Need-loop-holds Inv-loop μ-loop
-loop-holds c = let s = c .before in (omega arith, adds-start (λ m. combined (s .args .a) (toZ w64 (ofZ w64 (s .args .c))) (limitOf (s .args .a + 1) (s .args .l)) m ∷ []) (s .args .a) (s .args .a) (s .args .side .limits) (s .args .f) (s .pre .1 .filling))
+loop-holds c = let s = c .before in (omega arith, adds-start (λ m. combined (s .args .a) (toZ w32 (ofZ w32 (s .args .c))) (limitOf (s .args .a + 1) (s .args .l)) m ∷ []) (s .args .a) (s .args .a) (s .args .side .limits) (s .args .f) (s .pre .1 .filling))
 
 mul-m : tie.Need-mul-m Inv-loop μ-loop
 mul-m c = search needs
@@ -61,7 +61,7 @@ loop-again c =
     let w = s .pre .1 .within .few in
     let x = c .before .combined in (
       omega arith,
-      adds-more (λ m. combined (s .args .a) (toZ w64 (ofZ w64 (s .args .c))) (limitOf (s .args .a + 1) (s .args .l)) m ∷ []) (s .args .a) (s .args .a) (b .loop .k) (s .args .side .limits) _ (omega arith) (b .loop .inv .1)
+      adds-more (λ m. combined (s .args .a) (toZ w32 (ofZ w32 (s .args .c))) (limitOf (s .args .a + 1) (s .args .l)) m ∷ []) (s .args .a) (s .args .a) (b .loop .k) (s .args .side .limits) _ (omega arith) (b .loop .inv .1)
           (adds-same (s .args .a) (ap (_∷ []) (x .ensures .is)) (c .push .ensures)),
     )
 
@@ -72,7 +72,7 @@ returns c =
     let s = b .before .before in
     let w = s .pre .1 .within .few in
     let e : b .loop .k ≡ s .args .side .count = omega arith in
-    let q : toZ w64 (ofZ w64 (s .args .c)) ≡ s .args .c = small-back (s .args .c) (s .pre .0) in
+    let q : toZ w32 (ofZ w32 (s .args .c)) ≡ s .args .c = small-back (s .args .c) (s .pre .0) in
     simp (e, q, flatMap-single) at (b .loop .inv .1)
 
 pub push-combined-spec : {M : Type 1} → statement M

@@ -4,7 +4,7 @@ use Prim.Native.Nat.{_+_, _≤_}
 use native.Mathlib.Omega.{arith}
 use lib.IntN.{ℤ, pos}
 use lib.ListN.{length, getD}
-use mir.Syntax.{w64}
+use mir.Syntax.{w32}
 use mir.Val.{toZ, ofZ}
 use borrow.Author.Needs.{needs}
 use Rattle.integers.specs.Difference.{size}
@@ -32,7 +32,7 @@ module _ (c : tie.After-c) where
   at-c : size z ≤ 32767
   at-c = front-at (s .args .a + 1) (s .args .l .coefficients) (s .args .a) (omega arith) (numbers (s .args .a + 1) (s .args .l) (s .pre .with-same .limit) .coefficients)
 
-  reads-c : toZ w64 (ofZ w64 z) ≡ z
+  reads-c : toZ w32 (ofZ w32 z) ≡ z
   reads-c = small-back _ at-c
 
 not-zero : (c : tie.Else1) → z (c .before) ≡ pos 0 → ⊥

@@ -1,6 +1,6 @@
 use mathlib.Core.Path.{_≡_, sym, _∙_}
 use mathlib.Core.List.{[]}
-use mir.Syntax.{w64}
+use mir.Syntax.{w32}
 use mir.Val.{toZ, ofZ}
 use borrow.Author.Needs.{needs}
 use borrow.Author.Tests.{not-true, not-false}
@@ -12,8 +12,8 @@ use Rattle.exchange.proofs.same_limit.Tie as tie
 test : (c : tie.After-equal) → eqZ (c .before .before .before .before .before .before .args .l .constant) (c .before .before .before .before .before .before .args .m .constant) ≡ c .equal .result
 test c =
     let s = c .before .before .before .before .before .before in
-    let x : toZ w64 (ofZ w64 (s .args .l .constant)) ≡ s .args .l .constant = search needs in
-    let y : toZ w64 (ofZ w64 (s .args .m .constant)) ≡ s .args .m .constant = search needs in
+    let x : toZ w32 (ofZ w32 (s .args .l .constant)) ≡ s .args .l .constant = search needs in
+    let y : toZ w32 (ofZ w32 (s .args .m .constant)) ≡ s .args .m .constant = search needs in
     sym (c .equal .ensures ∙ simp (x, y))
 
 returns : tie.Need-returns

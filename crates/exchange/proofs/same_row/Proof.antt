@@ -4,7 +4,7 @@ use Prim.Native.Nat.{ℕ, _-_, _≤_}
 use native.Mathlib.Omega.{arith}
 use lib.IntN.{pos}
 use lib.ListN.{length, getD, take}
-use mir.Syntax.{w64}
+use mir.Syntax.{w32}
 use mir.Val.{toZ, ofZ}
 use borrow.Author.Needs.{needs}
 use borrow.Author.Tests.{not-true, not-false}
@@ -23,8 +23,8 @@ test : (c : tie.After-equal Inv-loop μ-loop) → eqZ (getD (c .before .before .
 test c =
     let d = c .before .before .before .before in
     let s = d .before in
-    let x : toZ w64 (ofZ w64 (getD (s .args .t1) (d .loop .k) (pos 0))) ≡ getD (s .args .t1) (d .loop .k) (pos 0) = search needs in
-    let y : toZ w64 (ofZ w64 (getD (s .args .t2) (d .loop .k) (pos 0))) ≡ getD (s .args .t2) (d .loop .k) (pos 0) = search needs in
+    let x : toZ w32 (ofZ w32 (getD (s .args .t1) (d .loop .k) (pos 0))) ≡ getD (s .args .t1) (d .loop .k) (pos 0) = search needs in
+    let y : toZ w32 (ofZ w32 (getD (s .args .t2) (d .loop .k) (pos 0))) ≡ getD (s .args .t2) (d .loop .k) (pos 0) = search needs in
     sym (c .equal .ensures ∙ simp (x, y))
 
 loop-holds : tie.Need-loop-holds Inv-loop μ-loop

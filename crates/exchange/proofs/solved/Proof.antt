@@ -5,13 +5,13 @@ use native.Mathlib.Omega.{arith}
 use lib.IntN.{ℤ, pos, negℤ}
 use lib.Signed.{_≤ℤ_, _<ℤ_}
 use lib.ListN.{length, getD}
-use mir.Syntax.{w64}
+use mir.Syntax.{w32}
 use mir.Val.{toZ, ofZ}
 use borrow.Author.Needs.{needs}
 use Rattle.integers.specs.Difference.{size}
-use Rattle.integers.proofs.RangeLaws.{size-neg, sfits, cast-ok, test-lt, test-lt-no}
+use Rattle.integers.proofs.RangeLaws.{size-neg, sfits, test-lt, test-lt-no}
 use Rattle.integers.proofs.RingLaws.{<ℤ-≤ℤ}
-use Rattle.limits.proofs.NumberLaws.{small-fits, small-back, read-multiplier, small-multiplier}
+use Rattle.limits.proofs.NumberLaws.{small-back, cast-fits, read-multiplier, small-multiplier}
 use Rattle.limits.proofs.RowLaws.{front-at, within-shorter}
 use Rattle.limits.proofs.LimitLaws.{numbers}
 use Rattle.exchange.proofs.SolveLaws.{negated-positive, solved-positive, solved-negative}
@@ -28,7 +28,7 @@ module _ (c : tie.After-c) where
   at-c : size z ≤ 32767
   at-c = let n : length (s .args .l .coefficients) ≡ 6 = search needs in front-at (s .args .a + 1) (s .args .l .coefficients) (s .args .a) (omega arith) (numbers (s .args .a + 1) (s .args .l) (s .pre .1) .coefficients)
 
-  reads-c : toZ w64 (ofZ w64 z) ≡ z
+  reads-c : toZ w32 (ofZ w32 z) ≡ z
   reads-c = small-back _ at-c
 
 up : (c : tie.Then1) → pos 0 <ℤ z (c .before)
@@ -62,7 +62,7 @@ array-set-from-up : tie.Need-array-set-from-up
 array-set-from-up c = search needs
 
 cast-t22 : tie.Need-cast-t22
-cast-t22 c = rw (reads-c (c .before .before)) (cast-ok (z (c .before .before)) (<ℤ-≤ℤ (up (c .before))) (small-fits (z (c .before .before)) (at-c (c .before .before))))
+cast-t22 c = rw (reads-c (c .before .before)) (cast-fits (z (c .before .before)) (<ℤ-≤ℤ (up (c .before))) (at-c (c .before .before)))
 
 minus-requires : tie.Need-minus-requires
 minus-requires c κs = let s = c .before .before .before .before .before .before in let m = numbers (s .args .a + 1) (s .args .l) (s .pre .1) in rw (small-back (s .args .l .constant) (m .constant)) (m .constant)
@@ -82,16 +82,16 @@ minus-requires-3 c κs = let d = c .before .before in rw (reads-c d) (at-c d)
 cast-t29 : tie.Need-cast-t29
 cast-t29 c =
     let d = c .before .before .before in
-    let e : toZ w64 (ofZ w64 (c .minus3 .result)) ≡ c .minus3 .result = search needs in
+    let e : toZ w32 (ofZ w32 (c .minus3 .result)) ≡ c .minus3 .result = search needs in
     let f = neg-z c in
-    rw (e, f) (cast-ok (negℤ (z d)) (negated-positive (z d) (down (c .before .before))) (small-fits (negℤ (z d)) ((let q = size-neg (z d) in let h = at-c d in omega arith))))
+    rw (e, f) (cast-fits (negℤ (z d)) (negated-positive (z d) (down (c .before .before))) (let q = size-neg (z d) in let h = at-c d in omega arith))
 
 returns : tie.Need-returns
 returns c =
     let d = c .before .before .before in
     let s = d .before .before .before .before in
     let m = numbers (s .args .a + 1) (s .args .l) (s .pre .1) in
-    let e : toZ w64 (ofZ w64 (c .minus .result)) ≡ c .minus .result = search needs in
+    let e : toZ w32 (ofZ w32 (c .minus .result)) ≡ c .minus .result = search needs in
     rw (reads-c d) (solved-positive (s .args .a) (s .args .l) _ (c .before .mix .result) _ (s .pre .0) (up (c .before .before))
     (e ∙ c .minus .ensures ∙ ap negℤ (small-back (s .args .l .constant) (m .constant))) (c .before .mix .ensures) (read-multiplier (s .args .l .multiplier) (m .multiplier)))
 
@@ -101,8 +101,8 @@ returns-2 c =
     let s = d .before .before .before .before in
     let m = numbers (s .args .a + 1) (s .args .l) (s .pre .1) in
     let n : length (s .args .l .coefficients) ≡ 6 = search needs in
-    let e : toZ w64 (ofZ w64 (c .before .minus2 .result)) ≡ c .before .minus2 .result = search needs in
-    let g : toZ w64 (ofZ w64 (c .minus3 .result)) ≡ c .minus3 .result = search needs in
+    let e : toZ w32 (ofZ w32 (c .before .minus2 .result)) ≡ c .before .minus2 .result = search needs in
+    let g : toZ w32 (ofZ w32 (c .minus3 .result)) ≡ c .minus3 .result = search needs in
     solved-negative (s .args .a) (s .args .l) _ _ _ n (s .pre .0) (down (c .before .before)) (s .pre .2) (small-back (s .args .l .constant) (m .constant))
     (e ∙ c .before .minus2 .ensures ∙ ap negℤ (read-multiplier (s .args .l .multiplier) (m .multiplier))) (g ∙ neg-z c)
 

@@ -2,7 +2,7 @@ use mathlib.Core.Path.{_≡_}
 use mathlib.Core.List.{[]}
 use native.Mathlib.Omega.{arith}
 use lib.ListN.{length}
-use mir.Syntax.{w64}
+use mir.Syntax.{w32}
 use mir.Val.{toZ, ofZ}
 use borrow.Author.Needs.{needs}
 use Rattle.exchange.proofs.SolveLaws.{widened-is}
@@ -19,7 +19,7 @@ returns : tie.Need-returns
 returns c =
     let s = c .before .before in
     let n : length (s .args .l .coefficients) ≡ 6 = search needs in
-    let e : toZ w64 (ofZ w64 (s .args .l .constant)) ≡ s .args .l .constant = search needs in
+    let e : toZ w32 (ofZ w32 (s .args .l .constant)) ≡ s .args .l .constant = search needs in
     widened-is (s .args .n) (s .args .l) _ n (omega arith) e
 
 pub widened-spec : {M : Type 1} → statement M

@@ -1,66 +1,17 @@
--- `admit`: the grammar, the sheet, refusals 7 to 9.
-use Rattle.intake.proofs.IntakeLaws.{decode-refused, lay-in, enumerate-in, space-refused, admitted-out}
+-- `admit`: the points, and refusal 9.
+use Rattle.intake.proofs.AdmitLaws.{enumerate-in, admitted-out}
 use borrow.Author.Needs.{needs}
 use Rattle.intake.proofs.admit.Statement.{statement}
 use Rattle.intake.proofs.admit.Tie as tie
 
-decode-requires : tie.Need-decode-requires
-decode-requires c κs = search needs
-
-enum-told : tie.Need-enum-told
-enum-told c = search needs
-
-enum-known-status : tie.Need-enum-known-status
-enum-known-status c = search needs
-
-refused-requires : tie.Need-refused-requires
-refused-requires c κs = search needs
-
-returns : tie.Need-returns
-returns c = let d = c .before .before .before .before .before .decode in decode-refused _ (d .result) (d .ensures) _ _ (c .refused .result) (c .before .before .status .given .1) (c .refused .ensures)
-
-lay-requires : tie.Need-lay-requires
-lay-requires c κs = let d = c .before .before .before .before .before .before .decode in lay-in _ (d .result) (d .ensures) (c .before .before .before .enum-told .given .1)
-
 enumerate-requires : tie.Need-enumerate-requires
-enumerate-requires c κs = let d = c .before .before .before .before .before .before .before .before .decode in let l = c .before .lay in enumerate-in _ (d .result) (d .ensures) (c .before .before .before .before .before .enum-told .given .1) (l .result) (l .ensures) _ (c .before .before .before .before .before .before .before .before .before .before .pre)
-
-enum-known-n : tie.Need-enum-known-n
-enum-known-n c = search needs
-
-enum-known-r : tie.Need-enum-known-r
-enum-known-r c = search needs
-
-refused-requires-2 : tie.Need-refused-requires-2
-refused-requires-2 c κs = search needs
+enumerate-requires c κs = let s = c .before .before in enumerate-in (s .args .bytes .now) (s .args .all) (s .args .points .now) (s .pre)
 
 same-length : tie.Need-same-length
 same-length c = search needs
 
-returns-2 : tie.Need-returns-2
-returns-2 c = let d = c .before .before .before .before .before .before .before .before .before .before .before .before .before .decode in let l = c .before .before .before .before .before .before .lay in let e = c .before .before .before .before .enumerate in admitted-out _ (d .result) (d .ensures) (c .before .before .before .before .before .before .before .before .before .before .enum-told .given .1) (l .result) (l .ensures) _ _ (e .result) (e .ensures) _ (c .before .n .given .1)
-
-same-length-2 : tie.Need-same-length-2
-same-length-2 c = search needs
-
-returns-3 : tie.Need-returns-3
-returns-3 c = let d = c .before .before .before .before .before .before .before .before .before .before .before .before .before .before .decode in let l = c .before .before .before .before .before .before .before .lay in let e = c .before .before .before .before .before .enumerate in space-refused _ (d .result) (d .ensures) (c .before .before .before .before .before .before .before .before .before .before .before .enum-told .given .1) (l .result) (l .ensures) _ _ (e .result) (e .ensures) _ (c .refused2 .result) (c .before .before .r .given .1) (c .refused2 .ensures)
+returns : tie.Need-returns
+returns c = let s = c .before .before .before .before in let e = c .before .enumerate in admitted-out (s .args .bytes .now) (s .args .all) (s .args .points .now) (s .pre) _ (e .result) (e .ensures)
 
 pub admit-spec : {M : Type 1} → statement M
-admit-spec =
-    tie.close
-    (tie.spec
-    decode-requires
-    enum-told
-    enum-known-status
-    refused-requires
-    returns
-    lay-requires
-    enumerate-requires
-    enum-known-n
-    enum-known-r
-    refused-requires-2
-    same-length
-    returns-2
-    same-length-2
-    returns-3)
+admit-spec = tie.close (tie.spec enumerate-requires same-length returns)

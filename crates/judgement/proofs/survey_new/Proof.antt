@@ -17,7 +17,7 @@ enum-known-k-2 : tie.Need-enum-known-k-2
 enum-known-k-2 c = search needs
 
 returns : tie.Need-returns
-returns c = let v = c .before .before .survey in new-admitted (c .before .before .before .args .sheet) (v .result) (v .ensures) (c .enum-told .given .1)
+returns c = let v = c .before .before .survey in new-admitted (c .before .before .before .args .sheet) (v .result) (v .ensures) _ (c .enum-told .given .1)
 
 returns-2 : tie.Need-returns-2
 returns-2 c = let v = c .before .before .before .survey in new-far (c .before .before .before .before .args .sheet) (v .result) (v .ensures) _ (c .before .k .given .1)

@@ -2,18 +2,21 @@ use mathlib.Core.List.{[], _∷_}
 use Prim.Native.Nat.{_≤_}
 use native.Mathlib.Omega.{arith}
 use lib.IntN.{ℤ, _+ℤ_, _*ℤ_}
-use mir.Syntax.{w64}
+use mir.Syntax.{w32}
 use mir.Val.{SFits}
 use borrow.Author.Needs.{needs}
 use Rattle.integers.specs.Difference.{size}
-use Rattle.integers.proofs.RangeLaws.{size-mul}
-use Rattle.integers.proofs.Quote.{auto, quote}
+use Rattle.integers.proofs.RangeLaws.{size-add, size-mul}
+use Rattle.limits.proofs.NumberLaws.{size-fits}
 use Rattle.limits.proofs.blend.Statement.{statement}
 use Rattle.limits.proofs.blend.Tie as tie
 
 ranges : (u x v y : ℤ) → (size u ≤ 32767) × (size x ≤ 32767) × (size v ≤ 32767) × (size y ≤ 32767)
-    → SFits w64 (u *ℤ x) × (SFits w64 (v *ℤ y) × SFits w64 (u *ℤ x +ℤ v *ℤ y))
-ranges u x v y h = auto ((u *ℤ x) ∷ (v *ℤ y) ∷ []) (search quote depth 20) (omega (arith, size-mul u x (h .0) (h .1), size-mul v y (h .2) (h .3)))
+    → SFits w32 (u *ℤ x) × (SFits w32 (v *ℤ y) × SFits w32 (u *ℤ x +ℤ v *ℤ y))
+ranges u x v y h =
+    let p = size-mul u x (h .0) (h .1) in
+    let q = size-mul v y (h .2) (h .3) in
+    (size-fits {n = 1073676289} p (omega arith), (size-fits {n = 1073676289} q (omega arith), size-fits {n = 2147352578} (omega (arith, p, q, size-add (u *ℤ x) (v *ℤ y))) (omega arith)))
 
 mul-result : tie.Need-mul-result
 mul-result c = let r = ranges (c .args .u) (c .args .x) (c .args .v) (c .args .y) (c .pre) in search needs

@@ -5,17 +5,17 @@ use native.Mathlib.Omega.{arith}
 use lib.IntN.{pos}
 use lib.ListN.{length}
 use borrow.Author.Needs.{needs}
-use Rattle.integers.proofs.RangeLaws.{back, sfits}
-use Rattle.limits.proofs.NumberLaws.{small-back, fits-below, widened, read-widened, less-fits, zero-less}
+use mir.Facts.{toZ-ofZ}
+use Rattle.limits.proofs.NumberLaws.{small-back, widened, product-fits, product-signed, read-widened, less-fits, zero-less}
 use Rattle.limits.proofs.LimitLaws.{numbers, element-is}
 use Rattle.limits.proofs.element.Statement.{statement}
 use Rattle.limits.proofs.element.Tie as tie
 
 mul-cs : tie.Need-mul-cs
-mul-cs c = let s = c .before .before in let m = numbers (s .args .n) (s .args .l) (s .pre .2) in fits-below (omega (arith, widened (s .args .l .multiplier) (s .args .w) (m .multiplier) (s .pre .1)))
+mul-cs c = let s = c .before .before in let m = numbers (s .args .n) (s .args .l) (s .pre .2) in product-fits _ _ (m .multiplier) (s .pre .1)
 
 cast-cs : tie.Need-cast-cs
-cast-cs c = let s = c .before .before in let m = numbers (s .args .n) (s .args .l) (s .pre .2) in let u = widened (s .args .l .multiplier) (s .args .w) (m .multiplier) (s .pre .1) in sfits (omega (arith, u))
+cast-cs c = let s = c .before .before in let m = numbers (s .args .n) (s .args .l) (s .pre .2) in product-signed _ _ (m .multiplier) (s .pre .1)
 
 sub-cs : tie.Need-sub-cs
 sub-cs c = let s = c .before .before in let m = numbers (s .args .n) (s .args .l) (s .pre .2) in let u = widened (s .args .l .multiplier) (s .args .w) (m .multiplier) (s .pre .1) in rw (read-widened (s .args .l .multiplier * s .args .w) u) (less-fits (pos 0) (s .args .l .multiplier * s .args .w) (omega arith) u)
@@ -34,7 +34,7 @@ returns c =
     let q : length (s .args .l .coefficients) ≡ 6 = search needs in
     let e = read-widened (s .args .l .multiplier * s .args .w) u in
     element-is (s .args .n) (s .args .l) (s .args .w) _ _ q (omega arith) (small-back (s .args .l .constant) (m .constant))
-    (rw e (back (less-fits (pos 0) (s .args .l .multiplier * s .args .w) (omega arith) u) ∙ zero-less (pos (s .args .l .multiplier * s .args .w))))
+    (rw e (toZ-ofZ (less-fits (pos 0) (s .args .l .multiplier * s .args .w) (omega arith) u) ∙ zero-less (pos (s .args .l .multiplier * s .args .w))))
 
 pub element-spec : {M : Type 1} → statement M
 element-spec = tie.close (tie.spec mul-cs cast-cs sub-cs mul-cs-2 array-set-from-cs returns)

@@ -4,7 +4,7 @@ use Prim.Native.Nat.{_≤_}
 use native.Mathlib.Omega.{arith}
 use lib.IntN.{pos}
 use lib.ListN.{length, getD}
-use mir.Syntax.{w64}
+use mir.Syntax.{w32}
 use mir.Val.{toZ, ofZ}
 use borrow.Author.Needs.{needs}
 use Rattle.integers.specs.Difference.{size}
@@ -20,7 +20,7 @@ at : (c : tie.After-x) → size (getD (c .before .before .before .args .l .coeff
 unfolding limitOf
 at c = let s = c .before .before .before in let n : length (s .args .l .coefficients) ≡ 6 = search needs in front-at (s .args .n) (s .args .l .coefficients) (s .args .a) (omega arith) (s .pre .2 .coefficients)
 
-reads-x : (c : tie.After-x) → toZ w64 (ofZ w64 (getD (c .before .before .before .args .l .coefficients) (c .before .before .before .args .a) (pos 0))) ≡ getD (c .before .before .before .args .l .coefficients) (c .before .before .before .args .a) (pos 0)
+reads-x : (c : tie.After-x) → toZ w32 (ofZ w32 (getD (c .before .before .before .args .l .coefficients) (c .before .before .before .args .a) (pos 0))) ≡ getD (c .before .before .before .args .l .coefficients) (c .before .before .before .args .a) (pos 0)
 reads-x c = small-back _ (at c)
 
 cast-p : tie.Need-cast-p
@@ -49,7 +49,7 @@ returns c =
     let s = c .before .before .before .before .before in
     let m = numbers (s .args .n) (s .args .l) (s .pre .2) in
     let q : length (s .args .l .coefficients) ≡ 6 = search needs in
-    let e : toZ w64 (ofZ w64 (c .before .plus .result)) ≡ c .before .plus .result = search needs in
+    let e : toZ w32 (ofZ w32 (c .before .plus .result)) ≡ c .before .plus .result = search needs in
     leaning-is (s .args .n) (s .args .l) (s .args .a) (s .args .positive) _ _ q (omega arith) (small-back (s .args .l .constant) (m .constant))
     (e ∙ c .before .plus .ensures ∙ simp (reads-x (c .before .before), read-multiplier (s .args .l .multiplier) (m .multiplier)))
 

@@ -4,11 +4,11 @@ use Prim.Native.Nat.{ℕ, _-_, _≤_}
 use native.Mathlib.Omega.{arith}
 use lib.IntN.{pos}
 use lib.ListN.{length, getD, take, length-set}
-use mir.Syntax.{w64}
+use mir.Syntax.{w32}
 use mir.Val.{toZ, ofZ}
 use borrow.Author.Needs.{needs}
 use Rattle.integers.specs.Difference.{size}
-use Rattle.integers.proofs.RangeLaws.{back}
+use mir.Facts.{toZ-ofZ}
 use Rattle.limits.specs.Makes.{mixed}
 use Rattle.limits.proofs.NumberLaws.{small-back}
 use Rattle.limits.proofs.RowLaws.{front-at, mix-more}
@@ -16,7 +16,7 @@ use Rattle.limits.proofs.mix.Statement.{statement}
 use Rattle.limits.proofs.mix.Tie as tie
 
 abbrev Inv-loop : tie.InvT-loop
-Inv-loop n u v xs ys r₀ k₀ r k = (k ≤ n) × (length r ≡ 6) × (take k r ≡ mixed (toZ w64 u) (toZ w64 v) (take k xs) (take k ys))
+Inv-loop n u v xs ys r₀ k₀ r k = (k ≤ n) × (length r ≡ 6) × (take k r ≡ mixed (toZ w32 u) (toZ w32 v) (take k xs) (take k ys))
 
 abbrev μ-loop : tie.MeasureT-loop
 μ-loop n u v xs ys r₀ k₀ r k = n - k
@@ -41,10 +41,10 @@ module _ (c : tie.In-loop Inv-loop μ-loop) where
   at-y : size (getD (b .args .t5) k (pos 0)) ≤ 32767
   at-y = front-at (b .args .n) (b .args .t5) k (omega arith) (b .pre .4)
 
-  read-x : toZ w64 (ofZ w64 (getD (b .args .t3) k (pos 0))) ≡ getD (b .args .t3) k (pos 0)
+  read-x : toZ w32 (ofZ w32 (getD (b .args .t3) k (pos 0))) ≡ getD (b .args .t3) k (pos 0)
   read-x = small-back _ at-x
 
-  read-y : toZ w64 (ofZ w64 (getD (b .args .t5) k (pos 0))) ≡ getD (b .args .t5) k (pos 0)
+  read-y : toZ w32 (ofZ w32 (getD (b .args .t5) k (pos 0))) ≡ getD (b .args .t5) k (pos 0)
   read-y = small-back _ at-y
 
 loop-holds : tie.Need-loop-holds Inv-loop μ-loop
@@ -67,7 +67,7 @@ blend-requires : tie.Need-blend-requires Inv-loop μ-loop
 blend-requires c κs =
     let d = c .before .before in
     let s = d .before .before in
-    simp (back, s .fits .u, s .fits .v, read-x d, read-y d) (s .pre .1, at-x d, s .pre .2, at-y d)
+    simp (toZ-ofZ, s .fits .u, s .fits .v, read-x d, read-y d) (s .pre .1, at-x d, s .pre .2, at-y d)
 
 mul-r : tie.Need-mul-r Inv-loop μ-loop
 mul-r c = search needs
@@ -85,10 +85,10 @@ loop-again : tie.Need-loop-again Inv-loop μ-loop
 loop-again c =
     let d = c .before .before .before in
     let s = d .before .before in
-    let e : toZ w64 (ofZ w64 (c .blend .result)) ≡ c .blend .result = search needs in (
+    let e : toZ w32 (ofZ w32 (c .blend .result)) ≡ c .blend .result = search needs in (
       omega arith,
       simp length-set (d .before .loop .inv .1),
-      mix-more (toZ w64 (ofZ w64 (s .args .u))) (toZ w64 (ofZ w64 (s .args .v))) (k d) (d .before .loop .r) (s .args .t3) (s .args .t5) _
+      mix-more (toZ w32 (ofZ w32 (s .args .u))) (toZ w32 (ofZ w32 (s .args .v))) (k d) (d .before .loop .r) (s .args .t3) (s .args .t5) _
           (omega arith) (omega (arith, len-x s)) (omega (arith, len-y s)) (d .before .loop .inv .2) (e ∙ c .blend .ensures ∙ simp (read-x d, read-y d)),
     )
 
@@ -96,7 +96,7 @@ returns : tie.Need-returns Inv-loop μ-loop
 returns c =
     let s = c .before .before in
     let e : c .before .loop .k ≡ s .args .n = omega arith in
-    record { is = simp (e, back, s .fits .u, s .fits .v) at (c .before .loop .inv .2); room = c .before .loop .inv .1 }
+    record { is = simp (e, toZ-ofZ, s .fits .u, s .fits .v) at (c .before .loop .inv .2); room = c .before .loop .inv .1 }
 
 pub mix-spec : {M : Type 1} → statement M
 mix-spec =

@@ -2,7 +2,7 @@ use mathlib.Core.Path.{_≡_, _∙_, ap}
 use mathlib.Core.List.{[]}
 use native.Mathlib.Omega.{arith}
 use lib.IntN.{negℤ}
-use mir.Syntax.{w64}
+use mir.Syntax.{w32}
 use mir.Val.{toZ, ofZ}
 use borrow.Author.Needs.{needs}
 use Rattle.limits.proofs.NumberLaws.{small-back}
@@ -20,7 +20,7 @@ returns : tie.Need-returns
 returns c =
     let s = c .before .before .before .before in
     let m = numbers (s .args .n) (s .args .l) (s .pre .1) in
-    let e : toZ w64 (ofZ w64 (c .before .minus .result)) ≡ c .before .minus .result = search needs in
+    let e : toZ w32 (ofZ w32 (c .before .minus .result)) ≡ c .before .minus .result = search needs in
     negated-is (s .args .n) (s .args .l) _ _ (e ∙ c .before .minus .ensures ∙ ap negℤ (small-back (s .args .l .constant) (m .constant))) (c .mix .ensures)
 
 pub negated-spec : {M : Type 1} → statement M

@@ -1,15 +1,14 @@
 use mathlib.Core.Path.{_≡_}
 use mathlib.Core.List.{[]}
-use native.Mathlib.Omega.{arith}
 use lib.ListN.{length}
 use borrow.Author.Needs.{needs}
-use Rattle.limits.proofs.NumberLaws.{small-back, fits-below, widened}
+use Rattle.limits.proofs.NumberLaws.{small-back, product-fits}
 use Rattle.limits.proofs.LimitLaws.{numbers, upper-is}
 use Rattle.limits.proofs.section_upper.Statement.{statement}
 use Rattle.limits.proofs.section_upper.Tie as tie
 
 mul-t5 : tie.Need-mul-t5
-mul-t5 c = let s = c .before .before in let m = numbers (s .args .n) (s .args .l) (s .pre .1) in fits-below (omega (arith, widened (s .args .l .multiplier) (s .args .w) (m .multiplier) (s .pre .0)))
+mul-t5 c = let s = c .before .before in let m = numbers (s .args .n) (s .args .l) (s .pre .1) in product-fits _ _ (m .multiplier) (s .pre .0)
 
 returns : tie.Need-returns
 returns c =

@@ -4,7 +4,7 @@ use Prim.Native.Nat.{_+_, _≤_}
 use native.Mathlib.Omega.{arith}
 use lib.IntN.{pos}
 use lib.ListN.{length, getD, length-set}
-use mir.Syntax.{w64}
+use mir.Syntax.{w32}
 use mir.Val.{toZ, ofZ}
 use borrow.Author.Needs.{needs}
 use Rattle.integers.specs.Difference.{size}
@@ -26,10 +26,10 @@ module _ (c : tie.After-y) where
   at-y : size (getD (s .args .t1) (s .args .a + 1 + s .args .d) (pos 0)) ≤ 32767
   at-y = front-at (s .args .n) (s .args .t1) (s .args .a + 1 + s .args .d) (omega arith) (s .pre .2)
 
-  reads-x : toZ w64 (ofZ w64 (getD (s .args .t1) (s .args .a) (pos 0))) ≡ getD (s .args .t1) (s .args .a) (pos 0)
+  reads-x : toZ w32 (ofZ w32 (getD (s .args .t1) (s .args .a) (pos 0))) ≡ getD (s .args .t1) (s .args .a) (pos 0)
   reads-x = small-back _ at-x
 
-  reads-y : toZ w64 (ofZ w64 (getD (s .args .t1) (s .args .a + 1 + s .args .d) (pos 0))) ≡ getD (s .args .t1) (s .args .a + 1 + s .args .d) (pos 0)
+  reads-y : toZ w32 (ofZ w32 (getD (s .args .t1) (s .args .a + 1 + s .args .d) (pos 0))) ≡ getD (s .args .t1) (s .args .a + 1 + s .args .d) (pos 0)
   reads-y = small-back _ at-y
 
 add-b : tie.Need-add-b
@@ -63,7 +63,7 @@ returns : tie.Need-returns
 returns c =
     let s = c .before .before .before in
     let n : length (s .args .t1) ≡ 6 = search needs in
-    let e : toZ w64 (ofZ w64 (c .plus .result)) ≡ c .plus .result = search needs in
+    let e : toZ w32 (ofZ w32 (c .plus .result)) ≡ c .plus .result = search needs in
     record {
       is = front-skewed (s .args .n) (s .args .a) (s .args .d) (s .args .positive) (s .args .t1) _ (omega arith) (omega arith) (e ∙ c .plus .ensures ∙ simp (reads-x (c .before), reads-y (c .before)));
       room = simp length-set n;

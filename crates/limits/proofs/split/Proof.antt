@@ -4,7 +4,7 @@ use Prim.Native.Nat.{_+_, _-_, _≤_}
 use native.Mathlib.Omega.{arith}
 use lib.IntN.{pos}
 use lib.ListN.{length, getD, take, drop, length-set}
-use mir.Syntax.{w64}
+use mir.Syntax.{w32}
 use mir.Val.{toZ, ofZ}
 use borrow.Author.Needs.{needs}
 use Rattle.integers.specs.Difference.{size}
@@ -26,7 +26,7 @@ module _ (c : tie.After-y Inv-loop μ-loop) where
   at-y : size (getD (s .args .t1) (s .args .a) (pos 0)) ≤ 32767
   at-y = let n : length (s .args .t1) ≡ 6 = search needs in front-at (s .args .n) (s .args .t1) (s .args .a) (omega arith) (s .pre .3)
 
-  reads-y : toZ w64 (ofZ w64 (getD (s .args .t1) (s .args .a) (pos 0))) ≡ getD (s .args .t1) (s .args .a) (pos 0)
+  reads-y : toZ w32 (ofZ w32 (getD (s .args .t1) (s .args .a) (pos 0))) ≡ getD (s .args .t1) (s .args .a) (pos 0)
   reads-y = small-back _ at-y
 
 loop-holds : tie.Need-loop-holds Inv-loop μ-loop
@@ -86,7 +86,7 @@ returns c =
     let b = c .before .before .before in
     let s = b .before in
     let n : length (s .args .t1) ≡ 6 = search needs in
-    let e : toZ w64 (ofZ w64 (c .times .result)) ≡ c .times .result = search needs in
+    let e : toZ w32 (ofZ w32 (c .times .result)) ≡ c .times .result = search needs in
     record {
       is = shift-all (s .args .w) (s .args .a) (b .loop .j) (s .args .n) (b .loop .r) (s .args .t1) _ (omega arith) (omega arith) (omega arith) (omega arith) (b .loop .inv .2) (e ∙ c .times .ensures ∙ rw (reads-y (c .before)));
       room = simp length-set (b .loop .inv .1);

@@ -4,7 +4,7 @@ use Prim.Native.Nat.{_+_}
 use native.Mathlib.Omega.{arith}
 use lib.IntN.{pos}
 use lib.ListN.{length, getD, length-set}
-use mir.Syntax.{w64}
+use mir.Syntax.{w32}
 use mir.Val.{toZ, ofZ}
 use borrow.Author.Needs.{needs}
 use Rattle.limits.proofs.RowLaws.{front-swapped}
@@ -42,8 +42,8 @@ returns : tie.Need-returns
 returns c =
     let s = c .before .before in
     let l = s .args .t1 in
-    let x : toZ w64 (ofZ w64 (getD l (s .args .a) (pos 0))) ≡ getD l (s .args .a) (pos 0) = search needs in
-    let y : toZ w64 (ofZ w64 (getD l (s .args .a + 1) (pos 0))) ≡ getD l (s .args .a + 1) (pos 0) = search needs in
+    let x : toZ w32 (ofZ w32 (getD l (s .args .a) (pos 0))) ≡ getD l (s .args .a) (pos 0) = search needs in
+    let y : toZ w32 (ofZ w32 (getD l (s .args .a + 1) (pos 0))) ≡ getD l (s .args .a + 1) (pos 0) = search needs in
     let n : length l ≡ 6 = search needs in
     record { is = front-swapped (pos 0) (s .args .n) (s .args .a) l _ _ (omega arith) (omega arith) x y; room = simp length-set n }
 

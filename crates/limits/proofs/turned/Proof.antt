@@ -4,7 +4,7 @@ use Prim.Native.Nat.{_≤_}
 use native.Mathlib.Omega.{arith}
 use lib.IntN.{pos, negℤ}
 use lib.ListN.{length, getD, length-set}
-use mir.Syntax.{w64}
+use mir.Syntax.{w32}
 use mir.Val.{toZ, ofZ}
 use borrow.Author.Needs.{needs}
 use Rattle.integers.specs.Difference.{size}
@@ -15,7 +15,7 @@ use Rattle.limits.proofs.turned.Tie as tie
 at : (c : tie.After-x) → size (getD (c .before .args .t1) (c .before .args .a) (pos 0)) ≤ 32767
 at c = let l : length (c .before .args .t1) ≡ 6 = search needs in front-at (c .before .args .n) (c .before .args .t1) (c .before .args .a) (omega arith) (c .before .pre .2)
 
-read : (c : tie.After-x) → toZ w64 (ofZ w64 (getD (c .before .args .t1) (c .before .args .a) (pos 0))) ≡ getD (c .before .args .t1) (c .before .args .a) (pos 0)
+read : (c : tie.After-x) → toZ w32 (ofZ w32 (getD (c .before .args .t1) (c .before .args .a) (pos 0))) ≡ getD (c .before .args .t1) (c .before .args .a) (pos 0)
 read c = search needs
 
 mul-x : tie.Need-mul-x
@@ -36,7 +36,7 @@ array-set-from-r c = search needs
 returns : tie.Need-returns
 returns c =
     let s = c .before .before in
-    let e : toZ w64 (ofZ w64 (c .minus .result)) ≡ c .minus .result = search needs in
+    let e : toZ w32 (ofZ w32 (c .minus .result)) ≡ c .minus .result = search needs in
     let n : length (s .args .t1) ≡ 6 = search needs in
     record { is = front-onHead (pos 0) negℤ (s .args .n) (s .args .a) (s .args .t1) _ (omega arith) (e ∙ c .minus .ensures ∙ ap negℤ (read (c .before))); room = simp length-set n }
 

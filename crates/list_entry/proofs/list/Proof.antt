@@ -1,14 +1,12 @@
--- `list`: 1 to 9, then the listing.
-use Rattle.list_entry.proofs.ListLaws.{not-admitted, admitted-in, handed}
+-- `list`: 1 to 8, then room for the points.
+use Rattle.intake.proofs.AdmitLaws.{not-received, waits-few, waits}
+use Rattle.list_entry.proofs.ListLaws.{not-admitted}
 use borrow.Author.Needs.{needs}
 use Rattle.list_entry.proofs.list.Statement.{statement}
 use Rattle.list_entry.proofs.list.Tie as tie
 
-slice-aggregate-admit : tie.Need-slice-aggregate-admit
-slice-aggregate-admit c = search needs
-
-admit-requires : tie.Need-admit-requires
-admit-requires c κs = search needs
+receive-requires : tie.Need-receive-requires
+receive-requires c κs = search needs
 
 enum-told : tie.Need-enum-told
 enum-told c = search needs
@@ -17,30 +15,45 @@ enum-known-status : tie.Need-enum-known-status
 enum-known-status c = search needs
 
 returns : tie.Need-returns
-returns c = let s = c .before .before .before .before .before .before .before .before in let q = c .before .before .before .before .admit in not-admitted _ _ _ (q .result) (q .ensures) _ (c .before .status .given .1) (s .args .out .now)
+returns c = let s = c .before .before .before .before .before .before in let r = c .before .before .before .receive in let q = c .before .status .given .1 in not-admitted _ _ _ (r .result) (not-received _ (r .result) (r .ensures) _ q) _ q (s .args .out .now)
 
-slice-aggregate-write-listing : tie.Need-slice-aggregate-write-listing
-slice-aggregate-write-listing c = search needs
+slice-aggregate-list-by : tie.Need-slice-aggregate-list-by
+slice-aggregate-list-by c = search needs
 
-write-listing-requires : tie.Need-write-listing-requires
-write-listing-requires c κs = let q = c .before .before .before .before .before .before .admit in admitted-in _ _ _ (q .result) (q .ensures) (c .before .before .before .enum-told .given .1)
+list-by-requires : tie.Need-list-by-requires
+list-by-requires c κs = let r = c .before .before .before .before .before .before .receive in waits-few _ (r .result) (r .ensures) (c .before .before .before .before .enum-told .given .1) (c .before .before .if1 .taken)
 
 same-length : tie.Need-same-length
 same-length c = search needs
 
 returns-2 : tie.Need-returns-2
-returns-2 c = let q = c .before .before .before .before .before .before .before .before .before .admit in let w = c .before .before .write-listing in handed _ _ _ (q .result) (q .ensures) (c .before .before .before .before .before .before .enum-told .given .1) _ _ (w .result) (w .ensures)
+returns-2 c = search needs
+
+slice-aggregate-list-by-2 : tie.Need-slice-aggregate-list-by-2
+slice-aggregate-list-by-2 c = search needs
+
+list-by-requires-2 : tie.Need-list-by-requires-2
+list-by-requires-2 c κs = let r = c .before .before .before .before .before .before .receive in waits _ (r .result) (r .ensures) (c .before .before .before .before .enum-told .given .1)
+
+same-length-2 : tie.Need-same-length-2
+same-length-2 c = search needs
+
+returns-3 : tie.Need-returns-3
+returns-3 c = search needs
 
 pub list-spec : {M : Type 1} → statement M
 list-spec =
     tie.close
     (tie.spec
-    slice-aggregate-admit
-    admit-requires
+    receive-requires
     enum-told
     enum-known-status
     returns
-    slice-aggregate-write-listing
-    write-listing-requires
+    slice-aggregate-list-by
+    list-by-requires
     same-length
-    returns-2)
+    returns-2
+    slice-aggregate-list-by-2
+    list-by-requires-2
+    same-length-2
+    returns-3)

@@ -97,6 +97,9 @@ read-row-requires c κs = let k = known-of (OnNumber _ _) (c .before .v2 .given 
 enum-told : tie.Need-enum-told
 enum-told c = search needs
 
+cast-t22 : tie.Need-cast-t22
+cast-t22 c = let r = known-of (OnNatural _ _ _ _) (c .before .before .before .before .before .before .before .before .before .v .given .1) (c .before .before .before .before .before .before .before .before .before .before .before .read-natural .ensures .known) in record { fits = omega (arith, r .high) }
+
 enum-known-status : tie.Need-enum-known-status
 enum-known-status c = search needs
 
@@ -139,6 +142,7 @@ read-limit-spec =
     add-read-row
     read-row-requires
     enum-told
+    cast-t22
     enum-known-status
     no-limit-requires-3
     returns-3

@@ -1,14 +1,12 @@
--- `quick`: 1 to 9, then the test.
-use Rattle.quick_entry.proofs.TestLaws.{not-admitted, sheet-in, answered}
+-- `quick`: 1 to 8, then room for the points.
+use Rattle.intake.proofs.AdmitLaws.{not-received, waits-few, waits}
+use Rattle.quick_entry.proofs.TestLaws.{not-admitted}
 use borrow.Author.Needs.{needs}
 use Rattle.quick_entry.proofs.quick.Statement.{statement}
 use Rattle.quick_entry.proofs.quick.Tie as tie
 
-slice-aggregate-admit : tie.Need-slice-aggregate-admit
-slice-aggregate-admit c = search needs
-
-admit-requires : tie.Need-admit-requires
-admit-requires c κs = search needs
+receive-requires : tie.Need-receive-requires
+receive-requires c κs = search needs
 
 enum-told : tie.Need-enum-told
 enum-told c = search needs
@@ -17,22 +15,37 @@ enum-known-status : tie.Need-enum-known-status
 enum-known-status c = search needs
 
 returns : tie.Need-returns
-returns c = let s = c .before .before .before .before .before .before .before in let q = c .before .before .before .before .admit in not-admitted _ _ _ (q .result) (q .ensures) (s .args .first) (s .args .second) _ (c .before .status .given .1)
+returns c = let s = c .before .before .before .before .before in let r = c .before .before .before .receive in let q = c .before .status .given .1 in not-admitted _ _ _ (r .result) (not-received _ (r .result) (r .ensures) _ q) (s .args .first) (s .args .second) _ q
 
-test-requires : tie.Need-test-requires
-test-requires c κs = let s = c .before .before .before .before .before .before .before in let q = c .before .before .before .before .admit in sheet-in _ _ _ (q .result) (q .ensures) (s .args .first) (s .args .second) (c .before .enum-told .given .1)
+slice-aggregate-quick-by : tie.Need-slice-aggregate-quick-by
+slice-aggregate-quick-by c = search needs
+
+quick-by-requires : tie.Need-quick-by-requires
+quick-by-requires c κs = let r = c .before .before .before .before .before .receive in waits-few _ (r .result) (r .ensures) (c .before .before .before .enum-told .given .1) (c .before .if1 .taken)
 
 returns-2 : tie.Need-returns-2
-returns-2 c = let s = c .before .before .before .before .before .before .before .before in let q = c .before .before .before .before .before .admit in answered _ _ _ (q .result) (q .ensures) (s .args .first) (s .args .second) (c .before .before .enum-told .given .1) (c .test .result) (c .test .ensures)
+returns-2 c = search needs
+
+slice-aggregate-quick-by-2 : tie.Need-slice-aggregate-quick-by-2
+slice-aggregate-quick-by-2 c = search needs
+
+quick-by-requires-2 : tie.Need-quick-by-requires-2
+quick-by-requires-2 c κs = let r = c .before .before .before .before .before .receive in waits _ (r .result) (r .ensures) (c .before .before .before .enum-told .given .1)
+
+returns-3 : tie.Need-returns-3
+returns-3 c = search needs
 
 pub quick-spec : {M : Type 1} → statement M
 quick-spec =
     tie.close
     (tie.spec
-    slice-aggregate-admit
-    admit-requires
+    receive-requires
     enum-told
     enum-known-status
     returns
-    test-requires
-    returns-2)
+    slice-aggregate-quick-by
+    quick-by-requires
+    returns-2
+    slice-aggregate-quick-by-2
+    quick-by-requires-2
+    returns-3)

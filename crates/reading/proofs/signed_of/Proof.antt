@@ -4,7 +4,7 @@ use Prim.Native.Nat.{ℕ, _-_, _<_, _≤_}
 use native.Mathlib.Omega.{arith}
 use borrow.Author.Tests.{lt-ltb, le-ltb}
 use lib.IntN.{pos, negsuc, _-ℤ_}
-use mir.Syntax.{w64}
+use mir.Syntax.{w32}
 use mir.Val.{toZ, SFits}
 use mir.Facts.{toZ-pos, toZ-ofZ}
 use Rattle.model.specs.Words.{signed}
@@ -12,10 +12,10 @@ use borrow.Author.Needs.{needs}
 use Rattle.reading.proofs.signed_of.Statement.{statement}
 use Rattle.reading.proofs.signed_of.Tie as tie
 
-upper : (v : ℕ) → 32768 ≤ v → v < 65536 → toZ w64 v -ℤ pos 65536 ≡ negsuc (65535 - v)
-upper v h k = rw (toZ-pos w64 {n = v} (omega arith)) (simp (lt-ltb v 65536 k) (ap negsuc (omega arith)))
+upper : (v : ℕ) → 32768 ≤ v → v < 65536 → toZ w32 v -ℤ pos 65536 ≡ negsuc (65535 - v)
+upper v h k = rw (toZ-pos w32 {n = v} (omega arith)) (simp (lt-ltb v 65536 k) (ap negsuc (omega arith)))
 
-upper-fits : (v : ℕ) → 32768 ≤ v → v < 65536 → SFits w64 (toZ w64 v -ℤ pos 65536)
+upper-fits : (v : ℕ) → 32768 ≤ v → v < 65536 → SFits w32 (toZ w32 v -ℤ pos 65536)
 upper-fits v h k = rw (upper v h k) (record { sfits = omega arith })
 
 cast-result : tie.Need-cast-result
@@ -29,7 +29,7 @@ sub-result c = upper-fits _ (c .if1 .left) (omega arith)
 
 returns : tie.Need-returns
 unfolding signed
-returns c = simp (lt-ltb _ _ (c .if1 .taken)) (toZ-pos w64 (omega arith))
+returns c = simp (lt-ltb _ _ (c .if1 .taken)) (toZ-pos w32 (omega arith))
 
 returns-2 : tie.Need-returns-2
 unfolding signed

@@ -5,8 +5,9 @@ use native.Mathlib.Omega.{arith}
 use native.Mathlib.Numerals.{add-one}
 use lib.IntN.{pos}
 use lib.ListN.{take, replicate}
+use mir.Syntax.{w32}
+use mir.Facts.{toZ-pos}
 use borrow.Author.Needs.{needs}
-use Rattle.integers.proofs.RangeLaws.{from-nat}
 use Rattle.model.specs.Ticket as Model
 use Rattle.model.specs.Limits.{constantLimit}
 use Rattle.nest.specs.Nested.{limitOf}
@@ -25,7 +26,7 @@ cast-t2 c = search needs
 
 returns : tie.Need-returns
 unfolding constantLimit limitOf
-returns c = (λ a h. same-limit refl (from-nat (omega arith)) (ap (λ i. take i (replicate 6 (pos 0))) (add-one a) ∙ zeros (suc a) 6 (omega arith)), record { room = refl })
+returns c = (λ a h. same-limit refl (toZ-pos w32 (omega arith)) (ap (λ i. take i (replicate 6 (pos 0))) (add-one a) ∙ zeros (suc a) 6 (omega arith)), record { room = refl })
 
 pub constant-limit-spec : {M : Type 1} → statement M
 constant-limit-spec = tie.close (tie.spec cast-t2 returns)

@@ -1,14 +1,12 @@
--- `run`: 1 to 9, then 10 to 13, then the outcome of the judged ticket.
-use Rattle.run_entry.proofs.EntryLaws.{not-admitted, not-judged, run-in, handed}
+-- `run`: 1 to 8, then room for the points.
+use Rattle.intake.proofs.AdmitLaws.{not-received, waits-few, waits}
+use Rattle.run_entry.proofs.EntryLaws.{not-admitted}
 use borrow.Author.Needs.{needs}
 use Rattle.run_entry.proofs.run.Statement.{statement}
 use Rattle.run_entry.proofs.run.Tie as tie
 
-slice-aggregate-admit : tie.Need-slice-aggregate-admit
-slice-aggregate-admit c = search needs
-
-admit-requires : tie.Need-admit-requires
-admit-requires c κs = search needs
+receive-requires : tie.Need-receive-requires
+receive-requires c κs = search needs
 
 enum-told : tie.Need-enum-told
 enum-told c = search needs
@@ -17,46 +15,45 @@ enum-known-status : tie.Need-enum-known-status
 enum-known-status c = search needs
 
 returns : tie.Need-returns
-returns c = let s = c .before .before .before .before .before .before .before .before in let q = c .before .before .before .before .admit in not-admitted _ (s .args .store .now) _ _ (q .result) (q .ensures) _ (c .before .status .given .1)
+returns c = let s = c .before .before .before .before .before .before in let r = c .before .before .before .receive in let q = c .before .status .given .1 in not-admitted _ (s .args .store .now) _ _ (r .result) (not-received _ (r .result) (r .ensures) _ q) _ q
 
-slice-aggregate-judge : tie.Need-slice-aggregate-judge
-slice-aggregate-judge c = search needs
+slice-aggregate-run-by : tie.Need-slice-aggregate-run-by
+slice-aggregate-run-by c = search needs
 
-judge-requires : tie.Need-judge-requires
-judge-requires c κs = let q = c .before .before .before .before .before .before .admit in q .ensures .taken (c .before .before .before .enum-told .given .1)
-
-enum-told-2 : tie.Need-enum-told-2
-enum-told-2 c = search needs
-
-enum-known-verdict : tie.Need-enum-known-verdict
-enum-known-verdict c = search needs
-
-returns-2 : tie.Need-returns-2
-returns-2 c = let s = c .before .before .before .before .before .before .before .before .before .before .before .before .before .before in let q = c .before .before .before .before .before .before .before .before .before .before .admit in let j = c .before .before .before .judge in not-judged _ (s .args .store .now) _ _ (q .result) (q .ensures) (c .before .before .before .before .before .before .before .enum-told .given .1) (j .result) (j .ensures) _ (c .before .verdict .given .1)
-
-run-judged-requires : tie.Need-run-judged-requires
-run-judged-requires c κs = let s = c .before .before .before .before .before .before .before .before .before .before .before .before .before .before .before in let q = c .before .before .before .before .before .before .before .before .before .before .before .admit in let j = c .before .before .before .before .judge in run-in _ (s .args .store .now) _ _ (q .result) (q .ensures) (c .before .before .before .before .before .before .before .before .enum-told .given .1) (j .result) (j .ensures) (c .before .before .enum-told2 .given .1)
+run-by-requires : tie.Need-run-by-requires
+run-by-requires c κs = let r = c .before .before .before .before .before .before .receive in waits-few _ (r .result) (r .ensures) (c .before .before .before .before .enum-told .given .1) (c .before .before .if1 .taken)
 
 same-length : tie.Need-same-length
 same-length c = search needs
 
+returns-2 : tie.Need-returns-2
+returns-2 c = search needs
+
+slice-aggregate-run-by-2 : tie.Need-slice-aggregate-run-by-2
+slice-aggregate-run-by-2 c = search needs
+
+run-by-requires-2 : tie.Need-run-by-requires-2
+run-by-requires-2 c κs = let r = c .before .before .before .before .before .before .receive in waits _ (r .result) (r .ensures) (c .before .before .before .before .enum-told .given .1)
+
+same-length-2 : tie.Need-same-length-2
+same-length-2 c = search needs
+
 returns-3 : tie.Need-returns-3
-returns-3 c = let s = c .before .before .before .before .before .before .before .before .before .before .before .before .before .before .before .before .before .before in let q = c .before .before .before .before .before .before .before .before .before .before .before .before .before .before .admit in let j = c .before .before .before .before .before .before .before .judge in let r = c .before .before .run-judged in handed _ (s .args .store .now) _ _ (q .result) (q .ensures) (c .before .before .before .before .before .before .before .before .before .before .before .enum-told .given .1) (j .result) (j .ensures) (c .before .before .before .before .before .enum-told2 .given .1) (r .result) _ (r .ensures)
+returns-3 c = search needs
 
 pub run-spec : {M : Type 1} → statement M
 run-spec =
     tie.close
     (tie.spec
-    slice-aggregate-admit
-    admit-requires
+    receive-requires
     enum-told
     enum-known-status
     returns
-    slice-aggregate-judge
-    judge-requires
-    enum-told-2
-    enum-known-verdict
-    returns-2
-    run-judged-requires
+    slice-aggregate-run-by
+    run-by-requires
     same-length
+    returns-2
+    slice-aggregate-run-by-2
+    run-by-requires-2
+    same-length-2
     returns-3)

@@ -14,7 +14,7 @@ survey-requires : tie.Need-survey-requires
 survey-requires c κs = search needs
 
 returns : tie.Need-returns
-returns c = let s = c .before .before .before .before .before in survey-out (s .args .sheet) (s .args .bound) (s .args .most) (c .survey .result) (c .survey .ensures)
+returns c = let s = c .before .before .before .before .before in survey-out (s .args .sheet) (s .pre .0) (s .args .bound) (s .args .most) (c .survey .result) (c .survey .ensures)
 
 pub survey-spec : {M : Type 1} → statement M
 survey-spec =

@@ -4,7 +4,7 @@ use mathlib.Core.Bool.{true, false}
 use Prim.Native.Nat.{ℕ, _≤_, _<_}
 use native.Mathlib.Omega.{arith}
 use lib.Dec.{leb, le→leb, leb→le}
-use mir.Syntax.{w64}
+use mir.Syntax.{w32}
 use mir.Val.{toZ, ofZ}
 use borrow.Author.Needs.{needs}
 use borrow.Author.Tests.{not-true, not-false}
@@ -32,7 +32,7 @@ returns-2 : tie.Need-returns-2
 unfolding smallLimit limitOf
 returns-2 c =
     let s = c .before .before .before .before .before in
-    let x : toZ w64 (ofZ w64 (s .args .l .constant)) ≡ s .args .l .constant = search needs in
+    let x : toZ w32 (ofZ w32 (s .args .l .constant)) ≡ s .args .l .constant = search needs in
     let e : small (s .args .l .constant) ≡ false = ap small (sym x) ∙ sym (c .before .small-number .ensures) ∙ not-true (c .before .small-number .result) (c .if2 .taken) in
     sym (rw (passes (s .args .l .multiplier) (omega arith), e))
 
@@ -44,7 +44,7 @@ unfolding smallLimit limitOf
 returns-3 c =
     let s = c .before .before .before .before .before .before .before in
     let b = c .before .before .before in
-    let x : toZ w64 (ofZ w64 (s .args .l .constant)) ≡ s .args .l .constant = search needs in
+    let x : toZ w32 (ofZ w32 (s .args .l .constant)) ≡ s .args .l .constant = search needs in
     let e : small (s .args .l .constant) ≡ true = ap small (sym x) ∙ sym (b .small-number .ensures) ∙ not-false (b .small-number .result) (c .before .before .if2 .left) in
     rw (passes (s .args .l .multiplier) (omega arith), e) (c .small-row .ensures)
 

@@ -6,7 +6,7 @@ use native.Mathlib.Omega.{arith}
 use lib.IntN.{pos}
 use lib.ListN.{length, getD, take}
 use lib.Seq.{getD-take, length-take-le}
-use mir.Syntax.{w64}
+use mir.Syntax.{w32}
 use mir.Val.{toZ, ofZ}
 use borrow.Author.Needs.{needs}
 use borrow.Author.Tests.{not-true, not-false}
@@ -33,7 +33,7 @@ test : (c : tie.After-small-number Inv-loop μ-loop) → small (getD (take (c .b
 test c =
     let d = c .before .before .before in
     let s = d .before in
-    let x : toZ w64 (ofZ w64 (getD (s .args .t1) (d .loop .k) (pos 0))) ≡ getD (s .args .t1) (d .loop .k) (pos 0) = search needs in
+    let x : toZ w32 (ofZ w32 (getD (s .args .t1) (d .loop .k) (pos 0))) ≡ getD (s .args .t1) (d .loop .k) (pos 0) = search needs in
     sym (c .small-number .ensures ∙ ap small (x ∙ sym (getD-take (s .args .n) (s .args .t1) (d .loop .k) (pos 0) (omega arith))))
 
 loop-holds : tie.Need-loop-holds Inv-loop μ-loop

@@ -26,8 +26,11 @@ skewed-requires c κs = let s = c .before .before .before in let v = c .before .
 enum-known-step-4 : tie.Need-enum-known-step-4
 enum-known-step-4 c = search needs
 
+cast-w : tie.Need-cast-w
+cast-w c = let s = c .before .before .before .before in let v = c .before .before .step4 .given in let h = there (s .args .step) (Strip (v .0 .0)) (s .args .nest) (v .1) (s .pre) in let w = h .2 .high in record { fits = omega arith }
+
 sectioned-requires : tie.Need-sectioned-requires
-sectioned-requires c κs = let s = c .before .before .before in let v = c .before .step4 .given in let h = there (s .args .step) (Strip (v .0 .0)) (s .args .nest) (v .1) (s .pre) in let w = h .2 .low in record { nest = s .pre .nest; place = h .0; room = h .1; positive = omega arith; narrow = h .2 .high }
+sectioned-requires c κs = let s = c .before .before .before .before in let v = c .before .before .step4 .given in let h = there (s .args .step) (Strip (v .0 .0)) (s .args .nest) (v .1) (s .pre) in let w = h .2 .low in record { nest = s .pre .nest; place = h .0; room = h .1; positive = omega arith; narrow = h .2 .high }
 
 returns : tie.Need-returns
 returns c = let s = c .before .before .before .before in let v = c .before .before .step .given in nest-is (s .args .step) (Swap (v .0 .0)) (s .args .nest) (v .1) (c .exchanged .result) (c .exchanged .ensures)
@@ -39,7 +42,7 @@ returns-3 : tie.Need-returns-3
 returns-3 c = let s = c .before .before .before .before in let v = c .before .before .step3 .given in nest-is (s .args .step) (Lean (v .0 .0)) (s .args .nest) (v .1) (c .skewed .result) (c .skewed .ensures)
 
 returns-4 : tie.Need-returns-4
-returns-4 c = let s = c .before .before .before .before in let v = c .before .before .step4 .given in nest-is (s .args .step) (Strip (v .0 .0)) (s .args .nest) (v .1) (c .sectioned .result) (c .sectioned .ensures)
+returns-4 c = let s = c .before .before .before .before .before in let v = c .before .before .before .step4 .given in nest-is (s .args .step) (Strip (v .0 .0)) (s .args .nest) (v .1) (c .sectioned .result) (c .sectioned .ensures)
 
 pub nest-after-spec : {M : Type 1} → statement M
 nest-after-spec =
@@ -52,6 +55,7 @@ nest-after-spec =
     enum-known-step-3
     skewed-requires
     enum-known-step-4
+    cast-w
     sectioned-requires
     returns
     returns-2

@@ -28,8 +28,11 @@ skewed-requires c κs = let s = c .before .before .before in let v = c .before .
 enum-known-step-4 : tie.Need-enum-known-step-4
 enum-known-step-4 c = search needs
 
+cast-w : tie.Need-cast-w
+cast-w c = let s = c .before .before .before .before in let v = c .before .before .step4 .given in let h = there (s .args .step) (Strip (v .0 .0)) (s .args .n) (v .1) (s .pre .0) in let w = h .2 .high in record { fits = omega arith }
+
 split-requires : tie.Need-split-requires
-split-requires c κs = let s = c .before .before .before in let v = c .before .step4 .given in let h = there (s .args .step) (Strip (v .0 .0)) (s .args .n) (v .1) (s .pre .0) in let w = h .2 .high in (h .0, h .1, omega arith, s .pre .1)
+split-requires c κs = let s = c .before .before .before .before in let v = c .before .before .step4 .given in let h = there (s .args .step) (Strip (v .0 .0)) (s .args .n) (v .1) (s .pre .0) in let w = h .2 .high in (h .0, h .1, omega arith, s .pre .1)
 
 returns : tie.Need-returns
 unfolding depthAfter coefficientsAfter
@@ -45,7 +48,7 @@ returns-3 c = let s = c .before .before .before .before in let v = c .before .be
 
 returns-4 : tie.Need-returns-4
 unfolding depthAfter coefficientsAfter
-returns-4 c = let s = c .before .before .before .before in let v = c .before .before .step4 .given in row-is (s .args .step) (Strip (v .0 .0)) (s .args .n) (v .1) (s .args .cs) (c .split .result) (row-longer (s .args .n) (c .split .result) _ (c .split .ensures))
+returns-4 c = let s = c .before .before .before .before .before in let v = c .before .before .before .step4 .given in row-is (s .args .step) (Strip (v .0 .0)) (s .args .n) (v .1) (s .args .cs) (c .split .result) (row-longer (s .args .n) (c .split .result) _ (c .split .ensures))
 
 pub row-after-spec : {M : Type 1} → statement M
 row-after-spec =
@@ -58,6 +61,7 @@ row-after-spec =
     enum-known-step-3
     skewed-requires
     enum-known-step-4
+    cast-w
     split-requires
     returns
     returns-2

@@ -1,6 +1,6 @@
 use mathlib.Core.Path.{_≡_, sym, _∙_, ap}
 use mathlib.Core.Bool.{true, false}
-use mir.Syntax.{w64}
+use mir.Syntax.{w32}
 use mir.Val.{toZ, ofZ}
 use borrow.Author.Tests.{not-true, not-false}
 use borrow.Author.Needs.{needs}
@@ -16,7 +16,7 @@ returns : tie.Need-returns
 unfolding subscriptOf
 returns c =
     let s = c .before .before .before in
-    let x : toZ w64 (ofZ w64 (s .args .s .constant)) ≡ s .args .s .constant = search needs in
+    let x : toZ w32 (ofZ w32 (s .args .s .constant)) ≡ s .args .s .constant = search needs in
     let e : small (s .args .s .constant) ≡ false = ap small (sym x) ∙ sym (c .before .small-number .ensures) ∙ not-true (c .before .small-number .result) (c .if1 .taken) in
     sym (rw e)
 
@@ -28,7 +28,7 @@ unfolding subscriptOf
 returns-2 c =
     let s = c .before .before .before .before .before in
     let b = c .before .before .before in
-    let x : toZ w64 (ofZ w64 (s .args .s .constant)) ≡ s .args .s .constant = search needs in
+    let x : toZ w32 (ofZ w32 (s .args .s .constant)) ≡ s .args .s .constant = search needs in
     let e : small (s .args .s .constant) ≡ true = ap small (sym x) ∙ sym (b .small-number .ensures) ∙ not-false (b .small-number .result) (c .before .before .if1 .left) in
     rw e (c .small-row .ensures)
 

@@ -1,5 +1,5 @@
 use mathlib.Core.Path.{_≡_}
-use mir.Syntax.{w64}
+use mir.Syntax.{w32}
 use mir.Val.{toZ, ofZ}
 use borrow.Author.Needs.{needs}
 use Rattle.subscripts.proofs.SubscriptLaws.{coefficients-small, subscript-is}
@@ -12,8 +12,8 @@ row-after-requires c κs = let s = c .before .before in (s .pre .step, coefficie
 returns : tie.Need-returns
 returns c =
     let s = c .before .before .before in
-    let x : toZ w64 (ofZ w64 (s .args .s .constant)) ≡ s .args .s .constant = search needs in
-    subscript-is (s .args .n) (s .args .step) (s .args .s) (toZ w64 (ofZ w64 (s .args .s .constant))) (c .row-after .result) x (c .row-after .ensures)
+    let x : toZ w32 (ofZ w32 (s .args .s .constant)) ≡ s .args .s .constant = search needs in
+    subscript-is (s .args .n) (s .args .step) (s .args .s) (toZ w32 (ofZ w32 (s .args .s .constant))) (c .row-after .result) x (c .row-after .ensures)
 
 pub subscript-after-spec : {M : Type 1} → statement M
 subscript-after-spec = tie.close (tie.spec row-after-requires returns)

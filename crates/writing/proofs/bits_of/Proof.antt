@@ -5,7 +5,7 @@ use native.Mathlib.Omega.{arith}
 use lib.IntN.{ℤ, pos, negsuc, natAbs, _+ℤ_}
 use lib.Dec.{T}
 use lib.Signed.{_<ℤ_, _≤ℤ_, nonNeg}
-use mir.Syntax.{w64}
+use mir.Syntax.{w32, w64}
 use mir.Val.{toZ, ofZ, SFits, Fits}
 use mir.Facts.{toZ-ofZ}
 use Rattle.integers.proofs.DifferenceLaws.{add-fact}
@@ -32,11 +32,11 @@ unfolding bits
 up (pos n) h l = refl
 up (negsuc n) h l = absurd (omega zarith)
 
-fits-bits : (w : ℤ) → Small w → SFits w64 (pos (bits w))
+fits-bits : (w : ℤ) → Small w → SFits w32 (pos (bits w))
 fits-bits w h = let b = bits-below w h in record { sfits = omega arith }
 
 module _ (w : ℤ) (h : Small w) where
-  same : toZ w64 (ofZ w64 w) ≡ w
+  same : toZ w32 (ofZ w32 w) ≡ w
   same = toZ-ofZ (small-fits w h)
 
   cast : (z : ℤ) → z ≡ pos (bits w) → T (nonNeg z) × Fits w64 (natAbs z)
@@ -45,16 +45,16 @@ module _ (w : ℤ) (h : Small w) where
   result : (z : ℤ) → z ≡ pos (bits w) → (natAbs z ≡ bits w) × (natAbs z < 65536)
   result z e = let b = bits-below w h in let f : natAbs z ≡ bits w = ap natAbs e in (f, omega arith)
 
-  lower : toZ w64 (ofZ w64 w) <ℤ pos 0 → toZ w64 (ofZ w64 w) +ℤ pos 65536 ≡ pos (bits w)
+  lower : toZ w32 (ofZ w32 w) <ℤ pos 0 → toZ w32 (ofZ w32 w) +ℤ pos 65536 ≡ pos (bits w)
   lower l = ap (_+ℤ pos 65536) same ∙ sum w h (subst (λ z. z <ℤ pos 0) same l)
 
-  lower-fits : toZ w64 (ofZ w64 w) <ℤ pos 0 → SFits w64 (toZ w64 (ofZ w64 w) +ℤ pos 65536)
-  lower-fits l = subst (SFits w64) (sym (lower l)) (fits-bits w h)
+  lower-fits : toZ w32 (ofZ w32 w) <ℤ pos 0 → SFits w32 (toZ w32 (ofZ w32 w) +ℤ pos 65536)
+  lower-fits l = subst (SFits w32) (sym (lower l)) (fits-bits w h)
 
-  lower-read : toZ w64 (ofZ w64 w) <ℤ pos 0 → toZ w64 (ofZ w64 (toZ w64 (ofZ w64 w) +ℤ pos 65536)) ≡ pos (bits w)
+  lower-read : toZ w32 (ofZ w32 w) <ℤ pos 0 → toZ w32 (ofZ w32 (toZ w32 (ofZ w32 w) +ℤ pos 65536)) ≡ pos (bits w)
   lower-read l = toZ-ofZ (lower-fits l) ∙ lower l
 
-  upper : pos 0 ≤ℤ toZ w64 (ofZ w64 w) → toZ w64 (ofZ w64 w) ≡ pos (bits w)
+  upper : pos 0 ≤ℤ toZ w32 (ofZ w32 w) → toZ w32 (ofZ w32 w) ≡ pos (bits w)
   upper l = same ∙ up w h (subst (λ z. pos 0 ≤ℤ z) same l)
 
 add-result : tie.Need-add-result

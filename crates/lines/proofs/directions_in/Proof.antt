@@ -1,0 +1,35 @@
+-- `directions_in`: marks for 2 statements, or for 4.
+use mathlib.Core.Path.{refl}
+use borrow.Author.Needs.{needs}
+use Rattle.lines.proofs.MarkLaws.{lines-in}
+use Rattle.lines.proofs.directions_in.Statement.{statement}
+use Rattle.lines.proofs.directions_in.Tie as tie
+
+slice-aggregate-directions-by : tie.Need-slice-aggregate-directions-by
+slice-aggregate-directions-by c = search needs
+
+directions-by-requires : tie.Need-directions-by-requires
+directions-by-requires c κs = let s = c .before .before .before in lines-in (s .args .sheet) (s .args .points .now) (s .args .count) (s .pre) 2 (c .before .if1 .taken) 8748 refl
+
+returns : tie.Need-returns
+returns c = search needs
+
+slice-aggregate-directions-by-2 : tie.Need-slice-aggregate-directions-by-2
+slice-aggregate-directions-by-2 c = search needs
+
+directions-by-requires-2 : tie.Need-directions-by-requires-2
+directions-by-requires-2 c κs = let s = c .before .before .before in lines-in (s .args .sheet) (s .args .points .now) (s .args .count) (s .pre) 4 (s .pre .sheet .few-statements) 34992 refl
+
+returns-2 : tie.Need-returns-2
+returns-2 c = search needs
+
+pub directions-in-spec : {M : Type 1} → statement M
+directions-in-spec =
+    tie.close
+    (tie.spec
+    slice-aggregate-directions-by
+    directions-by-requires
+    returns
+    slice-aggregate-directions-by-2
+    directions-by-requires-2
+    returns-2)

@@ -1,0 +1,67 @@
+-- `run_by`: 9, then 10 to 13, then the outcome of the judged ticket.
+use Rattle.intake.specs.Intake.{withStatus}
+use Rattle.run_entry.proofs.EntryLaws.{not-admitted, not-judged, run-in, handed}
+use borrow.Author.Needs.{needs}
+use Rattle.run_entry.proofs.run_by.Statement.{statement}
+use Rattle.run_entry.proofs.run_by.Tie as tie
+
+admit-requires : tie.Need-admit-requires
+admit-requires c κs = search needs
+
+enum-told : tie.Need-enum-told
+enum-told c = search needs
+
+enum-known-status : tie.Need-enum-known-status
+enum-known-status c = search needs
+
+same-length : tie.Need-same-length
+same-length c = search needs
+
+returns : tie.Need-returns
+returns c = let s = c .before .before .before .before .before .before .before .before in let a = c .before .before .before .before .admit in not-admitted _ (s .args .store .now) _ _ (withStatus (a .result) (s .args .all)) (a .ensures) _ (c .before .status .given .1)
+
+judge-requires : tie.Need-judge-requires
+judge-requires c κs = let a = c .before .before .before .before .before .before .admit in a .ensures .taken (c .before .before .before .enum-told .given .1)
+
+enum-told-2 : tie.Need-enum-told-2
+enum-told-2 c = search needs
+
+enum-known-verdict : tie.Need-enum-known-verdict
+enum-known-verdict c = search needs
+
+same-length-2 : tie.Need-same-length-2
+same-length-2 c = search needs
+
+returns-2 : tie.Need-returns-2
+returns-2 c = let s = c .before .before .before .before .before .before .before .before .before .before .before .before .before .before in let a = c .before .before .before .before .before .before .before .before .before .before .admit in let j = c .before .before .before .judge in not-judged _ (s .args .store .now) _ _ (withStatus (a .result) (s .args .all)) (a .ensures) (c .before .before .before .before .before .before .before .enum-told .given .1) (j .result) (j .ensures) _ (c .before .verdict .given .1)
+
+run-judged-requires : tie.Need-run-judged-requires
+run-judged-requires c κs = let s = c .before .before .before .before .before .before .before .before .before .before .before .before .before .before .before in let a = c .before .before .before .before .before .before .before .before .before .before .before .admit in let j = c .before .before .before .before .judge in run-in _ (s .args .store .now) _ _ (withStatus (a .result) (s .args .all)) (a .ensures) (c .before .before .before .before .before .before .before .before .enum-told .given .1) (j .result) (j .ensures) (c .before .before .enum-told2 .given .1)
+
+same-length-3 : tie.Need-same-length-3
+same-length-3 c = search needs
+
+same-length-4 : tie.Need-same-length-4
+same-length-4 c = search needs
+
+returns-3 : tie.Need-returns-3
+returns-3 c = let s = c .before .before .before .before .before .before .before .before .before .before .before .before .before .before .before .before .before .before in let a = c .before .before .before .before .before .before .before .before .before .before .before .before .before .before .admit in let j = c .before .before .before .before .before .before .before .judge in let r = c .before .before .run-judged in handed _ (s .args .store .now) _ _ (withStatus (a .result) (s .args .all)) (a .ensures) (c .before .before .before .before .before .before .before .before .before .before .before .enum-told .given .1) (j .result) (j .ensures) (c .before .before .before .before .before .enum-told2 .given .1) (r .result) _ (r .ensures)
+
+pub run-by-spec : {M : Type 1} → statement M
+run-by-spec =
+    tie.close
+    (tie.spec
+    admit-requires
+    enum-told
+    enum-known-status
+    same-length
+    returns
+    judge-requires
+    enum-told-2
+    enum-known-verdict
+    same-length-2
+    returns-2
+    run-judged-requires
+    same-length-3
+    same-length-4
+    returns-3)
