@@ -2,6 +2,7 @@
 //!
 //!     cargo bench
 //!     cargo bench -- --quick judge stencil
+//!     cargo bench -- --write FOLDER
 
 #[path = "entries/calls.rs"]
 mod calls;
@@ -11,7 +12,9 @@ mod kernels;
 mod timing;
 
 use std::env;
+use std::fs;
 use std::io::{IsTerminal, Write, stderr};
+use std::path::{Path, PathBuf};
 use std::process::ExitCode;
 
 use calls::{ENTRIES, Entry, Subject};
@@ -20,10 +23,12 @@ use timing::{Effort, Trial};
 const HELP: &str = "Times each proved entry beside the twin: the same algorithm in plain Rust, without proofs.
 
 Usage: cargo bench [-- [--quick] [NAME ...]]
+       cargo bench -- --write FOLDER
 
-  --quick   fewer and shorter runs
-  NAME      only rows whose entry or kernel has all these names in it, such as 'judge' or 'matrix';
-            'worked' is the table of worked cases
+  --quick          fewer and shorter runs
+  NAME             only rows whose entry or kernel has all these names in it, such as 'judge' or 'matrix';
+                   'worked' is the table of worked cases
+  --write FOLDER   time nothing: write every worked case, and every kernel at every size, to FOLDER as a binary ticket
 
 Columns: iterations of the nest; conflicts, the pairs of accesses that name one element (at least one writes); time of the proved entry and of
 the twin; their ratio; growth of the proved entry's time for each doubling of the iterations since the row above (2 is linear); time of the
@@ -32,20 +37,28 @@ proved entry for each iteration and conflict.";
 struct Wanted {
     effort: Effort,
     names: Vec<String>,
+    /// Where tickets are to be written.
+    folder: Option<PathBuf>,
 }
 
 impl Wanted {
     /// Nothing where help is asked for.
-    fn of(arguments: impl Iterator<Item = String>) -> Result<Option<Wanted>, String> {
+    fn of(mut arguments: impl Iterator<Item = String>) -> Result<Option<Wanted>, String> {
         let mut wanted = Wanted {
             effort: Effort::FULL,
             names: Vec::new(),
+            folder: None,
         };
         let mut timed = false;
-        for argument in arguments {
+        while let Some(argument) = arguments.next() {
             match argument.as_str() {
                 "--help" | "-h" => return Ok(None),
                 "--quick" => wanted.effort = Effort::QUICK,
+                // Cargo's own `--bench` comes after all others.
+                "--write" => match arguments.next().filter(|folder| folder != "--bench") {
+                    Some(folder) => wanted.folder = Some(folder.into()),
+                    None => return Err("--write needs a folder.".into()),
+                },
                 // `cargo bench` hands this over, and `cargo test --benches` does not.
                 "--bench" => timed = true,
                 option if option.starts_with('-') => return Err(format!("There is no option {option}.")),
@@ -163,8 +176,35 @@ fn bench(wanted: &Wanted) -> Result<(), String> {
     Ok(())
 }
 
+/// Every worked case, and every kernel at every size. Names sort in the order of the tables, as in 'kernel-3-matrix-product-1000'.
+fn write_tickets(folder: &Path) -> Result<(), String> {
+    let plain = |name: &str| name.replace(',', "").replace(' ', "-");
+    let mut tickets: Vec<(String, Subject)> = kernels::worked_cases()?
+        .iter()
+        .map(|(name, text)| (format!("case-{}", plain(name)), Subject::of(text)))
+        .collect();
+    for (k, kernel) in kernels::KERNELS.iter().enumerate() {
+        for text in (kernel.sizes)() {
+            let subject = Subject::of(&text);
+            tickets.push((
+                format!("kernel-{}-{}-{:04}", k + 1, plain(kernel.name), subject.iterations),
+                subject,
+            ));
+        }
+    }
+    let failed = |path: &Path, error| format!("{} cannot be written: {error}.", path.display());
+    fs::create_dir_all(folder).map_err(|error| failed(folder, error))?;
+    for (name, subject) in &tickets {
+        let file = folder.join(name);
+        fs::write(&file, subject.bytes()).map_err(|error| failed(&file, error))?;
+    }
+    println!("{} tickets written to {}", tickets.len(), folder.display());
+    Ok(())
+}
+
 fn main() -> ExitCode {
     let outcome = match Wanted::of(env::args().skip(1)) {
+        Ok(Some(Wanted { folder: Some(folder), .. })) => write_tickets(&folder),
         Ok(Some(wanted)) => bench(&wanted),
         Ok(None) => {
             println!("{HELP}");

@@ -76,6 +76,10 @@ impl Subject {
         }
     }
 
+    pub fn bytes(&self) -> &[u8] {
+        self.ticket.as_bytes()
+    }
+
     pub fn call(&mut self, call: Call) {
         black_box(call(self));
     }
