@@ -29,15 +29,25 @@ pub fn first_stray(nest: &Nest, points: &Points) -> Option<usize> {
     owner.map(|statement| statement + 1)
 }
 
-/// The places of one access in the store, point by point.
-fn number<const D: usize>(nest: &Nest, access: &Access, points: &Points, out: &mut Vec<u16>) {
+/// The place of an access in the store: affine, as its subscripts are.
+fn place(nest: &Nest, access: &Access) -> Subscript {
     let array = &nest.arrays[access.array];
-    let subscripts = nest.subscripts_of(access);
-    out.extend(points.rows::<D>().iter().map(|point| {
-        let places = subscripts.iter().zip(&array.extents);
-        let place = places.fold(0, |place, (subscript, extent)| place * *extent as i64 + subscript.at(point));
-        (array.base as i64 + place) as u16
-    }));
+    let mut place = Subscript::default();
+    for (subscript, extent) in nest.subscripts_of(access).iter().zip(&array.extents) {
+        let extent = *extent as i64;
+        place.constant = place.constant * extent + subscript.constant;
+        for (sum, coefficient) in place.row.iter_mut().zip(&subscript.row) {
+            *sum = *sum * extent + coefficient;
+        }
+    }
+    place.constant += array.base as i64;
+    place
+}
+
+/// The places of one access, point by point.
+fn number<const D: usize>(nest: &Nest, access: &Access, points: &Points, out: &mut Vec<u16>) {
+    let place = place(nest, access);
+    out.extend(points.rows::<D>().iter().map(|point| place.at(point) as u16));
 }
 
 fn number_all<const D: usize>(nest: &Nest, points: &Points) -> Vec<u16> {

@@ -27,7 +27,7 @@ pub struct Array {
     pub extents: Vec<usize>,
 }
 
-#[derive(Clone, Copy)]
+#[derive(Clone, Copy, Default)]
 pub struct Subscript {
     pub constant: i64,
     pub row: Row,
