@@ -1,7 +1,7 @@
 -- One limit: its words are small, so its value is, and the machine reads what the model says. Then its quotient by the multiplier.
 use mathlib.Core.Path.{_≡_, refl, sym, _∙_, ap, subst}
 use mathlib.Core.List.{List, [], _∷_}
-use Prim.Native.Nat.{ℕ, zero, suc, _+_, _*_, _-_, _≤_}
+use Prim.Native.Nat.{ℕ, zero, suc, _+_, _*_, _≤_}
 use native.Mathlib.Omega.{arith}
 use native.Mathlib.Nat.{mul-le-mul-right}
 use lib.IntN.{ℤ, pos, negsuc, natAbs}
@@ -11,7 +11,7 @@ use mir.Syntax.{w64}
 use mir.Val.{toZ, ofZ}
 use Rattle.integers.specs.Difference.{size}
 use Rattle.integers.specs.Division.{floorDiv, ceilDiv}
-use Rattle.integers.specs.Affine.{affine, Within, AffineIn}
+use Rattle.integers.specs.Affine.{affine, affineAt, Within, AffineAt}
 use Rattle.integers.proofs.RingLaws.{zarith}
 use Rattle.integers.proofs.RangeLaws.{back, size-fits}
 use Rattle.integers.proofs.DivisionLaws.{size-ceil, size-floor}
@@ -46,22 +46,22 @@ module _ {s : List ℤ} {j : ℕ} {outer : List ℤ} (p : LimitIn s j outer) whe
   small : Within 32767 (coefficients s j outer)
   small = within-take 32767 (drop (j * 8 + 2) s) (length outer) (within-drop 32767 s (j * 8 + 2) (p .small))
 
-  span-is : j * 8 + 2 + length outer - (j * 8 + 2) ≡ length outer
-  span-is = omega arith
+  place-is : j * 8 + 1 + 1 ≡ j * 8 + 2
+  place-is = omega arith
 
-  pub affine-in : AffineIn (toZ w64 (ofZ w64 (getD s (j * 8 + 1) (pos 0)))) (take (j * 8 + 2 + length outer - (j * 8 + 2)) (drop (j * 8 + 2) s)) outer
-  affine-in = rw (read-word (j * 8 + 1), span-is) (let m = matched in let f = p .outside .few in nest-affine m (omega arith) (word (j * 8 + 1)) small (p .outside .near))
+  pub affine-in : AffineAt s (j * 8 + 1) outer
+  affine-in = let w = p .words in let i = p .inside in let f = p .outside .few in let m = matched in
+      record { inside = omega arith; lent = rw place-is (nest-affine m (omega arith) (word (j * 8 + 1)) small (p .outside .near)) }
 
   value-size : Narrow (value (limitAt s (length outer) j) outer)
   unfolding value limitAt
   value-size = let m = matched in let f = p .outside .few in let w = word (j * 8 + 1) in let g : length (coefficients s j outer) ≤ 6 = omega arith in
       omega (arith, affine-size 32767 100000 (getD s (j * 8 + 1) (pos 0)) (coefficients s j outer) outer small (p .outside .near), mul-le-mul-right (32767 * 100000) g)
 
-  pub value-is : (r : ℤ) → r ≡ affine (toZ w64 (ofZ w64 (getD s (j * 8 + 1) (pos 0)))) (take (j * 8 + 2 + length outer - (j * 8 + 2)) (drop (j * 8 + 2) s)) outer
-      → (toZ w64 (ofZ w64 r) ≡ value (limitAt s (length outer) j) outer) × Narrow (toZ w64 (ofZ w64 r))
-  unfolding value limitAt
+  pub value-is : (r : ℤ) → r ≡ affineAt s (j * 8 + 1) outer → (toZ w64 (ofZ w64 r) ≡ value (limitAt s (length outer) j) outer) × Narrow (toZ w64 (ofZ w64 r))
+  unfolding value limitAt affineAt
   value-is r e =
-      let f : r ≡ value (limitAt s (length outer) j) outer = e ∙ rw (read-word (j * 8 + 1), span-is) in
+      let f : r ≡ value (limitAt s (length outer) j) outer = e ∙ ap (λ (k : ℕ). affine (getD s (j * 8 + 1) (pos 0)) (take (length outer) (drop k s)) outer) place-is in
       let v = value-size in
       let g : toZ w64 (ofZ w64 r) ≡ value (limitAt s (length outer) j) outer = ap (λ (z : ℤ). toZ w64 (ofZ w64 z)) f ∙ copied _ v in
       (g, subst Narrow (sym g) v)
@@ -72,13 +72,16 @@ multiplier-is : (z : ℤ) → pos 0 <ℤ z → pos (natAbs z) ≡ z
 multiplier-is (pos n) h = refl
 multiplier-is (negsuc n) h = absurd (omega zarith)
 
-module _ {s : List ℤ} {j : ℕ} {outer : List ℤ} (p : DivisorIn s j outer) where
-  divisor-is : toZ w64 (ofZ w64 (getD s (j * 8) (pos 0))) ≡ pos (limitAt s (length outer) j .multiplier)
+module _ {s : List ℤ} {j : ℕ} {outer : List ℤ} (p : DivisorIn s j outer) {d : ℤ} (w : d ≡ getD s (j * 8) (pos 0)) where
+  divisor-is : toZ w64 (ofZ w64 d) ≡ pos (limitAt s (length outer) j .multiplier)
   unfolding limitAt
-  divisor-is = read-word (p .limit) (j * 8) ∙ sym (multiplier-is (getD s (j * 8) (pos 0)) (p .positive))
+  divisor-is = ap (λ (z : ℤ). toZ w64 (ofZ w64 z)) w ∙ read-word (p .limit) (j * 8) ∙ sym (multiplier-is (getD s (j * 8) (pos 0)) (p .positive))
+
+  pub divisor-positive : pos 0 <ℤ toZ w64 (ofZ w64 d)
+  divisor-positive = rw (w, read-word (p .limit) (j * 8)) (p .positive)
 
   module _ (v r : ℤ) (q : (v ≡ value (limitAt s (length outer) j) outer) × Narrow v) where
-    pub ceil-is : r ≡ ceilDiv (toZ w64 (ofZ w64 v)) (toZ w64 (ofZ w64 (getD s (j * 8) (pos 0))))
+    pub ceil-is : r ≡ ceilDiv (toZ w64 (ofZ w64 v)) (toZ w64 (ofZ w64 d))
         → (toZ w64 (ofZ w64 r) ≡ ceilAt outer (limitAt s (length outer) j)) × Narrow (toZ w64 (ofZ w64 r))
     unfolding ceilAt
     ceil-is e = let b = q .1 in
@@ -87,7 +90,7 @@ module _ {s : List ℤ} {j : ℕ} {outer : List ℤ} (p : DivisorIn s j outer) w
         let g : toZ w64 (ofZ w64 r) ≡ r = copied r k in
         (g ∙ f ∙ rw (q .0), subst Narrow (sym g) k)
 
-    pub floor-is : r ≡ floorDiv (toZ w64 (ofZ w64 v)) (toZ w64 (ofZ w64 (getD s (j * 8) (pos 0))))
+    pub floor-is : r ≡ floorDiv (toZ w64 (ofZ w64 v)) (toZ w64 (ofZ w64 d))
         → (toZ w64 (ofZ w64 r) ≡ floorAt outer (limitAt s (length outer) j)) × Narrow (toZ w64 (ofZ w64 r))
     unfolding floorAt
     floor-is e = let b = q .1 in

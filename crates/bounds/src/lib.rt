@@ -8,28 +8,27 @@ ghost use Rattle.bounds.specs.Flat.{limitAt, loopAt};
 ghost use Rattle.bounds.specs.Ranges.{Narrow, ceilAt, floorAt, firstFrom, lastFrom, LimitIn, DivisorIn, SideIn, RangeIn, Ranged};
 
 // What limit j has against its multiplier times the index: the constant and the coefficients times the indices outside.
-fn value(nest: &[i64], j: usize, outer: &[i64]) -> i64
+fn value(nest: &[i16], j: usize, outer: &[i64]) -> i64
     requires { ⌜ LimitIn (now nest) j (now outer) ⌝ }
     ensures { λ r. ⌜ (r ≡ Rattle.model.specs.Points.value (limitAt (now (nest .entry)) (length (now (outer .entry))) j) (now (outer .entry))) × Narrow r ⌝ }
 {
-    let at = j * 8;
-    integers::affine(nest[at + 1], &nest[at + 2..at + 2 + outer.len()], outer)
+    integers::affine_at(nest, j * 8 + 1, outer)
 }
 
 // The smallest index that lower limit j allows.
-fn low_at(nest: &[i64], j: usize, outer: &[i64]) -> i64
+fn low_at(nest: &[i16], j: usize, outer: &[i64]) -> i64
     requires { ⌜ DivisorIn (now nest) j (now outer) ⌝ }
     ensures { λ r. ⌜ (r ≡ ceilAt (now (outer .entry)) (limitAt (now (nest .entry)) (length (now (outer .entry))) j)) × Narrow r ⌝ }
 {
-    integers::ceil_div(value(nest, j, outer), nest[j * 8])
+    integers::ceil_div(value(nest, j, outer), integers::word(nest, j * 8))
 }
 
 // The largest index that upper limit j allows.
-fn high_at(nest: &[i64], j: usize, outer: &[i64]) -> i64
+fn high_at(nest: &[i16], j: usize, outer: &[i64]) -> i64
     requires { ⌜ DivisorIn (now nest) j (now outer) ⌝ }
     ensures { λ r. ⌜ (r ≡ floorAt (now (outer .entry)) (limitAt (now (nest .entry)) (length (now (outer .entry))) j)) × Narrow r ⌝ }
 {
-    integers::floor_div(value(nest, j, outer), nest[j * 8])
+    integers::floor_div(value(nest, j, outer), integers::word(nest, j * 8))
 }
 
 // A number under way: in a struct, so that a loop's invariant sees the integer and not its bits.
@@ -61,7 +60,7 @@ pub fn smaller(x: i64, rest: Whole) -> Whole
 }
 
 // The largest of what n lower limits from limit j on allow, the last one first.
-fn first_from(nest: &[i64], j: usize, n: usize, outer: &[i64]) -> i64
+fn first_from(nest: &[i16], j: usize, n: usize, outer: &[i64]) -> i64
     requires { ⌜ SideIn (now nest) j n (now outer) ⌝ }
     ensures { λ r. ⌜ (r ≡ firstFrom (now (nest .entry)) j n (now (outer .entry))) × Narrow r ⌝ }
 {
@@ -77,7 +76,7 @@ fn first_from(nest: &[i64], j: usize, n: usize, outer: &[i64]) -> i64
 }
 
 // The smallest of what n upper limits from limit j on allow.
-fn last_from(nest: &[i64], j: usize, n: usize, outer: &[i64]) -> i64
+fn last_from(nest: &[i16], j: usize, n: usize, outer: &[i64]) -> i64
     requires { ⌜ SideIn (now nest) j n (now outer) ⌝ }
     ensures { λ r. ⌜ (r ≡ lastFrom (now (nest .entry)) j n (now (outer .entry))) × Narrow r ⌝ }
 {
@@ -99,7 +98,7 @@ pub struct Ends {
 }
 
 // The ends of the loop that stands inside the indices outer.
-pub fn range(nest: &[i64], counts: &[usize], outer: &[i64]) -> Ends
+pub fn range(nest: &[i16], counts: &[usize], outer: &[i64]) -> Ends
     requires { ⌜ RangeIn (now nest) (now counts) (now outer) ⌝ }
     ensures { λ r. ⌜ Ranged (loopAt (now (nest .entry)) (now (counts .entry)) (length (now (outer .entry)))) (now (outer .entry)) (r .lo) (r .hi) ⌝ }
 {

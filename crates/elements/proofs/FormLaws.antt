@@ -1,6 +1,6 @@
 -- Forms: folded number by number; how large their numbers are; their values. Then the form of an access, dimension by dimension.
 use mathlib.Core.Path.{_≡_, refl, sym, _∙_, ap, ap₂, subst}
-use mathlib.Core.List.{List, [], _∷_, zipWith}
+use mathlib.Core.List.{List, [], _∷_, _++_, zipWith}
 use Prim.Native.Nat.{ℕ, zero, suc, _+_, _*_, _-_, _≤_, _<_}
 use native.Mathlib.Omega.{arith}
 use native.Mathlib.Nat.{mul-le-mul-left, add-zero}
@@ -9,7 +9,7 @@ use lib.Dec.{T}
 use lib.IntN.{ℤ, pos, natAbs, _+ℤ_, _*ℤ_}
 use lib.Signed.{nonNeg}
 use lib.ListN.{length, getD, take, drop, set, replicate, length-drop, length-set}
-use lib.Seq.{length-take-le, take-take, drop-drop, getD-take, getD-drop, take-length}
+use lib.Seq.{length-take-le, take-take, take-suc, take-suc-set, drop-drop, getD-take, getD-drop, take-length}
 use mir.Syntax.{w16, w64}
 use mir.Val.{Fits, SFits, toZ, ofZ}
 use Rattle.lists.proofs.MembershipLaws.{length-zipWith, zipWith-more}
@@ -21,8 +21,9 @@ use Rattle.integers.proofs.Polynomial.{_⊕_}
 use Rattle.integers.proofs.Linear.{lin, _≐_}
 use Rattle.model.specs.Bounds.{subscriptAt}
 use Rattle.bounds.proofs.LimitLaws.{copied, within-drop}
+use Rattle.bounds.specs.Ranges.{Narrow}
 use Rattle.elements.specs.Layout.{formAt, ArrayIn, AccessesOk}
-use Rattle.elements.specs.Forms.{wordsAt, folded, formTo, raised, formOf, valueAt, FoldIn, ValueIn}
+use Rattle.elements.specs.Forms.{wordsAt, folded, formTo, raised, formOf, valueAt, FoldIn, ValueIn, PlacedIn}
 use Rattle.elements.proofs.LayoutLaws.{array-in}
 
 -- ---- one number
@@ -36,23 +37,38 @@ pub words-length : (w : List ℤ) (j : ℕ) → j * 8 + 8 ≤ length w → lengt
 unfolding wordsAt
 words-length w j h = length-take-le 8 (drop (j * 8) w) (let l = length-drop (j * 8) w in omega arith)
 
-module _ {f : List ℤ} {n : ℕ} {w : List ℤ} {j : ℕ} (p : FoldIn f n w j) where
-  word-read : (l : ℕ) → l < 8 → getD (wordsAt w j) l (pos 0) ≡ getD w (j * 8 + l) (pos 0)
-  unfolding wordsAt
-  word-read l h = getD-take 8 (drop (j * 8) w) l (pos 0) h ∙ getD-drop (j * 8) w l (pos 0)
+word-read : (w : List ℤ) (j l : ℕ) → l < 8 → getD (wordsAt w j) l (pos 0) ≡ getD w (j * 8 + l) (pos 0)
+unfolding wordsAt
+word-read w j l h = getD-take 8 (drop (j * 8) w) l (pos 0) h ∙ getD-drop (j * 8) w l (pos 0)
 
-  module _ (l : ℕ) where
+-- the first l words are copied
+module _ (w : List ℤ) (j : ℕ) (p : j * 8 + 8 ≤ length w) where
+  pub copy-more : (l : ℕ) (r : List ℤ) (z : ℤ) → l < 8 → length r ≡ 8 → Within 32767 w → take l r ≡ take l (wordsAt w j) → z ≡ getD w (j * 8 + l) (pos 0)
+      → take (l + 1) (set r l (toZ w64 (ofZ w64 z))) ≡ take (l + 1) (wordsAt w j)
+  copy-more l r z h lr small e q =
+      let k = words-length w j p in
+      let s = within-at 32767 w small (j * 8 + l) in
+      let v : toZ w64 (ofZ w64 z) ≡ getD (wordsAt w j) l (pos 0) = ap (λ (t : ℤ). toZ w64 (ofZ w64 t)) q ∙ copied (getD w (j * 8 + l) (pos 0)) (omega arith) ∙ sym (word-read w j l h) in
+      rw add-one (take-suc-set r l (toZ w64 (ofZ w64 z)) (omega arith) ∙ ap₂ (λ (x : List ℤ) (y : ℤ). x ++ (y ∷ [])) e v ∙ sym (take-suc (wordsAt w j) l (pos 0) (omega arith)))
+
+  pub copy-all : (r : List ℤ) (l : ℕ) → l ≡ 8 → length r ≡ 8 → take l r ≡ take l (wordsAt w j) → r ≡ wordsAt w j
+  copy-all r l h lr e =
+      let whole : (x : List ℤ) → length x ≡ 8 → take l x ≡ x = λ x q. ap (λ (m : ℕ). take m x) (h ∙ sym q) ∙ take-length x in
+      sym (whole r lr) ∙ e ∙ whole (wordsAt w j) (words-length w j p)
+
+module _ {f : List ℤ} {n : ℕ} {w : List ℤ} {j : ℕ} (p : FoldIn f n w j) where
+  module _ (l : ℕ) {y : ℤ} (d : y ≡ getD w (j * 8 + l) (pos 0)) where
     copied-number : toZ w64 (ofZ w64 (getD f l (pos 0))) ≡ getD f l (pos 0)
     copied-number = let s = within-at 134246399 f (p .near) l in copied (getD f l (pos 0)) (omega arith)
 
-    copied-word : toZ w64 (ofZ w64 (getD w (j * 8 + l) (pos 0))) ≡ getD w (j * 8 + l) (pos 0)
-    copied-word = let s = within-at 32767 w (p .small) (j * 8 + l) in copied (getD w (j * 8 + l) (pos 0)) (omega arith)
+    copied-word : toZ w64 (ofZ w64 y) ≡ getD w (j * 8 + l) (pos 0)
+    copied-word = let s = within-at 32767 w (p .small) (j * 8 + l) in ap (λ (z : ℤ). toZ w64 (ofZ w64 z)) d ∙ copied (getD w (j * 8 + l) (pos 0)) (omega arith)
 
-    pub number-in : (size (toZ w64 (ofZ w64 (getD f l (pos 0)))) ≤ 134246399) × (n ≤ 4096) × (size (toZ w64 (ofZ w64 (getD w (j * 8 + l) (pos 0)))) ≤ 32767)
+    pub number-in : (size (toZ w64 (ofZ w64 (getD f l (pos 0)))) ≤ 134246399) × (n ≤ 4096) × (size (toZ w64 (ofZ w64 y)) ≤ 32767)
     number-in = (rw copied-number (within-at 134246399 f (p .near) l), p .extents, rw copied-word (within-at 32767 w (p .small) (j * 8 + l)))
 
     pub fold-more : (r : List ℤ) (z : ℤ) → l < 8 → length r ≡ 8 → length f ≡ 8 → take l r ≡ folded n (take l f) (take l (wordsAt w j))
-        → z ≡ toZ w64 (ofZ w64 (getD f l (pos 0))) *ℤ pos n +ℤ toZ w64 (ofZ w64 (getD w (j * 8 + l) (pos 0)))
+        → z ≡ toZ w64 (ofZ w64 (getD f l (pos 0))) *ℤ pos n +ℤ toZ w64 (ofZ w64 y)
         → take (l + 1) (set r l (toZ w64 (ofZ w64 z))) ≡ folded n (take (l + 1) f) (take (l + 1) (wordsAt w j))
     unfolding folded
     fold-more r z h lr lf e q =
@@ -60,7 +76,7 @@ module _ {f : List ℤ} {n : ℕ} {w : List ℤ} {j : ℕ} (p : FoldIn f n w j) 
         let s = number-fits (getD f l (pos 0)) (getD w (j * 8 + l) (pos 0)) n (rw (← copied-number, ← copied-word) number-in) in
         let k = words-length w j (p .inside) in
         zipWith-more (λ x y. x *ℤ pos n +ℤ y) (pos 0) (pos 0) l r f (wordsAt w j) (toZ w64 (ofZ w64 z)) (omega arith) (omega arith) (omega arith) e
-        (ap (λ (t : ℤ). toZ w64 (ofZ w64 t)) v ∙ back (s .1) ∙ ap (λ (t : ℤ). getD f l (pos 0) *ℤ pos n +ℤ t) (sym (word-read l h)))
+        (ap (λ (t : ℤ). toZ w64 (ofZ w64 t)) v ∙ back (s .1) ∙ ap (λ (t : ℤ). getD f l (pos 0) *ℤ pos n +ℤ t) (sym (word-read w j l h)))
 
   pub fold-all : (r : List ℤ) (l : ℕ) → l ≡ 8 → length r ≡ 8 → length f ≡ 8 → take l r ≡ folded n (take l f) (take l (wordsAt w j)) → r ≡ folded n f (wordsAt w j)
   fold-all r l h lr lf e =
@@ -156,7 +172,7 @@ module _ (f : List ℤ) (b : ℕ) (p : Within 549873283071 f × (b ≤ 16384)) w
   unfolding raised
   raise-is = ap (set f 0) (ap (λ (z : ℤ). toZ w64 (ofZ w64 z)) sum-read ∙ back sum-fits)
 
--- ---- the value at a point, read as unsigned
+-- ---- the value at a point, as the machine reads it
 
 module _ {f point : List ℤ} (p : ValueIn f point) where
   constant-read : toZ w64 (ofZ w64 (getD f 0 (pos 0))) ≡ getD f 0 (pos 0)
@@ -168,19 +184,25 @@ module _ {f point : List ℤ} (p : ValueIn f point) where
   pub value-lent : AffineIn (toZ w64 (ofZ w64 (getD f 0 (pos 0)))) (take (1 + length point - 1) (drop 1 f)) point
   value-lent = rw (constant-read, span-is) (p .lent)
 
-  module _ {r : ℤ} (e : r ≡ affine (toZ w64 (ofZ w64 (getD f 0 (pos 0)))) (take (1 + length point - 1) (drop 1 f)) point) where
-    value-read : toZ w64 (ofZ w64 r) ≡ valueAt f point
-    unfolding valueAt
-    value-read = let s = size-natAbs (valueAt f point) in let b = p .below in
-        let g : r ≡ valueAt f point = e ∙ rw (constant-read, span-is) in
-        ap (λ (z : ℤ). toZ w64 (ofZ w64 z)) g ∙ back (sfits {z = valueAt f point} (omega arith))
+  pub value-read : {r : ℤ} → r ≡ affine (toZ w64 (ofZ w64 (getD f 0 (pos 0)))) (take (1 + length point - 1) (drop 1 f)) point
+      → (toZ w64 (ofZ w64 r) ≡ valueAt f point) × Narrow (toZ w64 (ofZ w64 r))
+  unfolding valueAt
+  value-read {r} e =
+      let g : r ≡ valueAt f point = e ∙ rw (constant-read, span-is) in
+      let h : toZ w64 (ofZ w64 r) ≡ valueAt f point = ap (λ (z : ℤ). toZ w64 (ofZ w64 z)) g ∙ copied _ (p .narrow) in
+      (h, subst Narrow (sym h) (p .narrow))
 
-    pub value-cast : T (nonNeg (toZ w64 (ofZ w64 r))) × Fits w16 (natAbs (toZ w64 (ofZ w64 r)))
-    value-cast = let s = size-natAbs (valueAt f point) in let b = p .below in
-        rw value-read (cast-ok (valueAt f point) (p .inside) (sfits (omega arith)) .0, record { fits = omega arith })
+-- a place, as unsigned
+module _ {f point : List ℤ} (p : PlacedIn f point) {r : ℤ} (e : (r ≡ valueAt f point) × Narrow r) where
+  place-read : toZ w64 (ofZ w64 r) ≡ valueAt f point
+  place-read = copied r (e .1) ∙ e .0
 
-    pub value-result : natAbs (toZ w64 (ofZ w64 r)) ≡ natAbs (valueAt f point)
-    value-result = ap natAbs value-read
+  pub place-cast : T (nonNeg (toZ w64 (ofZ w64 r))) × Fits w16 (natAbs (toZ w64 (ofZ w64 r)))
+  place-cast = let s = size-natAbs (valueAt f point) in let b = p .below in
+      rw place-read (cast-ok (valueAt f point) (p .inside) (sfits (omega arith)) .0, record { fits = omega arith })
+
+  pub place-result : natAbs (toZ w64 (ofZ w64 r)) ≡ natAbs (valueAt f point)
+  place-result = ap natAbs place-read
 
 -- ---- an access
 

@@ -14,7 +14,7 @@ use Rattle.lists.proofs.PartLaws.{length-rows, length-put, set-put, put-nil, ge
 use Rattle.model.specs.Bounds.{strays}
 use Rattle.model.specs.Store.{base}
 use Rattle.elements.specs.Layout.{arraysOf, accessAt}
-use Rattle.elements.specs.Forms.{formOf, valueAt, FormIn, ValueIn}
+use Rattle.elements.specs.Forms.{formOf, valueAt, FormIn, PlacedIn}
 use Rattle.elements.specs.Places.{BaseIn, NumberIn, placeAt, placesOf, numbered}
 use Rattle.elements.proofs.LayoutLaws.{array-in}
 use Rattle.elements.proofs.ElementLaws.{array-fits}
@@ -54,8 +54,8 @@ module _ {w : List ℤ} {o a : List ℕ} {points : List ℤ} {depth count room :
       begins = q;
     }
 
-    pub place-lent : ValueIn f (take (at + depth - at) (drop at points))
-    place-lent = subst (λ (x : List ℤ). ValueIn x (take (at + depth - at) (drop at points))) (sym g) (value-in place-in)
+    pub place-lent : PlacedIn f (take (at + depth - at) (drop at points))
+    place-lent = subst (λ (x : List ℤ). PlacedIn x (take (at + depth - at) (drop at points))) (sym g) (value-in place-in)
 
     place-value : natAbs (valueAt f (take (at + depth - at) (drop at points))) ≡ placeAt w o a depth k (take (at + depth - at) (drop at points))
     place-value = ap (λ (x : List ℤ). natAbs (valueAt x (take (at + depth - at) (drop at points)))) g

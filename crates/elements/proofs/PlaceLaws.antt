@@ -19,9 +19,10 @@ use Rattle.model.specs.Grammar.{elements, total}
 use Rattle.model.specs.Bounds.{subscriptAt, outside, strays}
 use Rattle.model.specs.Machine.{element}
 use Rattle.model.specs.Store.{base, placeFrom, placeOf}
+use Rattle.bounds.specs.Ranges.{Narrow}
 use Rattle.elements.specs.Layout.{extentsAt, arraysOf, formAt, formsFrom, accessAt, ArrayIn, AccessesOk}
 use Rattle.elements.specs.Search.{off}
-use Rattle.elements.specs.Forms.{wordsAt, formTo, formOf, valueAt, ValueIn}
+use Rattle.elements.specs.Forms.{wordsAt, formTo, formOf, valueAt, PlacedIn}
 use Rattle.elements.specs.Places.{placeAt}
 use Rattle.elements.proofs.LayoutLaws.{extents-are, extents-length, extent-read, forms-snoc, forms-length}
 use Rattle.elements.proofs.ElementLaws.{array-fits}
@@ -172,15 +173,18 @@ module _ {w : List ℤ} {o a : List ℕ} {k b : ℕ} {point : List ℤ} (p : Pla
       ∙ ap (_+ℤ pos b) (value-to (getD a (getD o k 0 * 4) 0) (omega arith))
       ∙ ap pos (add-comm (partialAt w o a k point (getD a (getD o k 0 * 4) 0)) b ∙ place-is)
 
-  pub value-in : ValueIn (formOf w o a k b) point
+  pub value-in : PlacedIn (formOf w o a k b) point
   unfolding formOf
   value-in =
       let t = three in let r = room-small in let l = form-length (p .accesses) (p .there) (getD a (getD o k 0 * 4) 0) t in
       let v = value-is-place in let i = place-is in let u = place-below (getD a (getD o k 0 * 4) 0) (omega arith) in
       let m = mul-le-mul {n₁ = getD a (getD o k 0 * 4) 0} {m₁ = roomAt o a k (getD a (getD o k 0 * 4) 0)} {n₂ = 3} {m₂ = 16384} t (omega arith) in record {
-        words = raised-length b (formTo w o a k (getD a (getD o k 0 * 4) 0)) l;
-        few = few;
-        lent = raised-in b (formTo w o a k (getD a (getD o k 0 * 4) 0)) point l (within-more (formTo w o a k (getD a (getD o k 0 * 4) 0)) (form-small (getD a (getD o k 0 * 4) 0) (omega arith)) (omega arith)) (omega arith) few (p .near);
+        value = record {
+          words = raised-length b (formTo w o a k (getD a (getD o k 0 * 4) 0)) l;
+          few = few;
+          lent = raised-in b (formTo w o a k (getD a (getD o k 0 * 4) 0)) point l (within-more (formTo w o a k (getD a (getD o k 0 * 4) 0)) (form-small (getD a (getD o k 0 * 4) 0) (omega arith)) (omega arith)) (omega arith) few (p .near);
+          narrow = subst Narrow (sym v) (omega arith);
+        };
         inside = subst (λ (z : ℤ). pos 0 ≤ℤ z) (sym v) (omega zarith);
         below = subst (λ (z : ℤ). natAbs z < 16384) (sym v) (omega arith);
       }

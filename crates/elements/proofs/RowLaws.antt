@@ -18,7 +18,10 @@ use Rattle.lists.proofs.PartLaws.{rows-suc, rows-getD, length-rows, row-fits}
 use Rattle.integers.specs.Affine.{Within}
 use Rattle.model.specs.Bounds.{subscriptAt}
 use Rattle.elements.specs.Layout.{formAt}
-use Rattle.elements.specs.Search.{off, straysAt, SubscriptIn, RowsIn, StrayIn}
+use Rattle.elements.specs.Search.{off, straysAt, RowsIn, StrayIn}
+use Rattle.elements.specs.Forms.{wordsAt, valueAt, ValueIn}
+use Rattle.elements.proofs.FormLaws.{words-length, within-words, value-words}
+use Rattle.elements.proofs.SubscriptLaws.{subscript-in}
 
 module _ {points : List ℤ} {depth count : ℕ} (p : RowsIn points depth count) {i at : ℕ} (h : i < count) (e : at ≡ i * depth) where
   pub row-ends : at + depth ≤ length points
@@ -51,24 +54,26 @@ module _ {points : List ℤ} {depth count : ℕ} (p : RowsIn points depth count)
 -- ---- whether some point's subscript leaves its extent
 
 module _ {w : List ℤ} {j extent : ℕ} {points : List ℤ} {depth count : ℕ} (p : StrayIn w j extent points depth count) {i at : ℕ} (h : i < count) (e : at ≡ i * depth) where
-  pub stray-in : SubscriptIn w j (take (at + depth - at) (drop at points)) × (extent ≤ 4096)
-  stray-in = let l = row-length (p .stored) h e in let f = p .stored .few in (
-    record { inside = p .inside; room = p .long; small = p .small; few = omega arith; near = row-near (p .stored) h e },
-    p .extents,
-  )
+  module _ {f : List ℤ} (c : f ≡ wordsAt w j) where
+    pub stray-in : ValueIn f (take (at + depth - at) (drop at points)) × (extent ≤ 4096)
+    stray-in = let l = row-length (p .stored) h e in let few = p .stored .few in
+        (rw c (subscript-in (wordsAt w j) (take (at + depth - at) (drop at points)) (words-length w j (p .inside)) (within-words w j (p .small)) (omega arith) (row-near (p .stored) h e)), p .extents)
 
-  module _ {r : Bool} (g : r ≡ off extent (subscriptAt (take (at + depth - at) (drop at points)) (formAt w (length (take (at + depth - at) (drop at points))) j))) where
-    here : r ≡ off extent (subscriptAt (take (at + depth - at) (drop at points)) (formAt w depth j))
-    here = g ∙ ap (λ (n : ℕ). off extent (subscriptAt (take (at + depth - at) (drop at points)) (formAt w n j))) (row-length (p .stored) h e)
+    module _ {r : Bool} (g : r ≡ off extent (valueAt f (take (at + depth - at) (drop at points)))) where
+      here : r ≡ off extent (subscriptAt (take (at + depth - at) (drop at points)) (formAt w depth j))
+      here = let l = row-length (p .stored) h e in let few = p .stored .few in
+          g ∙ ap (off extent) (ap (λ (x : List ℤ). valueAt x (take (at + depth - at) (drop at points))) c
+          ∙ value-words (take (at + depth - at) (drop at points)) (omega arith) w j
+          ∙ ap (λ (n : ℕ). subscriptAt (take (at + depth - at) (drop at points)) (formAt w n j)) l)
 
-    pub stray-found : r ≡ true → true ≡ straysAt w depth j extent (rows depth count points)
-    unfolding straysAt
-    stray-found t = sym (T-true (straysAt w depth j extent (rows depth count points)) (some-any (λ q. off extent (subscriptAt q (formAt w depth j))) (rows depth count points)
-        (row-mem (p .stored) h e)
-        (true-T (off extent (subscriptAt (getD (rows depth count points) i []) (formAt w depth j))) (ap (λ (q : List ℤ). off extent (subscriptAt q (formAt w depth j))) (sym (row-is (p .stored) h e)) ∙ sym here ∙ t))))
+      pub stray-found : r ≡ true → true ≡ straysAt w depth j extent (rows depth count points)
+      unfolding straysAt
+      stray-found t = sym (T-true (straysAt w depth j extent (rows depth count points)) (some-any (λ q. off extent (subscriptAt q (formAt w depth j))) (rows depth count points)
+          (row-mem (p .stored) h e)
+          (true-T (off extent (subscriptAt (getD (rows depth count points) i []) (formAt w depth j))) (ap (λ (q : List ℤ). off extent (subscriptAt q (formAt w depth j))) (sym (row-is (p .stored) h e)) ∙ sym here ∙ t))))
 
-    pub stray-not : r ≡ false → straysAt w depth j extent (rows depth i points) ≡ false → straysAt w depth j extent (rows depth (i + 1) points) ≡ false
-    unfolding straysAt any
-    stray-not t f = ap (straysAt w depth j extent) (next-rows (p .stored) h e)
-        ∙ any-join (λ q. off extent (subscriptAt q (formAt w depth j))) (rows depth i points) (take (at + depth - at) (drop at points) ∷ [])
-        ∙ rw (f, ← here, t)
+      pub stray-not : r ≡ false → straysAt w depth j extent (rows depth i points) ≡ false → straysAt w depth j extent (rows depth (i + 1) points) ≡ false
+      unfolding straysAt any
+      stray-not t f = ap (straysAt w depth j extent) (next-rows (p .stored) h e)
+          ∙ any-join (λ q. off extent (subscriptAt q (formAt w depth j))) (rows depth i points) (take (at + depth - at) (drop at points) ∷ [])
+          ∙ rw (f, ← here, t)

@@ -1,8 +1,8 @@
--- One subscript at a point: its words are small, so the machine reads what the model says; then the test against its extent; then all points.
-use mathlib.Core.Path.{_≡_, sym, _∙_, ap, ap₂, subst}
+-- The form of one subscript at a point: its words are small, so its value is. Then the test against its extent.
+use mathlib.Core.Path.{_≡_, sym, _∙_, ap, ap₂}
 use mathlib.Core.Bool.{true, false}
-use mathlib.Core.List.{List, []}
-use Prim.Native.Nat.{ℕ, _+_, _*_, _-_, _≤_}
+use mathlib.Core.List.{List}
+use Prim.Native.Nat.{ℕ, _+_, _*_, _≤_}
 use native.Mathlib.Omega.{arith}
 use native.Mathlib.Nat.{mul-le-mul-right}
 use lib.IntN.{ℤ, pos}
@@ -12,50 +12,31 @@ use lib.Seq.{length-take-le}
 use mir.Syntax.{w64}
 use mir.Val.{toZ, ofZ}
 use Rattle.integers.specs.Difference.{size}
-use Rattle.integers.specs.Affine.{affine, Within, AffineIn}
+use Rattle.integers.specs.Affine.{Within}
 use Rattle.integers.proofs.RangeLaws.{from-nat}
 use Rattle.integers.proofs.AffineLaws.{within-at, within-take, affine-size, nest-affine}
-use Rattle.model.specs.Bounds.{subscriptAt}
 use Rattle.bounds.proofs.LimitLaws.{copied, within-drop}
 use Rattle.bounds.specs.Ranges.{Narrow}
-use Rattle.elements.specs.Layout.{formAt}
-use Rattle.elements.specs.Search.{off, SubscriptIn}
+use Rattle.elements.specs.Search.{off}
+use Rattle.elements.specs.Forms.{valueAt, ValueIn}
 
-abbrev coefficients : List ℤ → ℕ → List ℤ → List ℤ
-coefficients w j point = take (length point) (drop (j * 8 + 1) w)
+module _ (f point : List ℤ) (words : length f ≡ 8) (small : Within 32767 f) (few : length point ≤ 6) (near : Within 100000 point) where
+  abbrev coefficients : List ℤ
+  coefficients = take (length point) (drop 1 f)
 
-module _ {w : List ℤ} {j : ℕ} {point : List ℤ} (p : SubscriptIn w j point) where
-  word : (i : ℕ) → size (getD w i (pos 0)) ≤ 32767
-  word i = within-at 32767 w (p .small) i
+  matched : length point ≡ length coefficients
+  matched = let d = length-drop 1 f in sym (length-take-le (length point) (drop 1 f) (omega arith))
 
-  read-word : (i : ℕ) → toZ w64 (ofZ w64 (getD w i (pos 0))) ≡ getD w i (pos 0)
-  read-word i = let h = word i in copied (getD w i (pos 0)) (omega arith)
+  small-coefficients : Within 32767 coefficients
+  small-coefficients = within-take 32767 (drop 1 f) (length point) (within-drop 32767 f 1 small)
 
-  matched : length point ≡ length (coefficients w j point)
-  matched = let a = length-take-le (length point) (drop (j * 8 + 1) w) (let b = length-drop (j * 8 + 1) w in let i = p .inside in let f = p .few in omega arith) in sym a
+  value-size : Narrow (valueAt f point)
+  unfolding valueAt
+  value-size = let m = matched in let h = within-at 32767 f small 0 in let g : length coefficients ≤ 6 = omega arith in
+      omega (arith, affine-size 32767 100000 (getD f 0 (pos 0)) coefficients point small-coefficients near, mul-le-mul-right (32767 * 100000) g)
 
-  small : Within 32767 (coefficients w j point)
-  small = within-take 32767 (drop (j * 8 + 1) w) (length point) (within-drop 32767 w (j * 8 + 1) (p .small))
-
-  span-is : j * 8 + 1 + length point - (j * 8 + 1) ≡ length point
-  span-is = omega arith
-
-  pub affine-in : AffineIn (toZ w64 (ofZ w64 (getD w (j * 8) (pos 0)))) (take (j * 8 + 1 + length point - (j * 8 + 1)) (drop (j * 8 + 1) w)) point
-  affine-in = rw (read-word (j * 8), span-is) (let m = matched in let f = p .few in nest-affine m (omega arith) (word (j * 8)) small (p .near))
-
-  subscript-size : Narrow (subscriptAt point (formAt w (length point) j))
-  unfolding subscriptAt formAt
-  subscript-size = let m = matched in let f = p .few in let h = word (j * 8) in let g : length (coefficients w j point) ≤ 6 = omega arith in
-      omega (arith, affine-size 32767 100000 (getD w (j * 8) (pos 0)) (coefficients w j point) point small (p .near), mul-le-mul-right (32767 * 100000) g)
-
-  pub subscript-is : (r : ℤ) → r ≡ affine (toZ w64 (ofZ w64 (getD w (j * 8) (pos 0)))) (take (j * 8 + 1 + length point - (j * 8 + 1)) (drop (j * 8 + 1) w)) point
-      → (toZ w64 (ofZ w64 r) ≡ subscriptAt point (formAt w (length point) j)) × Narrow (toZ w64 (ofZ w64 r))
-  unfolding subscriptAt formAt
-  subscript-is r e =
-      let f : r ≡ subscriptAt point (formAt w (length point) j) = e ∙ rw (read-word (j * 8), span-is) in
-      let v = subscript-size in
-      let g : toZ w64 (ofZ w64 r) ≡ subscriptAt point (formAt w (length point) j) = ap (λ (z : ℤ). toZ w64 (ofZ w64 z)) f ∙ copied _ v in
-      (g, subst Narrow (sym g) v)
+  pub subscript-in : ValueIn f point
+  subscript-in = let m = matched in record { words = words; few = few; lent = nest-affine m (omega arith) (within-at 32767 f small 0) small-coefficients near; narrow = value-size }
 
 -- ---- the test
 

@@ -7,6 +7,7 @@ use lib.IntN.{ℤ, pos, natAbs, _+ℤ_, _*ℤ_}
 use lib.Signed.{_≤ℤ_}
 use lib.ListN.{length, getD, take, drop, set, replicate}
 use Rattle.integers.specs.Affine.{affine, Within, AffineIn}
+use Rattle.bounds.specs.Ranges.{Narrow}
 use Rattle.elements.specs.Layout.{AccessesOk}
 
 -- the words of subscript j of all
@@ -47,10 +48,15 @@ pub record FormIn (w : List ℤ) (o a : List ℕ) (k b : ℕ) : Type 0 where
   pub there : k < length o
   pub begins : b ≤ 16384
 
--- a form at a point where it is a place of the store
+-- a form at a point where its value is small
 pub record ValueIn (f point : List ℤ) : Type 0 where
   pub words : length f ≡ 8
   pub few : length point ≤ 6
   pub lent : AffineIn (getD f 0 (pos 0)) (take (length point) (drop 1 f)) point
+  pub narrow : Narrow (valueAt f point)
+
+-- where it is a place of the store
+pub record PlacedIn (f point : List ℤ) : Type 0 where
+  pub value : ValueIn f point
   pub inside : pos 0 ≤ℤ valueAt f point
   pub below : natAbs (valueAt f point) < 16384

@@ -20,14 +20,6 @@ use Rattle.elements.specs.Layout.{formAt, arraysOf, bodiesFrom, Accesses
 unfoldable pub off : ℕ → ℤ → Bool
 off extent x = ltZ x (pos 0) || leZ (pos extent) x
 
--- subscript j of all, and an admitted point
-pub record SubscriptIn (w : List ℤ) (j : ℕ) (point : List ℤ) : Type 0 where
-  pub inside : j * 8 + 8 ≤ length w
-  pub room : length w ≤ 480
-  pub small : Within 32767 w
-  pub few : length point ≤ 6
-  pub near : Within 100000 point
-
 -- stored points that were admitted
 pub record RowsIn (points : List ℤ) (depth count : ℕ) : Type 0 where
   pub few : depth ≤ 6

@@ -1,45 +1,59 @@
 // Subscripts within their extents, and the elements of a store that the accesses name. Arrays and accesses are lent as flat slices
 // (specs/Layout), points as rows.
 ghost use mathlib.Core.Path.{_≡_};
-ghost use Prim.Native.Nat.{_*_, _≤_, _<_};
+ghost use Prim.Native.Nat.{_+_, _*_, _≤_, _<_};
 ghost use lib.IntN.{pos, natAbs, _+ℤ_, _*ℤ_};
 ghost use lib.ListN.{length};
 ghost use Rattle.lists.specs.Parts.{rows, put};
 ghost use Rattle.integers.specs.Difference.{size};
 ghost use Rattle.integers.specs.Affine.{Within};
 ghost use Rattle.model.specs.Grammar.{elements};
-ghost use Rattle.model.specs.Bounds.{subscriptAt};
 ghost use Rattle.model.specs.Store.{base};
 ghost use Rattle.bounds.specs.Ranges.{Narrow};
-ghost use Rattle.elements.specs.Layout.{extentsAt, arraysOf, formAt, ArrayIn};
-ghost use Rattle.elements.specs.Search.{off, straysAt, SubscriptIn, StrayIn, SearchIn, Searched};
-ghost use Rattle.elements.specs.Forms.{wordsAt, folded, raised, formOf, valueAt, FoldIn, FormIn, ValueIn};
+ghost use Rattle.elements.specs.Layout.{extentsAt, arraysOf, ArrayIn};
+ghost use Rattle.elements.specs.Search.{off, straysAt, StrayIn, SearchIn, Searched};
+ghost use Rattle.elements.specs.Forms.{wordsAt, folded, raised, formOf, valueAt, FoldIn, FormIn, ValueIn, PlacedIn};
 ghost use Rattle.elements.specs.Places.{BaseIn, NumberIn, placesOf, numbered};
 
-// Subscript j of all, at a point.
-fn subscript(words: &[i64], j: usize, point: &[i64]) -> i64
-    requires { ⌜ SubscriptIn (now words) j (now point) ⌝ }
-    ensures { λ r. ⌜ (r ≡ subscriptAt (now (point .entry)) (formAt (now (words .entry)) (length (now (point .entry))) j)) × Narrow r ⌝ }
+// The value of a form at a point.
+fn value(form: &[i64], point: &[i64]) -> i64
+    requires { ⌜ ValueIn (now form) (now point) ⌝ }
+    ensures { λ r. ⌜ (r ≡ valueAt (now (form .entry)) (now (point .entry))) × Narrow r ⌝ }
 {
-    let at = j * 8;
-    integers::affine(words[at], &words[at + 1..at + 1 + point.len()], point)
+    integers::affine(form[0], &form[1..1 + point.len()], point)
 }
 
 // Whether it is not from 0 to extent − 1.
-fn leaves(words: &[i64], j: usize, extent: usize, point: &[i64]) -> bool
-    requires { ⌜ SubscriptIn (now words) j (now point) × (extent ≤ 4096) ⌝ }
-    ensures { λ r. ⌜ r ≡ off extent (subscriptAt (now (point .entry)) (formAt (now (words .entry)) (length (now (point .entry))) j)) ⌝ }
+fn leaves(form: &[i64], extent: usize, point: &[i64]) -> bool
+    requires { ⌜ ValueIn (now form) (now point) × (extent ≤ 4096) ⌝ }
+    ensures { λ r. ⌜ r ≡ off extent (valueAt (now (form .entry)) (now (point .entry))) ⌝ }
 {
-    let x = subscript(words, j, point);
+    let x = value(form, point);
     if x < 0 {
         return true;
     }
     extent as i64 <= x
 }
 
+// The words of subscript j of all, as a form: widened once, before it is lent for every point.
+fn widened(words: &[i16], j: usize) -> [i64; 8]
+    requires { ⌜ (j * 8 + 8 ≤ length (now words)) × (length (now words) ≤ 480) × Within 32767 (now words) ⌝ }
+    ensures { λ r. ⌜ r ≡ wordsAt (now (words .entry)) j ⌝ }
+{
+    let at = j * 8;
+    let mut r = [0i64; 8];
+    let mut l = 0;
+    while l < 8 {
+        let z = integers::word(words, at + l);
+        r[l] = z;
+        l += 1;
+    }
+    r
+}
+
 // Whether some point's subscript j leaves its extent.
 fn strays(
-    words: &[i64],
+    words: &[i16],
     j: usize,
     extent: usize,
     points: &[i64],
@@ -49,10 +63,11 @@ fn strays(
     requires { ⌜ StrayIn (now words) j extent (now points) depth count ⌝ }
     ensures { λ r. ⌜ r ≡ straysAt (now (words .entry)) depth j extent (rows depth count (now (points .entry))) ⌝ }
 {
+    let form = widened(words, j);
     let mut at = 0;
     let mut i = 0;
     while i < count {
-        if leaves(words, j, extent, &points[at..at + depth]) {
+        if leaves(&form, extent, &points[at..at + depth]) {
             return true;
         }
         at += depth;
@@ -63,7 +78,7 @@ fn strays(
 
 // The number of the first statement that has a subscript which leaves its extent at some point, or 0.
 pub fn find_stray(
-    words: &[i64],
+    words: &[i16],
     owners: &[usize],
     arrays: &[usize],
     sizes: &[usize],
@@ -138,7 +153,7 @@ fn number(x: i64, extent: usize, word: i64) -> i64
 }
 
 // A form with one dimension more: its extent, and subscript j of all.
-fn deepen(form: [i64; 8], extent: usize, words: &[i64], j: usize) -> [i64; 8]
+fn deepen(form: [i64; 8], extent: usize, words: &[i16], j: usize) -> [i64; 8]
     requires { ⌜ FoldIn form extent (now words) j ⌝ }
     ensures { λ r. ⌜ r ≡ folded extent form (wordsAt (now (words .entry)) j) ⌝ }
 {
@@ -147,7 +162,7 @@ fn deepen(form: [i64; 8], extent: usize, words: &[i64], j: usize) -> [i64; 8]
     let mut l = 0;
     while l < 8 {
         let x = form[l];
-        let z = number(x, extent, words[at + l]);
+        let z = number(x, extent, integers::word(words, at + l));
         r[l] = z;
         l += 1;
     }
@@ -166,7 +181,7 @@ fn raise(form: [i64; 8], b: usize) -> [i64; 8]
 }
 
 // The place of access k as a form; its array begins at b.
-fn form_of(words: &[i64], owners: &[usize], arrays: &[usize], k: usize, b: usize) -> [i64; 8]
+fn form_of(words: &[i16], owners: &[usize], arrays: &[usize], k: usize, b: usize) -> [i64; 8]
     requires { ⌜ FormIn (now words) (now owners) (now arrays) k b ⌝ }
     ensures { λ r. ⌜ r ≡ formOf (now (words .entry)) (now (owners .entry)) (now (arrays .entry)) k b ⌝ }
 {
@@ -182,17 +197,17 @@ fn form_of(words: &[i64], owners: &[usize], arrays: &[usize], k: usize, b: usize
     raise(form, b)
 }
 
-// The value of a form at a point.
+// The place in the store that a form has at a point.
 fn place(form: &[i64], point: &[i64]) -> u16
-    requires { ⌜ ValueIn (now form) (now point) ⌝ }
+    requires { ⌜ PlacedIn (now form) (now point) ⌝ }
     ensures { λ r. ⌜ r ≡ natAbs (valueAt (now (form .entry)) (now (point .entry))) ⌝ }
 {
-    integers::affine(form[0], &form[1..1 + point.len()], point) as u16
+    value(form, point) as u16
 }
 
 // Writes the place of access k at every point, from place 4096 k on.
 fn number_access(
-    words: &[i64],
+    words: &[i16],
     owners: &[usize],
     arrays: &[usize],
     k: usize,
@@ -218,7 +233,7 @@ fn number_access(
 
 // Writes the place of every access at every point, 4096 numbers apart.
 pub fn number_accesses(
-    words: &[i64],
+    words: &[i16],
     owners: &[usize],
     arrays: &[usize],
     points: &[i64],

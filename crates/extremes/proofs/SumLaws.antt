@@ -113,27 +113,28 @@ module _ (w : List ℤ) (at n : ℕ) (b : List Range) (p : SumIn w at n b) where
     word-small : size (getD w (at + i) (pos 0)) ≤ 32767
     word-small = within-at 32767 w (p .small) (at + i)
 
-    word-is : copy (getD w (at + i) (pos 0)) ≡ getD w (at + i) (pos 0)
-    word-is = let s = word-small in copied (getD w (at + i) (pos 0)) (omega arith)
+    module _ {c : ℤ} (d : c ≡ getD w (at + i) (pos 0)) where
+      word-is : copy c ≡ getD w (at + i) (pos 0)
+      word-is = let s = word-small in ap copy d ∙ copied (getD w (at + i) (pos 0)) (omega arith)
 
-    pub term-in : i < n → size e ≤ 6442057734 → TermIn e (copy (getD w (at + i) (pos 0))) (getD b i noRange)
-    term-in h s = record { sum = omega arith; coefficient = rw word-is word-small; range = range-near n b (p .ranges) i h }
+      pub term-in : i < n → size e ≤ 6442057734 → TermIn e (copy c) (getD b i noRange)
+      term-in h s = record { sum = omega arith; coefficient = rw word-is word-small; range = range-near n b (p .ranges) i h }
 
-    module _ (h : i < n) (f : ℤ) where
-      in-words : i < length (drop at w)
-      in-words = let l = length-drop at w in let v = p .inside in omega arith
+      module _ (h : i < n) (f : ℤ) where
+        in-words : i < length (drop at w)
+        in-words = let l = length-drop at w in let v = p .inside in omega arith
 
-      in-ranges : i < length (rangesOf n b)
-      in-ranges = let l = count-of n b (p .ranges) in omega arith
+        in-ranges : i < length (rangesOf n b)
+        in-ranges = let l = count-of n b (p .ranges) in omega arith
 
-      range-is : getD (rangesOf n b) i (rangeAs noRange) ≡ rangeAs (getD b i noRange)
-      range-is = let s = p .ranges .six in let g = p .ranges .few in ranges-at n b i h (omega arith)
+        range-is : getD (rangesOf n b) i (rangeAs noRange) ≡ rangeAs (getD b i noRange)
+        range-is = let s = p .ranges .six in let g = p .ranges .few in ranges-at n b i h (omega arith)
 
-      pub least-next : LeastSoFar w at n b i e → f ≡ e +ℤ leastTerm (copy (getD w (at + i) (pos 0))) (rangeAs (getD b i noRange)) → LeastSoFar w at n b (i + 1) f
-      least-next q g = record { is = g ∙ rw (q .is, word-is) (sym (rw (add-one i, least-more (drop at w) (rangesOf n b) i in-words in-ranges, getD-drop at w i (pos 0), range-is))) }
+        pub least-next : LeastSoFar w at n b i e → f ≡ e +ℤ leastTerm (copy c) (rangeAs (getD b i noRange)) → LeastSoFar w at n b (i + 1) f
+        least-next q g = record { is = g ∙ rw (q .is, word-is) (sym (rw (add-one i, least-more (drop at w) (rangesOf n b) i in-words in-ranges, getD-drop at w i (pos 0), range-is))) }
 
-      pub greatest-next : GreatestSoFar w at n b i e → f ≡ e +ℤ greatestTerm (copy (getD w (at + i) (pos 0))) (rangeAs (getD b i noRange)) → GreatestSoFar w at n b (i + 1) f
-      greatest-next q g = record { is = g ∙ rw (q .is, word-is) (sym (rw (add-one i, greatest-more (drop at w) (rangesOf n b) i in-words in-ranges, getD-drop at w i (pos 0), range-is))) }
+        pub greatest-next : GreatestSoFar w at n b i e → f ≡ e +ℤ greatestTerm (copy c) (rangeAs (getD b i noRange)) → GreatestSoFar w at n b (i + 1) f
+        greatest-next q g = record { is = g ∙ rw (q .is, word-is) (sym (rw (add-one i, greatest-more (drop at w) (rangesOf n b) i in-words in-ranges, getD-drop at w i (pos 0), range-is))) }
 
     pub least-whole : i ≡ n → LeastSoFar w at n b i e → (e ≡ leastSum (take n (drop at w)) (rangesOf n b)) × (size e ≤ 6442057734)
     least-whole h q = (q .is ∙ ap (λ (m : ℕ). leastSum (take m (drop at w)) (rangesOf n b)) h, least-so-far-size q)

@@ -4,6 +4,7 @@ use mathlib.Core.List.{List}
 use Prim.Native.Nat.{ℕ, suc, _+_, _*_, _-_, _≤_, _<_}
 use native.Mathlib.Omega.{arith}
 use lib.IntN.{ℤ, pos, _+ℤ_}
+use lib.Signed.{_<ℤ_}
 use lib.ListN.{getD, take, drop}
 use mir.Syntax.{w64}
 use mir.Val.{SFits}
@@ -29,42 +30,45 @@ module _ (s : List ℤ) (j k : ℕ) (b : List Range) (p : LimitIn s j k b) where
   word-size : (i : ℕ) → size (getD s i (pos 0)) ≤ 32767
   word-size i = within-at 32767 s (p .small) i
 
-  word-is : (i : ℕ) → copy (getD s i (pos 0)) ≡ getD s i (pos 0)
-  word-is i = let w = word-size i in copied (getD s i (pos 0)) (omega arith)
+  word-is : (i : ℕ) {c : ℤ} → c ≡ getD s i (pos 0) → copy c ≡ getD s i (pos 0)
+  word-is i d = let w = word-size i in ap copy d ∙ copied (getD s i (pos 0)) (omega arith)
 
-  divisor-is : copy (getD s (j * 8) (pos 0)) ≡ pos (limitAt s k j .multiplier)
+  divisor-is : {m : ℤ} → m ≡ getD s (j * 8) (pos 0) → copy m ≡ pos (limitAt s k j .multiplier)
   unfolding limitAt
-  divisor-is = word-is (j * 8) ∙ sym (to-nat (getD s (j * 8) (pos 0)) (<ℤ-≤ℤ (p .positive)))
+  divisor-is d = word-is (j * 8) d ∙ sym (to-nat (getD s (j * 8) (pos 0)) (<ℤ-≤ℤ (p .positive)))
 
-  module _ (e : ℤ) (h : size e ≤ 6442057734) where
-    addends : copy (getD s (j * 8 + 1) (pos 0)) +ℤ copy e ≡ limitAt s k j .constant +ℤ e
+  pub divisor-positive : {m : ℤ} → m ≡ getD s (j * 8) (pos 0) → pos 0 <ℤ copy m
+  divisor-positive d = rw (word-is (j * 8) d) (p .positive)
+
+  module _ (e : ℤ) (h : size e ≤ 6442057734) {c : ℤ} (o : c ≡ getD s (j * 8 + 1) (pos 0)) where
+    addends : copy c +ℤ copy e ≡ limitAt s k j .constant +ℤ e
     unfolding limitAt
-    addends = rw (word-is (j * 8 + 1), copied e (omega arith))
+    addends = rw (word-is (j * 8 + 1) o, copied e (omega arith))
 
     value-size : size (limitAt s k j .constant +ℤ e) ≤ 34359738368
     unfolding limitAt
     value-size = omega (arith, word-size (j * 8 + 1), size-add (getD s (j * 8 + 1) (pos 0)) e)
 
-    pub value-fits : SFits w64 (copy (getD s (j * 8 + 1) (pos 0)) +ℤ copy e)
+    pub value-fits : SFits w64 (copy c +ℤ copy e)
     value-fits = rw addends (size-fits value-size (omega arith))
 
-    value-is : copy (copy (getD s (j * 8 + 1) (pos 0)) +ℤ copy e) ≡ limitAt s k j .constant +ℤ e
+    value-is : copy (copy c +ℤ copy e) ≡ limitAt s k j .constant +ℤ e
     value-is = back value-fits ∙ addends
 
-    module _ (r : ℤ) where
-      pub least-is : e ≡ leastSum (take k (drop (j * 8 + 2) s)) (rangesOf k b) → r ≡ ceilDiv (copy (copy (getD s (j * 8 + 1) (pos 0)) +ℤ copy e)) (copy (getD s (j * 8) (pos 0)))
+    module _ (r : ℤ) {m : ℤ} (q : m ≡ getD s (j * 8) (pos 0)) where
+      pub least-is : e ≡ leastSum (take k (drop (j * 8 + 2) s)) (rangesOf k b) → r ≡ ceilDiv (copy (copy c +ℤ copy e)) (copy m)
           → (copy r ≡ leastOf (rangesOf k b) (limitAt s k j)) × (size (copy r) ≤ 34359738368)
       unfolding leastOf limitAt
       least-is d f =
-          let g : r ≡ ceilDiv (limitAt s k j .constant +ℤ e) (pos (limitAt s k j .multiplier)) = f ∙ rw (value-is, divisor-is) in
+          let g : r ≡ ceilDiv (limitAt s k j .constant +ℤ e) (pos (limitAt s k j .multiplier)) = f ∙ rw (value-is, divisor-is q) in
           let z : size r ≤ 34359738368 = subst (λ z. size z ≤ 34359738368) (sym g) (omega (arith, value-size, size-ceil (limitAt s k j .constant +ℤ e) (pos (limitAt s k j .multiplier)))) in
           let a = copied r z in (a ∙ g ∙ rw d, rw a z)
 
-      pub greatest-is : e ≡ greatestSum (take k (drop (j * 8 + 2) s)) (rangesOf k b) → r ≡ floorDiv (copy (copy (getD s (j * 8 + 1) (pos 0)) +ℤ copy e)) (copy (getD s (j * 8) (pos 0)))
+      pub greatest-is : e ≡ greatestSum (take k (drop (j * 8 + 2) s)) (rangesOf k b) → r ≡ floorDiv (copy (copy c +ℤ copy e)) (copy m)
           → (copy r ≡ greatestOf (rangesOf k b) (limitAt s k j)) × (size (copy r) ≤ 34359738368)
       unfolding greatestOf limitAt
       greatest-is d f =
-          let g : r ≡ floorDiv (limitAt s k j .constant +ℤ e) (pos (limitAt s k j .multiplier)) = f ∙ rw (value-is, divisor-is) in
+          let g : r ≡ floorDiv (limitAt s k j .constant +ℤ e) (pos (limitAt s k j .multiplier)) = f ∙ rw (value-is, divisor-is q) in
           let z : size r ≤ 34359738368 = subst (λ z. size z ≤ 34359738368) (sym g) (omega (arith, value-size, size-floor (limitAt s k j .constant +ℤ e) (pos (limitAt s k j .multiplier)))) in
           let a = copied r z in (a ∙ g ∙ rw d, rw a z)
 

@@ -47,53 +47,55 @@ fn plus_greatest(sum: Whole, c: i64, r: Range) -> Whole
 }
 
 // The least that n coefficients from place at on, times their indices, can sum to.
-pub fn least_sum(words: &[i64], at: usize, n: usize, ranges: [Range; 6]) -> Whole
+pub fn least_sum(words: &[i16], at: usize, n: usize, ranges: [Range; 6]) -> Whole
     requires { ⌜ SumIn (now words) at n ranges ⌝ }
     ensures { λ r. ⌜ (r .value ≡ leastSum (take n (drop at (now (words .entry)))) (rangesOf n ranges)) × (size (r .value) ≤ 6442057734) ⌝ }
 {
     let mut sum = Whole { value: 0 };
     let mut i = 0;
     while i < n {
-        sum = plus_least(sum, words[at + i], ranges[i]);
+        sum = plus_least(sum, integers::word(words, at + i), ranges[i]);
         i += 1;
     }
     sum
 }
 
 // The greatest that they can sum to.
-pub fn greatest_sum(words: &[i64], at: usize, n: usize, ranges: [Range; 6]) -> Whole
+pub fn greatest_sum(words: &[i16], at: usize, n: usize, ranges: [Range; 6]) -> Whole
     requires { ⌜ SumIn (now words) at n ranges ⌝ }
     ensures { λ r. ⌜ (r .value ≡ greatestSum (take n (drop at (now (words .entry)))) (rangesOf n ranges)) × (size (r .value) ≤ 6442057734) ⌝ }
 {
     let mut sum = Whole { value: 0 };
     let mut i = 0;
     while i < n {
-        sum = plus_greatest(sum, words[at + i], ranges[i]);
+        sum = plus_greatest(sum, integers::word(words, at + i), ranges[i]);
         i += 1;
     }
     sum
 }
 
 // The least index that lower limit j allows over the ranges of the k loops outside.
-fn least_of(nest: &[i64], j: usize, k: usize, outer: [Range; 6]) -> i64
+fn least_of(nest: &[i16], j: usize, k: usize, outer: [Range; 6]) -> i64
     requires { ⌜ LimitIn (now nest) j k outer ⌝ }
     ensures { λ r. ⌜ (r ≡ leastOf (rangesOf k outer) (limitAt (now (nest .entry)) k j)) × (size r ≤ 34359738368) ⌝ }
 {
     let e = least_sum(nest, j * 8 + 2, k, outer);
-    integers::ceil_div(nest[j * 8 + 1] + e.value, nest[j * 8])
+    let constant = integers::word(nest, j * 8 + 1);
+    integers::ceil_div(constant + e.value, integers::word(nest, j * 8))
 }
 
 // The greatest index that upper limit j allows.
-fn greatest_of(nest: &[i64], j: usize, k: usize, outer: [Range; 6]) -> i64
+fn greatest_of(nest: &[i16], j: usize, k: usize, outer: [Range; 6]) -> i64
     requires { ⌜ LimitIn (now nest) j k outer ⌝ }
     ensures { λ r. ⌜ (r ≡ greatestOf (rangesOf k outer) (limitAt (now (nest .entry)) k j)) × (size r ≤ 34359738368) ⌝ }
 {
     let e = greatest_sum(nest, j * 8 + 2, k, outer);
-    integers::floor_div(nest[j * 8 + 1] + e.value, nest[j * 8])
+    let constant = integers::word(nest, j * 8 + 1);
+    integers::floor_div(constant + e.value, integers::word(nest, j * 8))
 }
 
 // The largest of what n lower limits from limit j on allow, the last one first.
-fn largest_from(nest: &[i64], j: usize, n: usize, k: usize, outer: [Range; 6]) -> Whole
+fn largest_from(nest: &[i16], j: usize, n: usize, k: usize, outer: [Range; 6]) -> Whole
     requires { ⌜ SideIn (now nest) j n k outer ⌝ }
     ensures { λ r. ⌜ (r .value ≡ largestFrom (now (nest .entry)) k j n (rangesOf k outer)) × (size (r .value) ≤ 34359738368) ⌝ }
 {
@@ -109,7 +111,7 @@ fn largest_from(nest: &[i64], j: usize, n: usize, k: usize, outer: [Range; 6]) -
 }
 
 // The smallest of what n upper limits from limit j on allow.
-fn smallest_from(nest: &[i64], j: usize, n: usize, k: usize, outer: [Range; 6]) -> Whole
+fn smallest_from(nest: &[i16], j: usize, n: usize, k: usize, outer: [Range; 6]) -> Whole
     requires { ⌜ SideIn (now nest) j n k outer ⌝ }
     ensures { λ r. ⌜ (r .value ≡ smallestFrom (now (nest .entry)) k j n (rangesOf k outer)) × (size (r .value) ≤ 34359738368) ⌝ }
 {
@@ -139,7 +141,7 @@ fn cut(x: Whole) -> Whole
 }
 
 // The least value of loop k, from the ranges of the loops outside.
-fn least_over(nest: &[i64], counts: &[usize], k: usize, outer: [Range; 6]) -> Whole
+fn least_over(nest: &[i16], counts: &[usize], k: usize, outer: [Range; 6]) -> Whole
     requires { ⌜ LoopIn (now nest) (now counts) k outer ⌝ }
     ensures { λ r. ⌜ (r .value ≡ rangeOf (rangesOf k outer) (loopAt (now (nest .entry)) (now (counts .entry)) k) .least) × (size (r .value) ≤ 32767) ⌝ }
 {
@@ -147,7 +149,7 @@ fn least_over(nest: &[i64], counts: &[usize], k: usize, outer: [Range; 6]) -> Wh
 }
 
 // The greatest value of loop k.
-fn greatest_over(nest: &[i64], counts: &[usize], k: usize, outer: [Range; 6]) -> Whole
+fn greatest_over(nest: &[i16], counts: &[usize], k: usize, outer: [Range; 6]) -> Whole
     requires { ⌜ LoopIn (now nest) (now counts) k outer ⌝ }
     ensures { λ r. ⌜ (r .value ≡ rangeOf (rangesOf k outer) (loopAt (now (nest .entry)) (now (counts .entry)) k) .greatest) × (size (r .value) ≤ 32767) ⌝ }
 {
@@ -155,7 +157,7 @@ fn greatest_over(nest: &[i64], counts: &[usize], k: usize, outer: [Range; 6]) ->
 }
 
 // The least value of loop k.
-pub fn least_value(nest: &[i64], counts: &[usize], k: usize) -> Whole
+pub fn least_value(nest: &[i16], counts: &[usize], k: usize) -> Whole
     requires { ⌜ NestOk (now nest) (now counts) (suc k) ⌝ }
     ensures { λ r. ⌜ (r .value ≡ rangeAt (now (nest .entry)) (now (counts .entry)) k .least) × (size (r .value) ≤ 32767) ⌝ }
 {
@@ -177,7 +179,7 @@ pub fn least_value(nest: &[i64], counts: &[usize], k: usize) -> Whole
 }
 
 // The greatest value of loop k.
-pub fn greatest_value(nest: &[i64], counts: &[usize], k: usize) -> Whole
+pub fn greatest_value(nest: &[i16], counts: &[usize], k: usize) -> Whole
     requires { ⌜ NestOk (now nest) (now counts) (suc k) ⌝ }
     ensures { λ r. ⌜ (r .value ≡ rangeAt (now (nest .entry)) (now (counts .entry)) k .greatest) × (size (r .value) ≤ 32767) ⌝ }
 {
@@ -199,7 +201,7 @@ pub fn greatest_value(nest: &[i64], counts: &[usize], k: usize) -> Whole
 }
 
 // The ranges of the first n loops.
-pub fn ranges(nest: &[i64], counts: &[usize], n: usize) -> [Range; 6]
+pub fn ranges(nest: &[i16], counts: &[usize], n: usize) -> [Range; 6]
     requires { ⌜ NestOk (now nest) (now counts) n ⌝ }
     ensures { λ r. ⌜ RangesAre (now (nest .entry)) (now (counts .entry)) n r ⌝ }
 {

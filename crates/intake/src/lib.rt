@@ -21,7 +21,7 @@ pub struct Intake {
 fn blank() -> Sheet {
     Sheet {
         depth: 0,
-        limits: [0i64; 1536],
+        limits: [0i16; 1536],
         counts: [0usize; 12],
         arrays: 0,
         extents: [0usize; 16],
@@ -31,7 +31,7 @@ fn blank() -> Sheet {
         constants: [0usize; 4],
         accesses: 0,
         owners: [0usize; 20],
-        words: [0i64; 480],
+        words: [0i16; 480],
     }
 }
 

@@ -9,7 +9,7 @@ use native.Mathlib.Nat.{mul-le-mul}
 use lib.Dec.{T}
 use lib.IntN.{ℤ, pos, negsuc, negℤ, _+ℤ_, _-ℤ_, _*ℤ_, natAbs}
 use lib.Signed.{_≤ℤ_, _<ℤ_, ltZ, leZ, leZ-yes, ltZ-yes, ltZ-no, clashℤ, nonNeg, quotZ, remZ}
-use mir.Syntax.{Width, w64}
+use mir.Syntax.{Width, w16, w64}
 use mir.Val.{Fits, SFits, hbits, ofZ, toZ}
 use mir.Facts as F
 use Rattle.lists.proofs.TestLaws.{true-T, T-true, not-T-false}
@@ -75,6 +75,13 @@ sfits-size w (negsuc n) h = omega (arith, h .sfits)
 
 pub size-fits : {z : ℤ} {n : ℕ} → size z ≤ n → n < 2 ^ 63 → SFits w64 z
 size-fits {z} {n} h g = sfits (omega arith)
+
+-- a word of 16 bits
+pub word-fits : {z : ℤ} → size z ≤ 32767 → SFits w16 z
+word-fits {z} h = sfits (omega arith)
+
+pub word-wide : {z : ℤ} → SFits w16 z → SFits w64 z
+word-wide {z} h = let u = sfits-up w16 z h in let d = sfits-down w16 z h in sfits (omega arith)
 
 -- as two orders
 pub fits-range : (z : ℤ) → SFits w64 z → (negsuc 9223372036854775807 ≤ℤ z) × (z ≤ℤ pos 9223372036854775807)

@@ -5,12 +5,13 @@ use Prim.Native.Nat.{ℕ, _+_, _*_, _≤_, _<_}
 use native.Mathlib.Omega.{arith}
 use native.Mathlib.Numerals.{add-one}
 use native.Mathlib.Nat.{mul-le-mul-right}
-use lib.ListN.{length, getD, take, length-take}
+use lib.ListN.{length, getD, take, drop, length-take}
+use lib.Seq.{getD-take, getD-drop}
 use lib.IntN.{ℤ, pos, _+ℤ_, _*ℤ_, +ℤ-assoc, +ℤ-idr}
 use mir.Syntax.{w64}
 use mir.Val.{toZ, ofZ}
 use Rattle.integers.specs.Difference.{size}
-use Rattle.integers.specs.Affine.{dot, affine, AffineIn, SumTo}
+use Rattle.integers.specs.Affine.{dot, affine, affineAt, AffineIn, AffineAt, SumTo}
 use Rattle.integers.proofs.RangeLaws.{back, sfits}
 use Rattle.integers.proofs.AffineLaws.{dot-snoc, dot-all, affine-size, within-at, within-take}
 
@@ -64,3 +65,27 @@ module _ {e : ℤ} {cs xs : List ℤ} {i : ℕ} {s : ℤ} (g : SumTo e cs xs i s
 
   pub sum-more : {r : ℤ} → i < length cs → r ≡ s +ℤ toZ w64 (ofZ w64 (getD cs i (pos 0))) *ℤ toZ w64 (ofZ w64 (getD xs i (pos 0))) → SumTo e cs xs (i + 1) r
   sum-more k t = record { lent = g .lent; total = t ∙ rw (read-coefficient, read-index, g .total) (next-product e cs xs (g .lent) i k) }
+
+-- ---- among words
+
+-- the sum of the constant and the first i products
+abbrev pub SumAt : List ℤ → ℕ → List ℤ → ℕ → ℤ → Type 0
+SumAt w at xs i s = SumTo (getD w at (pos 0)) (take (length xs) (drop (at + 1) w)) xs i s
+
+module _ {w : List ℤ} {at : ℕ} {xs : List ℤ} (h : AffineAt w at xs) where
+  pub at-none : {r : ℤ} → r ≡ getD w at (pos 0) → SumAt w at xs 0 (toZ w64 (ofZ w64 r))
+  at-none e = rw (e, read-constant _ _ _ (h .lent)) (sum-none _ _ _ (h .lent))
+
+  module _ {i : ℕ} {s c : ℤ} (k : i < length xs) (g : SumAt w at xs i s) (e : c ≡ getD w (at + 1 + i) (pos 0)) where
+    same : c ≡ getD (take (length xs) (drop (at + 1) w)) i (pos 0)
+    same = e ∙ sym (getD-take (length xs) (drop (at + 1) w) i (pos 0) k ∙ getD-drop (at + 1) w i (pos 0))
+
+    pub plus-at : (size s ≤ 36028797018963968) × (size (toZ w64 (ofZ w64 c)) ≤ 2147483648) × (size (toZ w64 (ofZ w64 (getD xs i (pos 0)))) ≤ 1048576)
+    plus-at = rw same (plus-in g)
+
+    pub at-more : {r : ℤ} → r ≡ s +ℤ toZ w64 (ofZ w64 c) *ℤ toZ w64 (ofZ w64 (getD xs i (pos 0))) → SumAt w at xs (i + 1) r
+    at-more t = let m = h .lent .matched in sum-more g (omega arith) (t ∙ rw same)
+
+  pub at-all : {i : ℕ} {s : ℤ} → SumAt w at xs i s → i ≡ length xs → toZ w64 (ofZ w64 s) ≡ affineAt w at xs
+  unfolding affineAt
+  at-all {i} {s} g k = sum-all _ _ _ (h .lent) {i = i} {s = s} (rw (read-constant _ _ _ (h .lent)) g) (k ∙ h .lent .matched)

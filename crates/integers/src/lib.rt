@@ -3,11 +3,11 @@ ghost use mathlib.Core.Path.{_≡_};
 ghost use Prim.Native.Nat.{_+_, _≤_, _<_};
 ghost use lib.IntN.{pos, _+ℤ_, _*ℤ_};
 ghost use lib.Signed.{_<ℤ_};
-ghost use lib.ListN.{length};
+ghost use lib.ListN.{length, getD};
 ghost use Rattle.integers.specs.Difference.{size};
 ghost use Rattle.integers.specs.Division.{floorDiv, ceilDiv};
 ghost use Rattle.integers.specs.Gcd.{gcd};
-ghost use Rattle.integers.specs.Affine.{affine, AffineIn, SumTo};
+ghost use Rattle.integers.specs.Affine.{affine, AffineIn, AffineAt, SumTo, affineAt};
 ghost use Rattle.integers.specs.Sign.{sign, signValue};
 
 // a divided by b, rounded down: −3/4 is −1.
@@ -133,6 +133,36 @@ pub fn affine(constant: i64, coefficients: &[i64], indices: &[i64]) -> i64
         4 => four(start, coefficients, indices).value,
         _ => all(start, coefficients, indices).value,
     }
+}
+
+fn wide(x: i16) -> i64
+    ensures { λ r. ⌜ r ≡ x ⌝ }
+{
+    x as i64
+}
+
+// One of the words in which limits and subscripts are kept, to reckon with.
+pub fn word(words: &[i16], i: usize) -> i64
+    requires { ⌜ i < length (now words) ⌝ }
+    ensures { λ r. ⌜ r ≡ getD (now (words .entry)) i (pos 0) ⌝ }
+{
+    wide(words[i])
+}
+
+// The affine value whose constant is word `at`, and whose coefficients are the words after it.
+pub fn affine_at(words: &[i16], at: usize, indices: &[i64]) -> i64
+    requires { ⌜ AffineAt (now words) at (now indices) ⌝ }
+    ensures { λ r. ⌜ r ≡ affineAt (now (words .entry)) at (now (indices .entry)) ⌝ }
+{
+    let mut sum = Whole {
+        value: word(words, at),
+    };
+    let mut i = 0;
+    while i < indices.len() {
+        sum = plus(sum, word(words, at + 1 + i), indices[i]);
+        i += 1;
+    }
+    sum.value
 }
 
 // −1, 0 or 1 as a is below, equal to or above b.

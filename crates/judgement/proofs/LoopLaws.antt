@@ -132,10 +132,10 @@ module _ (t : Ticket) (s₀ : DirectionSet) (i : JudgeIn t s₀) where
       body = λ f. not-fine q (sym e ∙ f);
     }
 
-    pub steps-pass : t .steps .count ≤ k → JudgesSteps t (record { status = Fine; nest = N; body = B; set = s })
-    unfolding Ticket.nestOf modelOf
-    steps-pass h = record {
-      same = sym (all-judged (t .steps) (t .nest) (t .body) s₀ N B s k v h (Ticket.nestOf t .arrays)) ∙ by-directions;
-      nest = λ _. v .ready .nest;
-      body = λ _. v .ready .body;
-    }
+  pub steps-pass : (r : Stepped) → r .status ≡ Fine → (k : ℕ) → SoFar (t .steps) (t .nest) (t .body) s₀ (r .nest) (r .body) (r .set) k → t .steps .count ≤ k → JudgesSteps t r
+  unfolding Ticket.nestOf modelOf
+  steps-pass r e k v h = record {
+    same = ap (λ (z : Status). judgedAs z (modelOf (r .nest) (t .arrays) (r .body))) e ∙ sym (all-judged (t .steps) (t .nest) (t .body) s₀ (r .nest) (r .body) (r .set) k v h (Ticket.nestOf t .arrays)) ∙ by-directions;
+    nest = λ _. v .ready .nest;
+    body = λ _. v .ready .body;
+  }

@@ -15,7 +15,7 @@ use space::Verdict;
 use steps::Step;
 use ticket::Ticket;
 
-// What the steps so far have made, where the status is Fine.
+// What the steps so far have made, where the status is Fine. It goes from step to step as one value: taken apart, the nest is copied for each part.
 struct Stepped {
     status: Status,
     nest: Nest,
@@ -75,13 +75,13 @@ fn step_status(back: bool, full: bool, small: bool, number: usize) -> Status
     Status::Refused(Refusal::NumberOutOfRange(number))
 }
 
-fn judge_step(nest: Nest, body: Body, set: DirectionSet, step: Step, number: usize) -> Stepped
-    requires { ⌜ JudgeStepIn nest body set step ⌝ }
-    ensures { λ r. ⌜ JudgesStep nest body set step number r ⌝ }
+fn judge_step(before: Stepped, step: Step, number: usize) -> Stepped
+    requires { ⌜ JudgeStepIn (before .nest) (before .body) (before .set) step ⌝ }
+    ensures { λ r. ⌜ JudgesStep (before .nest) (before .body) (before .set) step number r ⌝ }
 {
-    let after = direction_after(set, step);
-    let taken = stepping::take_step(nest, body, step);
+    let after = direction_after(before.set, step);
     let back = directions::points_back(after);
+    let taken = stepping::take_step(before.nest, before.body, step);
     let status = step_status(back, taken.full, taken.small, number);
     let loops = taken.nest;
     let statements = taken.body;
@@ -102,31 +102,28 @@ fn judge_steps(ticket: Ticket, set: DirectionSet) -> Stepped
     let steps = ticket.steps;
     let count = steps.count;
     let all = steps.steps;
-    let mut nest = ticket.nest;
-    let mut body = ticket.body;
-    let mut vectors = set;
+    let nest = ticket.nest;
+    let body = ticket.body;
+    let mut stepped = Stepped {
+        status: Status::Fine,
+        nest: nest,
+        body: body,
+        set: set,
+    };
     let mut k = 0;
     while k < count {
         let numbered = all[k];
         let number = numbered.number;
         let step = numbered.step;
-        let stepped = judge_step(nest, body, vectors, step, number);
+        stepped = judge_step(stepped, step, number);
         let status = stepped.status;
         match status {
             Status::Fine => {}
             Status::Refused(_) => return stepped,
         }
-        nest = stepped.nest;
-        body = stepped.body;
-        vectors = stepped.set;
         k += 1;
     }
-    Stepped {
-        status: Status::Fine,
-        nest: nest,
-        body: body,
-        set: vectors,
-    }
+    stepped
 }
 
 // ---- the new nest
@@ -146,7 +143,7 @@ fn survey_new(sheet: Sheet) -> Status
 fn blank() -> Sheet {
     Sheet {
         depth: 0,
-        limits: [0i64; 1536],
+        limits: [0i16; 1536],
         counts: [0usize; 12],
         arrays: 0,
         extents: [0usize; 16],
@@ -156,7 +153,7 @@ fn blank() -> Sheet {
         constants: [0usize; 4],
         accesses: 0,
         owners: [0usize; 20],
-        words: [0i64; 480],
+        words: [0i16; 480],
     }
 }
 

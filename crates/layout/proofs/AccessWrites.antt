@@ -7,41 +7,46 @@ use native.Mathlib.Numerals.{add-one}
 use lib.IntN.{ℤ}
 use lib.ListN.{length, getD, take, set, length-map}
 use lib.Seq.{length-take-le, take-suc, take-take, getD-take}
-use mir.Syntax.{w32, w64}
+use mir.Syntax.{w16, w32}
 use mir.Val.{SFits, toZ, ofZ}
-use mir.Facts.{toZ-ofZ}
 use Rattle.lists.specs.Membership.{Mem, All}
 use Rattle.lists.specs.Parts.{put}
 use Rattle.lists.proofs.MembershipLaws.{all-getD, all-take, getD-mem, map-all}
 use Rattle.lists.proofs.PartLaws.{put-put, set-is-put, length-put}
 use Rattle.integers.specs.Difference.{size}
-use Rattle.integers.proofs.RangeLaws.{size-natAbs, sfits}
+use Rattle.integers.specs.Affine.{Within}
+use Rattle.integers.proofs.RangeLaws.{size-natAbs}
 use Rattle.model.specs.Ticket as Model
 use Rattle.model.specs.Ranges.{SubscriptRanges}
 use Rattle.body.specs.Statements.{subscriptOf, accessOf, SubscriptIn}
 use Rattle.body.specs.declared.Subscript.{Subscript}
 use Rattle.body.specs.declared.Access.{Access}
-use Rattle.loop_layout.proofs.WriteLaws.{wider}
+use Rattle.loop_layout.proofs.LimitLaws.{small-within}
+use Rattle.loop_layout.proofs.WriteLaws.{number-fits, number-written}
 use Rattle.layout.specs.Accesses.{layRows, subscriptWords, layAccess, LaySubscriptIn, LayAccessIn}
 use Rattle.layout.proofs.RowLaws.{rows-more, rows-length}
 
 -- ---- one subscript
 
 module _ (o : List ℤ) (j depth : ℕ) (s : Subscript) (p : LaySubscriptIn (length o) j depth s) where
-  constant-fits : SFits w32 (s .constant)
+  constant-small : size (s .constant) ≤ 32767
   unfolding subscriptOf
-  constant-fits = let h : size (s .constant) ≤ 32767 = omega (arith, p .ranges .constant, size-natAbs (s .constant)) in sfits (omega arith)
+  constant-small = omega (arith, p .ranges .constant, size-natAbs (s .constant))
 
-  pub constant-wide : SFits w64 (toZ w32 (ofZ w32 (s .constant)))
-  constant-wide = rw (toZ-ofZ constant-fits) (wider (s .constant) constant-fits)
+  pub constant-fits : SFits w16 (toZ w32 (ofZ w32 (s .constant)))
+  constant-fits = number-fits (s .constant) constant-small
+
+  pub row-small : Within 32767 (take depth (s .coefficients))
+  unfolding subscriptOf
+  row-small = small-within (take depth (s .coefficients)) (p .ranges .coefficients)
 
   pub row-length : length (take depth (s .coefficients)) ≡ depth
   row-length = let h = p .shallow in let r = p .within .room in length-take-le depth (s .coefficients) (omega arith)
 
-  pub wrote : (e : List ℤ) → e ≡ put (set o (j * 8) (toZ w64 (ofZ w64 (toZ w32 (ofZ w32 (s .constant)))))) (j * 8 + 1) (take depth (s .coefficients)) → e ≡ put o (j * 8) (subscriptWords (subscriptOf depth s))
+  pub wrote : (e : List ℤ) → e ≡ put (set o (j * 8) (toZ w16 (ofZ w16 (toZ w32 (ofZ w32 (s .constant)))))) (j * 8 + 1) (take depth (s .coefficients)) → e ≡ put o (j * 8) (subscriptWords (subscriptOf depth s))
   unfolding subscriptWords subscriptOf
   wrote e q = let h = p .fits in
-      q ∙ ap (λ a. put (set o (j * 8) a) (j * 8 + 1) (take depth (s .coefficients))) (toZ-ofZ constant-wide ∙ toZ-ofZ constant-fits)
+      q ∙ ap (λ a. put (set o (j * 8) a) (j * 8 + 1) (take depth (s .coefficients))) (number-written (s .constant) constant-small)
       ∙ ap (λ l. put l (j * 8 + 1) (take depth (s .coefficients))) (set-is-put o (j * 8) (s .constant) (omega arith))
       ∙ put-put o (j * 8) (s .constant ∷ []) (take depth (s .coefficients)) (omega arith)
 

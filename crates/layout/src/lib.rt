@@ -19,19 +19,19 @@ use nest::Nest;
 use sheet::Sheet;
 
 // Subscript j of all.
-fn lay_subscript(words: &mut [i64], j: usize, subscript: Subscript, depth: usize)
+fn lay_subscript(words: &mut [i16], j: usize, subscript: Subscript, depth: usize)
     requires { ⌜ LaySubscriptIn (length (now words)) j depth subscript ⌝ }
     ensures { λ _. ⌜ now (words .exit) ≡ put (now (words .entry)) (j * 8) (subscriptWords (subscriptOf depth subscript)) ⌝ }
 {
     let at = j * 8;
     let constant = subscript.constant;
     let coefficients = subscript.coefficients;
-    words[at] = constant as i64;
-    loop_layout::widen(words, at + 1, &coefficients[..depth]);
+    words[at] = constant as i16;
+    loop_layout::lay_row(words, at + 1, &coefficients[..depth]);
 }
 
 // Access k, and the number of its array.
-fn lay_access(words: &mut [i64], owners: &mut [usize], k: usize, access: Access, depth: usize)
+fn lay_access(words: &mut [i16], owners: &mut [usize], k: usize, access: Access, depth: usize)
     requires { ⌜ LayAccessIn (length (now words)) (length (now owners)) k depth access ⌝ }
     ensures { λ _. ⌜ (now (words .exit) ≡ layAccess (now (words .entry)) k (accessOf depth access)) × (now (owners .exit) ≡ set (now (owners .entry)) k (access .array)) ⌝ }
 {
@@ -48,7 +48,7 @@ fn lay_access(words: &mut [i64], owners: &mut [usize], k: usize, access: Access,
 
 // The accesses of a statement from access k on, the written one first; returns the number after them.
 fn lay_statement(
-    words: &mut [i64],
+    words: &mut [i16],
     owners: &mut [usize],
     k: usize,
     statement: Statement,
@@ -71,7 +71,7 @@ fn lay_statement(
 }
 
 // The accesses of all statements, in ticket order; returns how many.
-fn lay_body(words: &mut [i64], owners: &mut [usize], body: Body, depth: usize) -> usize
+fn lay_body(words: &mut [i16], owners: &mut [usize], body: Body, depth: usize) -> usize
     requires { ⌜ LayBodyIn (length (now words)) (length (now owners)) depth body ⌝ }
     ensures { λ r. ⌜ BodyLaid depth body r (now (words .entry)) (now (words .exit)) (now (owners .entry)) (now (owners .exit)) ⌝ }
 {
@@ -140,7 +140,7 @@ pub fn lay(nest: Nest, arrays: Arrays, body: Body) -> Sheet
     ensures { λ r. ⌜ Laid nest arrays body r ⌝ }
 {
     let depth = nest.depth;
-    let mut limits = [0i64; 1536];
+    let mut limits = [0i16; 1536];
     let mut counts = [0usize; 12];
     loop_layout::lay_nest(&mut limits, &mut counts, nest);
     let mut extents = [0usize; 16];
@@ -150,7 +150,7 @@ pub fn lay(nest: Nest, arrays: Arrays, body: Body) -> Sheet
     let mut constants = [0usize; 4];
     lay_heads(&mut sizes, &mut rules, &mut constants, body);
     let mut owners = [0usize; 20];
-    let mut words = [0i64; 480];
+    let mut words = [0i16; 480];
     let accesses = lay_body(&mut words, &mut owners, body, depth);
     Sheet {
         depth,

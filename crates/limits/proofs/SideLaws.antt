@@ -6,9 +6,9 @@ use native.Mathlib.Omega.{arith}
 use native.Mathlib.Nat.{add-zero}
 use native.Mathlib.Numerals.{add-one}
 use lib.ListN.{length, getD, take, drop, set, length-drop}
-use lib.Seq.{take-suc, take-suc-set, length-take-le, drop-set-add, getD-drop, getD-take}
+use lib.Seq.{take-suc, take-suc-set, take-set-le, take-take, length-take-le, drop-cons, drop-drop, drop-set-lt, getD-drop, getD-take}
 use Rattle.lists.specs.Membership.{All}
-use Rattle.lists.proofs.MembershipLaws.{all-getD, all-append, all-cons, all-nil}
+use Rattle.lists.proofs.MembershipLaws.{all-getD, all-cons}
 use Rattle.model.specs.Ticket as Model
 use Rattle.model.specs.Limits.{onLimits}
 use Rattle.nest.specs.Nested.{loopOf, loopsFrom, LoopIn}
@@ -35,6 +35,24 @@ all-front P d k n l h g a = let e = length-take-le n l g in subst P (getD-take n
 
 pub all-front-map : {A B : Type 0} (P : B → Type 0) (f : A → B) (d : A) (k n : ℕ) (l : List A) → k < n → n ≤ length l → All P (map f (take n l)) → P (f (getD l k d))
 all-front-map P f d k n l h g a = all-front (λ x. P (f x)) d k n l h g (λ x m. a (f x) (mathlib.Core.List.Memᴰ·map f m))
+
+-- ---- lists that are changed in place
+
+-- what stands from k on is as it was, and the element at k is stored
+module _ {A : Type 0} (k : ℕ) (l l₀ : List A) (e : drop k l ≡ drop k l₀) where
+  pub rest-at : (d : A) → getD l k d ≡ getD l₀ k d
+  rest-at d = rw (add-zero k) at (sym (getD-drop k l 0 d) ∙ ap (λ r. getD r 0 d) e ∙ getD-drop k l₀ 0 d)
+
+  pub rest-more : (z : A) → drop (k + 1) (set l k z) ≡ drop (k + 1) l₀
+  rest-more z = drop-set-lt (k + 1) l k z (omega arith) ∙ sym (drop-drop 1 k l) ∙ ap (drop 1) e ∙ drop-drop 1 k l₀
+
+-- what stands before n is as it was
+module _ {A : Type 0} (n : ℕ) (l l₀ : List A) (e : take n l ≡ take n l₀) where
+  pub front-at : (k : ℕ) (d : A) → k < n → getD l k d ≡ getD l₀ k d
+  front-at k d h = sym (getD-take n l k d h) ∙ ap (λ r. getD r k d) e ∙ getD-take n l₀ k d h
+
+  pub front-less : (m : ℕ) (z : A) → m ≤ n → take m (set l m z) ≡ take m l₀
+  front-less m z h = take-set-le m l m z (omega arith) ∙ sym (take-take m n l h) ∙ ap (take m) e ∙ take-take m n l₀ h
 
 -- ---- loops
 
@@ -70,26 +88,24 @@ module _ (d : Loop) (start many j : ℕ) (l : List Loop) (h : j < many) (g : sta
   pub loop-within : All LoopIn (take many (drop start l)) → LoopIn (getD l (start + j) d)
   loop-within e = subst LoopIn (getD-drop start l j d) (all-front LoopIn d j many (drop start l) h (let k = length-drop start l in omega arith) e)
 
--- a store at at + j
-pub stored : {A : Type 0} (at j : ℕ) (l : List A) (z : A) → at + j < length l → take (j + 1) (drop at (set l (at + j) z)) ≡ take j (drop at l) ++ (z ∷ [])
-stored at j l z h = rw (add-one j, drop-set-add at l j z) (take-suc-set (drop at l) j z (let k = length-drop at l in omega arith))
+-- a store at p, and what stands from there on
+opened : {A : Type 0} (p : ℕ) (l : List A) (z : A) → p < length l → drop p (set l p z) ≡ z ∷ drop (suc p) l
+opened p [] z h = absurd (omega arith)
+opened zero (x ∷ l) z h = refl
+opened (suc p) (x ∷ l) z h = opened p l z (omega arith)
 
-taken : {A : Type 0} (d : A) (at j : ℕ) (l : List A) → at + j < length l → take (j + 1) (drop at l) ≡ take j (drop at l) ++ (getD l (at + j) d ∷ [])
-taken d at j l h = rw (add-one j, ← (getD-drop at l j d)) (take-suc (drop at l) j d (let k = length-drop at l in omega arith))
+-- one more at the front of those that are changed: the loop at k, stored at p
+module _ (p q n m : ℕ) (a : q ≡ suc p) (b : m ≡ suc n) (out : List Loop) (z : Loop) (h : p < length out) where
+  pub within-before : All LoopIn (take n (drop q out)) → LoopIn z → All LoopIn (take m (drop p (set out p z)))
+  within-before e w = rw (b, opened p out z h) (all-cons LoopIn w (subst (λ (i : ℕ). All LoopIn (take n (drop i out))) a e))
 
-pub within-more : (at j : ℕ) (l : List Loop) (z : Loop) → at + j < length l → All LoopIn (take j (drop at l)) → LoopIn z → All LoopIn (take (j + 1) (drop at (set l (at + j) z)))
-within-more at j l z h a p = rw (stored at j l z h) (all-append LoopIn (take j (drop at l)) (z ∷ []) a (all-cons LoopIn p (all-nil LoopIn)))
-
-pub made-more : (ch : Change) (d : Loop) (start at j : ℕ) (out from : List Loop) (z : Loop) → at + j < length out → start + j < length from → outerAfter ch (start + j) ≡ at + j
-    → loopsFrom at (take j (drop at out)) ≡ map (onLimits (changeOf ch)) (loopsFrom start (take j (drop start from)))
-    → loopOf (outerAfter ch (start + j)) z ≡ onLimits (changeOf ch) (loopOf (start + j) (getD from (start + j) d))
-    → loopsFrom at (take (j + 1) (drop at (set out (at + j) z))) ≡ map (onLimits (changeOf ch)) (loopsFrom start (take (j + 1) (drop start from)))
-made-more ch d start at j out from z h g q e f =
-    let n : length (take j (drop at out)) ≡ j = length-take-le j (drop at out) (let k = length-drop at out in omega arith) in
-    let m : length (take j (drop start from)) ≡ j = length-take-le j (drop start from) (let k = length-drop start from in omega arith) in
-    let F = onLimits (changeOf ch) in
-    let x : Loop = getD from (start + j) d in
-    rw (stored at j out z h, taken d start j from g, loops-append at (take j (drop at out)) (z ∷ []), loops-append start (take j (drop start from)) (x ∷ []), n, m, loops-single (at + j) z, loops-single (start + j) x)
-    (ap (_++ (loopOf (at + j) z ∷ [])) e
-    ∙ ap (λ (y : Model.Loop). map F (loopsFrom start (take j (drop start from))) ++ (y ∷ [])) (ap (λ i. loopOf i z) (sym q) ∙ f)
-    ∙ sym (map-append F (loopsFrom start (take j (drop start from))) (loopOf (start + j) x ∷ [])))
+  pub made-before : (ch : Change) (d : Loop) (k i : ℕ) (from : List Loop) → i ≡ suc k → k < length from → outerAfter ch k ≡ p
+      → loopsFrom q (take n (drop q out)) ≡ map (onLimits (changeOf ch)) (loopsFrom i (take n (drop i from)))
+      → loopOf (outerAfter ch k) z ≡ onLimits (changeOf ch) (loopOf k (getD from k d))
+      → loopsFrom p (take m (drop p (set out p z))) ≡ map (onLimits (changeOf ch)) (loopsFrom k (take m (drop k from)))
+  unfolding loopsFrom
+  made-before ch d k i from c g o e f =
+      let F = onLimits (changeOf ch) in
+      let rest : loopsFrom (suc p) (take n (drop (suc p) out)) ≡ map F (loopsFrom (suc k) (take n (drop (suc k) from))) = rw (a, c) at e in
+      rw (b, opened p out z h, drop-cons from k d g)
+      (ap (loopOf p z ∷_) rest ∙ ap (_∷ map F (loopsFrom (suc k) (take n (drop (suc k) from)))) (ap (λ j. loopOf j z) (sym o) ∙ f))

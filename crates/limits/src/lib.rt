@@ -276,11 +276,10 @@ pub fn changed_side(side: Side, n: usize, change: Change) -> Side
     ensures { λ r. ⌜ SideIs (outerAfter change n) r (map (changeOf change) (sideOf n side)) × (r .count ≡ side .count) ⌝ }
 {
     let count = side.count;
-    let from = side.limits;
-    let mut limits = from;
+    let mut limits = side.limits;
     let mut k = 0;
     while k < count {
-        let l = from[k];
+        let l = limits[k];
         let m = changed(l, n, change);
         limits[k] = m;
         k += 1;
@@ -295,37 +294,33 @@ pub fn changed_loop(body: Loop, n: usize, change: Change) -> Loop
     requires { ⌜ LoopChange change n body ⌝ }
     ensures { λ r. ⌜ LoopIs (outerAfter change n) r (onLimits (changeOf change) (loopOf n body)) ⌝ }
 {
-    let low = body.lower;
-    let up = body.upper;
-    let lower = changed_side(low, n, change);
-    let upper = changed_side(up, n, change);
+    let lower = changed_side(body.lower, n, change);
+    let upper = changed_side(body.upper, n, change);
     Loop {
         lower: lower,
         upper: upper,
     }
 }
 
-// The loops from place `start` on, changed, `by` places further in.
+// The loops from place `start` on, changed in place, `by` places further in: the innermost first, so that each is read before another is put there.
 pub fn changed_from(
-    from: [Loop; 6],
-    into: [Loop; 6],
+    loops: [Loop; 6],
     start: usize,
     many: usize,
     by: usize,
     change: Change,
 ) -> [Loop; 6]
-    requires { ⌜ LoopsChange change from start many by ⌝ }
-    ensures { λ r. ⌜ LoopsAre change from into start many by r ⌝ }
+    requires { ⌜ LoopsChange change loops start many by ⌝ }
+    ensures { λ r. ⌜ LoopsAre change loops loops start many by r ⌝ }
 {
-    let at = start + by;
-    let mut out = into;
-    let mut j = 0;
-    while j < many {
-        let k = start + j;
-        let l = from[k];
+    let mut out = loops;
+    let mut left = many;
+    while 0 < left {
+        left -= 1;
+        let k = start + left;
+        let l = out[k];
         let m = changed_loop(l, k, change);
-        out[at + j] = m;
-        j += 1;
+        out[k + by] = m;
     }
     out
 }

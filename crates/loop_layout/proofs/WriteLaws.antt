@@ -1,25 +1,58 @@
--- The range of a number that is widened; then what `lay_limit` writes: two words, and the coefficients after them.
-use mathlib.Core.Path.{_≡_, ap, ap₂, _∙_}
+-- A number that is written as a word of 16 bits, and a row of them; then what `lay_limit` writes: two words, and the coefficients after them.
+use mathlib.Core.Path.{_≡_, sym, ap, ap₂, _∙_}
 use mathlib.Core.List.{List, [], _∷_}
 use Prim.Native.Nat.{ℕ, _+_, _*_, _≤_, _<_}
 use native.Mathlib.Omega.{arith}
 use lib.IntN.{ℤ, pos}
-use lib.ListN.{length, take, set, length-set}
+use lib.ListN.{length, getD, take, set, length-set}
 use lib.Seq.{length-take-le}
-use mir.Syntax.{w32, w64}
+use mir.Syntax.{w16, w32, w64}
 use mir.Val.{SFits, toZ, ofZ}
-use mir.Facts.{toZ-ofZ}
+use mir.Facts.{toZ-ofZ, toZ-pos}
 use Rattle.lists.specs.Parts.{put}
 use Rattle.lists.proofs.PartLaws.{put-put, set-is-put, set-put, length-put}
 use Rattle.integers.specs.Difference.{size}
-use Rattle.integers.proofs.RangeLaws.{from-nat, size-fits, size-natAbs, sfits, sfits-up, sfits-down}
+use Rattle.integers.specs.Affine.{Within}
+use Rattle.integers.proofs.RangeLaws.{size-fits, size-natAbs, sfits, word-fits}
+use Rattle.integers.proofs.AffineLaws.{within-at}
+use Rattle.space.proofs.StoreLaws.{copy-more}
 use Rattle.model.specs.Encode.{limitWords}
 use Rattle.nest.specs.Nested.{limitOf}
 use Rattle.nest.specs.declared.Limit.{Limit}
 use Rattle.loop_layout.specs.Limits.{LayLimitIn}
+use Rattle.loop_layout.proofs.LimitLaws.{small-within}
 
-pub wider : (z : ℤ) → SFits w32 z → SFits w64 z
-wider z h = let u = sfits-up w32 z h in let d = sfits-down w32 z h in sfits (omega arith)
+-- ---- one word
+
+module _ (z : ℤ) (h : size z ≤ 32767) where
+  wide-fits : SFits w32 z
+  wide-fits = sfits (omega arith)
+
+  -- as it is read, and as it is written
+  pub number-read : toZ w32 (ofZ w32 z) ≡ z
+  number-read = toZ-ofZ wide-fits
+
+  pub number-fits : SFits w16 (toZ w32 (ofZ w32 z))
+  number-fits = rw number-read (word-fits h)
+
+  pub number-written : toZ w16 (ofZ w16 (toZ w32 (ofZ w32 z))) ≡ z
+  number-written = toZ-ofZ number-fits ∙ number-read
+
+-- ---- a row
+
+module _ (o row : List ℤ) (at : ℕ) (p : (at + length row ≤ length o) × Within 32767 row) where
+  small : (j : ℕ) → size (getD row j (pos 0)) ≤ 32767
+  small j = within-at 32767 row (p .1) j
+
+  pub narrow-in : (j : ℕ) → size (toZ w32 (ofZ w32 (getD row j (pos 0)))) ≤ 32767
+  narrow-in j = rw (number-read (getD row j (pos 0)) (small j)) (small j)
+
+  pub row-more : (out : List ℤ) (j : ℕ) → out ≡ put o at (take j row) → j < length row → {z : ℤ} → z ≡ toZ w32 (ofZ w32 (getD row j (pos 0)))
+      → set out (at + j) (toZ w16 (ofZ w16 z)) ≡ put o at (take (j + 1) row)
+  row-more out j e h q = let s = small j in let f : SFits w64 (getD row j (pos 0)) = size-fits s (omega arith) in
+      ap (set out (at + j)) (ap (λ (x : ℤ). toZ w16 (ofZ w16 x)) q ∙ number-written (getD row j (pos 0)) s ∙ sym (toZ-ofZ f)) ∙ copy-more o row at (p .0) out j e h f
+
+-- ---- a limit
 
 -- two words and a row are written as one part
 two-and-row : (o : List ℤ) (p : ℕ) (a b : ℤ) (xs : List ℤ) → p + 2 ≤ length o → put (set (set o p a) (p + 1) b) (p + 2) xs ≡ put o p (a ∷ b ∷ xs)
@@ -29,19 +62,23 @@ two-and-row o p a b xs h =
     ∙ put-put o p (a ∷ b ∷ []) xs h
 
 module _ (o : List ℤ) (j outer : ℕ) (l : Limit) (p : LayLimitIn (length o) j outer l) where
-  small : l .multiplier ≤ 32767
+  small-multiplier : l .multiplier ≤ 32767
   unfolding limitOf
-  small = p .ranges .multiplier .high
+  small-multiplier = p .ranges .multiplier .high
 
-  pub multiplier-fits : SFits w64 (pos (l .multiplier))
-  multiplier-fits = let h = small in size-fits {n = 32767} (omega arith) (omega arith)
+  pub multiplier-fits : SFits w16 (pos (l .multiplier))
+  multiplier-fits = let h = small-multiplier in word-fits (omega arith)
 
-  constant-fits : SFits w32 (l .constant)
+  constant-small : size (l .constant) ≤ 32767
   unfolding limitOf
-  constant-fits = let h : size (l .constant) ≤ 32767 = omega (arith, p .ranges .constant, size-natAbs (l .constant)) in sfits (omega arith)
+  constant-small = omega (arith, p .ranges .constant, size-natAbs (l .constant))
 
-  pub constant-wide : SFits w64 (toZ w32 (ofZ w32 (l .constant)))
-  constant-wide = rw (toZ-ofZ constant-fits) (wider (l .constant) constant-fits)
+  pub constant-fits : SFits w16 (toZ w32 (ofZ w32 (l .constant)))
+  constant-fits = number-fits (l .constant) constant-small
+
+  pub row-small : Within 32767 (take outer (l .coefficients))
+  unfolding limitOf
+  row-small = small-within (take outer (l .coefficients)) (p .ranges .coefficients)
 
   pub row-length : length (take outer (l .coefficients)) ≡ outer
   row-length = let h = p .shallow in let r = p .within .room in length-take-le outer (l .coefficients) (omega arith)
@@ -49,11 +86,11 @@ module _ (o : List ℤ) (j outer : ℕ) (l : Limit) (p : LayLimitIn (length o) j
   pub constant-room : (a : ℤ) → j * 8 + 1 < length (set o (j * 8) a)
   constant-room a = let h = p .fits in simp length-set (omega arith)
 
-  pub wrote : (e : List ℤ) → e ≡ put (set (set o (j * 8) (toZ w64 (l .multiplier))) (j * 8 + 1) (toZ w64 (ofZ w64 (toZ w32 (ofZ w32 (l .constant)))))) (j * 8 + 2) (take outer (l .coefficients))
+  pub wrote : (e : List ℤ) → e ≡ put (set (set o (j * 8) (toZ w16 (l .multiplier))) (j * 8 + 1) (toZ w16 (ofZ w16 (toZ w32 (ofZ w32 (l .constant)))))) (j * 8 + 2) (take outer (l .coefficients))
       → e ≡ put o (j * 8) (limitWords (limitOf outer l))
   unfolding limitWords limitOf
-  wrote e q = let h = p .fits in let g = small in
-      q ∙ ap₂ (λ a b. put (set (set o (j * 8) a) (j * 8 + 1) b) (j * 8 + 2) (take outer (l .coefficients))) (from-nat (omega arith)) (toZ-ofZ constant-wide ∙ toZ-ofZ constant-fits)
+  wrote e q = let h = p .fits in let g = small-multiplier in
+      q ∙ ap₂ (λ a b. put (set (set o (j * 8) a) (j * 8 + 1) b) (j * 8 + 2) (take outer (l .coefficients))) (toZ-pos w16 (omega arith)) (number-written (l .constant) constant-small)
       ∙ two-and-row o (j * 8) (pos (l .multiplier)) (l .constant) (take outer (l .coefficients)) (omega arith)
 
   pub wrote-length : (e : List ℤ) → e ≡ put o (j * 8) (limitWords (limitOf outer l)) → length e ≡ length o

@@ -3,6 +3,8 @@ ghost use mathlib.Core.Path.{_≡_};
 ghost use Prim.Native.Nat.{_+_, _*_, _≤_};
 ghost use lib.ListN.{length};
 ghost use Rattle.lists.specs.Parts.{put};
+ghost use Rattle.integers.specs.Difference.{size};
+ghost use Rattle.integers.specs.Affine.{Within};
 ghost use Rattle.model.specs.Encode.{limitWords};
 ghost use Rattle.nest.specs.Nested.{limitOf, sideOf, loopOf};
 ghost use Rattle.loop_layout.specs.Limits.{layLimits, layLoop, layCount, LayLimitIn, LaySideIn, LayLoopIn, LayNestIn, NestLaid};
@@ -11,39 +13,40 @@ use nest::Loop;
 use nest::Nest;
 use nest::Side;
 
-fn wide(x: i32) -> i64
+fn narrow(x: i32) -> i16
+    requires { ⌜ size x ≤ 32767 ⌝ }
     ensures { λ r. ⌜ r ≡ x ⌝ }
 {
-    x as i64
+    x as i16
 }
 
-// Writes a row into out from place at on.
-pub fn widen(out: &mut [i64], at: usize, row: &[i32])
-    requires { ⌜ at + length (now row) ≤ length (now out) ⌝ }
+// Writes a row of small numbers into out from place at on.
+pub fn lay_row(out: &mut [i16], at: usize, row: &[i32])
+    requires { ⌜ (at + length (now row) ≤ length (now out)) × Within 32767 (now row) ⌝ }
     ensures { λ _. ⌜ now (out .exit) ≡ put (now (out .entry)) at (now (row .entry)) ⌝ }
 {
     let mut j = 0;
     while j < row.len() {
-        out[at + j] = wide(row[j]);
+        out[at + j] = narrow(row[j]);
         j += 1;
     }
 }
 
 // Limit j of all, of a loop with `outer` loops outside.
-fn lay_limit(words: &mut [i64], j: usize, limit: Limit, outer: usize)
+fn lay_limit(words: &mut [i16], j: usize, limit: Limit, outer: usize)
     requires { ⌜ LayLimitIn (length (now words)) j outer limit ⌝ }
     ensures { λ _. ⌜ now (words .exit) ≡ put (now (words .entry)) (j * 8) (limitWords (limitOf outer limit)) ⌝ }
 {
     let at = j * 8;
     let constant = limit.constant;
     let coefficients = limit.coefficients;
-    words[at] = limit.multiplier as i64;
-    words[at + 1] = constant as i64;
-    widen(words, at + 2, &coefficients[..outer]);
+    words[at] = limit.multiplier as i16;
+    words[at + 1] = constant as i16;
+    lay_row(words, at + 2, &coefficients[..outer]);
 }
 
 // The limits of a side, from limit j on.
-fn lay_side(words: &mut [i64], j: usize, side: Side, outer: usize)
+fn lay_side(words: &mut [i16], j: usize, side: Side, outer: usize)
     requires { ⌜ LaySideIn (length (now words)) j outer side ⌝ }
     ensures { λ _. ⌜ now (words .exit) ≡ layLimits (now (words .entry)) j (sideOf outer side) ⌝ }
 {
@@ -58,7 +61,7 @@ fn lay_side(words: &mut [i64], j: usize, side: Side, outer: usize)
 }
 
 // Loop k, and how many limits it has on each side.
-fn lay_loop(words: &mut [i64], counts: &mut [usize], k: usize, body: Loop)
+fn lay_loop(words: &mut [i16], counts: &mut [usize], k: usize, body: Loop)
     requires { ⌜ LayLoopIn (length (now words)) (length (now counts)) k body ⌝ }
     ensures { λ _. ⌜ (now (words .exit) ≡ layLoop (now (words .entry)) k (loopOf k body)) × (now (counts .exit) ≡ layCount (now (counts .entry)) k (loopOf k body)) ⌝ }
 {
@@ -71,7 +74,7 @@ fn lay_loop(words: &mut [i64], counts: &mut [usize], k: usize, body: Loop)
 }
 
 // The loops of a nest, in 1536 words and 12 counts.
-pub fn lay_nest(words: &mut [i64], counts: &mut [usize], nest: Nest)
+pub fn lay_nest(words: &mut [i16], counts: &mut [usize], nest: Nest)
     requires { ⌜ LayNestIn (now words) (length (now counts)) nest ⌝ }
     ensures { λ _. ⌜ NestLaid nest (now (words .exit)) (now (counts .exit)) ⌝ }
 {

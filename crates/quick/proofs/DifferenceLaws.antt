@@ -1,6 +1,6 @@
 -- The difference of two subscripts over two free iterations: its least value is the least of the one less the greatest of the other, its
 -- greatest the reverse. Then what the machine makes of it, and the test of one dimension.
-use mathlib.Core.Path.{_≡_, refl, sym, _∙_, ap}
+use mathlib.Core.Path.{_≡_, refl, sym, _∙_, ap, ap₂}
 use mathlib.Core.Bool.{Bool, true, false, not, _||_}
 use mathlib.Core.List.{List, [], _∷_, _++_, map}
 use Prim.Native.Nat.{ℕ, zero, suc, _+_, _*_, _≤_}
@@ -106,18 +106,19 @@ module _ (w : List ℤ) (u v n : ℕ) (p : PairIn w u v n) where
   abbrev second : ℤ
   second = getD w (v * 8) (pos 0)
 
-  constants : copy (getD w (u * 8) (pos 0)) -ℤ copy (getD w (v * 8) (pos 0)) ≡ getD w (u * 8) (pos 0) -ℤ getD w (v * 8) (pos 0)
-  constants = let a = small (u * 8) in let b = small (v * 8) in rw (copied first (omega arith), copied second (omega arith))
-
-  constant-size : size (getD w (u * 8) (pos 0) -ℤ getD w (v * 8) (pos 0)) ≤ 65534
+  constant-size : size (first -ℤ second) ≤ 65534
   constant-size = let a = small (u * 8) in let b = small (v * 8) in omega (arith, size-sub first second)
 
-  pub constant-fits : SFits w64 (copy (getD w (u * 8) (pos 0)) -ℤ copy (getD w (v * 8) (pos 0)))
-  constant-fits = rw constants (size-fits constant-size (omega arith))
+  module _ {c d : ℤ} (e : c ≡ first) (f : d ≡ second) where
+    constants : copy c -ℤ copy d ≡ first -ℤ second
+    constants = let a = small (u * 8) in let b = small (v * 8) in ap₂ (λ (x y : ℤ). copy x -ℤ copy y) e f ∙ rw (copied first (omega arith), copied second (omega arith))
 
-  pub constant-is : (copy (copy (getD w (u * 8) (pos 0)) -ℤ copy (getD w (v * 8) (pos 0))) ≡ differenceAt w n u v .constant) × (size (copy (copy (getD w (u * 8) (pos 0)) -ℤ copy (getD w (v * 8) (pos 0)))) ≤ 65534)
-  unfolding differenceAt difference formAt
-  constant-is = let e = back constant-fits ∙ constants in (e, rw e constant-size)
+    pub constant-fits : SFits w64 (copy c -ℤ copy d)
+    constant-fits = rw constants (size-fits constant-size (omega arith))
+
+    pub constant-is : (copy (copy c -ℤ copy d) ≡ differenceAt w n u v .constant) × (size (copy (copy c -ℤ copy d)) ≤ 65534)
+    unfolding differenceAt difference formAt
+    constant-is = let e = back constant-fits ∙ constants in (e, rw e constant-size)
 
 module _ (c x y : ℤ) (hc : size c ≤ 65534) (hx : size x ≤ 6442057734) (hy : size y ≤ 6442057734) where
   parts : copy x -ℤ copy y ≡ x -ℤ y

@@ -83,17 +83,17 @@ module _ (w : List ℤ) (at n : ℕ) (p : WordsIn w at n) (g : ℕ) where
   unfolding gcdOnto
   gcd-none = let z : n - n ≡ 0 = omega arith in rw z
 
-  module _ (i : ℕ) (h : 1 ≤ i) (l : i ≤ n) where
+  module _ (i : ℕ) (h : 1 ≤ i) (l : i ≤ n) {c : ℤ} (d : c ≡ getD w (at + (i - 1)) (pos 0)) where
     word-small : size (getD w (at + (i - 1)) (pos 0)) ≤ 32767
     word-small = within-at 32767 w (p .small) (at + (i - 1))
 
-    word-is : copy (getD w (at + (i - 1)) (pos 0)) ≡ getD w (at + (i - 1)) (pos 0)
-    word-is = let s = word-small in copied (getD w (at + (i - 1)) (pos 0)) (omega arith)
+    word-is : copy c ≡ getD w (at + (i - 1)) (pos 0)
+    word-is = let s = word-small in ap copy d ∙ copied (getD w (at + (i - 1)) (pos 0)) (omega arith)
 
-    pub magnitude-in : size (copy (getD w (at + (i - 1)) (pos 0))) ≤ 34359738368
+    pub magnitude-in : size (copy c) ≤ 34359738368
     magnitude-in = let s = word-small in rw word-is (omega arith)
 
-    pub gcd-more : (r m : ℕ) → r ≡ gcdOnto (take (n - i) (drop (at + i) w)) g → m ≡ natAbs (copy (getD w (at + (i - 1)) (pos 0))) → gcd m r ≡ gcdOnto (take (n - (i - 1)) (drop (at + (i - 1)) w)) g
+    pub gcd-more : (r m : ℕ) → r ≡ gcdOnto (take (n - i) (drop (at + i) w)) g → m ≡ natAbs (copy c) → gcd m r ≡ gcdOnto (take (n - (i - 1)) (drop (at + (i - 1)) w)) g
     gcd-more r m e f = let v = p .inside in
         rw (e, f, word-is) (sym (gcd-first w g (n - (i - 1)) (n - i) (at + (i - 1)) (at + i) (omega arith) (omega arith) (omega arith)))
 

@@ -50,7 +50,7 @@ fn magnitude(a: i64) -> u64
 }
 
 // The greatest common divisor of n words from place at on and g, the last word first.
-fn gcd_onto(words: &[i64], at: usize, n: usize, g: u64) -> u64
+fn gcd_onto(words: &[i16], at: usize, n: usize, g: u64) -> u64
     requires { ⌜ WordsIn (now words) at n ⌝ }
     ensures { λ r. ⌜ r ≡ gcdOnto (take n (drop at (now (words .entry)))) g ⌝ }
 {
@@ -58,7 +58,7 @@ fn gcd_onto(words: &[i64], at: usize, n: usize, g: u64) -> u64
     let mut i = n;
     while 0 < i {
         i -= 1;
-        r = integers::gcd(magnitude(words[at + i]), r);
+        r = integers::gcd(magnitude(integers::word(words, at + i)), r);
     }
     r
 }
@@ -76,7 +76,7 @@ fn divides(g: u64, c: i64) -> bool
 }
 
 // The greatest common divisor of all coefficients of subscripts u and v.
-fn common_divisor(words: &[i64], u: usize, v: usize, n: usize) -> u64
+fn common_divisor(words: &[i16], u: usize, v: usize, n: usize) -> u64
     requires { ⌜ PairIn (now words) u v n ⌝ }
     ensures { λ r. ⌜ r ≡ gcdOf (differenceAt (now (words .entry)) n u v .coefficients) ⌝ }
 {
@@ -85,17 +85,17 @@ fn common_divisor(words: &[i64], u: usize, v: usize, n: usize) -> u64
 }
 
 // The constant of subscript u less that of subscript v.
-fn constant_difference(words: &[i64], u: usize, v: usize, n: usize) -> Whole
+fn constant_difference(words: &[i16], u: usize, v: usize, n: usize) -> Whole
     requires { ⌜ PairIn (now words) u v n ⌝ }
     ensures { λ r. ⌜ (r .value ≡ differenceAt (now (words .entry)) n u v .constant) × (size (r .value) ≤ 65534) ⌝ }
 {
-    Whole {
-        value: words[u * 8] - words[v * 8],
-    }
+    let one = integers::word(words, u * 8);
+    let other = integers::word(words, v * 8);
+    Whole { value: one - other }
 }
 
 // The least that subscript u less subscript v can be, over two free iterations.
-fn least_difference(words: &[i64], u: usize, v: usize, n: usize, ranges: [Range; 6]) -> Whole
+fn least_difference(words: &[i16], u: usize, v: usize, n: usize, ranges: [Range; 6]) -> Whole
     requires { ⌜ DifferenceIn (now words) u v n ranges ⌝ }
     ensures { λ r. ⌜ (r .value ≡ leastDifference (now (words .entry)) u v n (rangesOf n ranges)) × (size (r .value) ≤ 34359738368) ⌝ }
 {
@@ -108,7 +108,7 @@ fn least_difference(words: &[i64], u: usize, v: usize, n: usize, ranges: [Range;
 }
 
 // The greatest that it can be.
-fn greatest_difference(words: &[i64], u: usize, v: usize, n: usize, ranges: [Range; 6]) -> Whole
+fn greatest_difference(words: &[i16], u: usize, v: usize, n: usize, ranges: [Range; 6]) -> Whole
     requires { ⌜ DifferenceIn (now words) u v n ranges ⌝ }
     ensures { λ r. ⌜ (r .value ≡ greatestDifference (now (words .entry)) u v n (rangesOf n ranges)) × (size (r .value) ≤ 34359738368) ⌝ }
 {
@@ -132,7 +132,7 @@ fn excludes_zero(least: Whole, greatest: Whole) -> bool
 }
 
 // Whether subscript u less subscript v is never 0, over two free iterations.
-fn never_zero(words: &[i64], u: usize, v: usize, n: usize, ranges: [Range; 6]) -> bool
+fn never_zero(words: &[i16], u: usize, v: usize, n: usize, ranges: [Range; 6]) -> bool
     requires { ⌜ DifferenceIn (now words) u v n ranges ⌝ }
     ensures { λ r. ⌜ r ≡ neverZero (rangesOf n ranges ++ rangesOf n ranges) (differenceAt (now (words .entry)) n u v) ⌝ }
 {
@@ -147,7 +147,7 @@ fn never_zero(words: &[i64], u: usize, v: usize, n: usize, ranges: [Range; 6]) -
 }
 
 // Whether one of d subscripts from subscript u on never equals its partner from subscript v on.
-fn some_apart(words: &[i64], u: usize, v: usize, d: usize, n: usize, ranges: [Range; 6]) -> bool
+fn some_apart(words: &[i16], u: usize, v: usize, d: usize, n: usize, ranges: [Range; 6]) -> bool
     requires { ⌜ FormsIn (now words) u v d n ranges ⌝ }
     ensures { λ r. ⌜ r ≡ someApart (rangesOf n ranges) (formsFrom (now (words .entry)) n u d) (formsFrom (now (words .entry)) n v d) ⌝ }
 {
@@ -163,10 +163,10 @@ fn some_apart(words: &[i64], u: usize, v: usize, d: usize, n: usize, ranges: [Ra
 
 // Whether accesses first and second, of all, never meet by the quick test: 'apart', or else 'perhaps'.
 pub fn is_apart(
-    nest: &[i64],
+    nest: &[i16],
     counts: &[usize],
     depth: usize,
-    words: &[i64],
+    words: &[i16],
     owners: &[usize],
     arrays: &[usize],
     first: usize,

@@ -24,14 +24,16 @@ abbrev pub noLoop : Loop
 noLoop = record { lower = record { count = 0; limits = [] }; upper = record { count = 0; limits = [] } }
 
 module _ (N : Nest) (s : StepIn N) where
-  pub here-small : (a : ℕ) → a < N .depth → SmallLoop (loopOf a (getD (N .loops) a noLoop))
-  here-small a h =
-      let n = nest-length N (s .within) in
-      let e : Model.Loop = record { lower = []; upper = [] } in
-      subst SmallLoop (nest-at N (s .within) a noLoop e h) (all-getD SmallLoop (loopsOf N) a e (loops-small (loopsOf N) (s .small)) (omega arith))
+  -- the loop at a, wherever it is read
+  module _ (a : ℕ) (h : a < N .depth) (x : Loop) (q : x ≡ getD (N .loops) a noLoop) where
+    pub here-small : SmallLoop (loopOf a x)
+    here-small =
+        let n = nest-length N (s .within) in
+        let e : Model.Loop = record { lower = []; upper = [] } in
+        subst (λ (y : Loop). SmallLoop (loopOf a y)) (sym q) (subst SmallLoop (nest-at N (s .within) a noLoop e h) (all-getD SmallLoop (loopsOf N) a e (loops-small (loopsOf N) (s .small)) (omega arith)))
 
-  pub here-within : (a : ℕ) → a < N .depth → LoopIn (getD (N .loops) a noLoop)
-  here-within a h = let f = s .within .few in let r = s .within .room in all-front LoopIn noLoop a (N .depth) (N .loops) h (omega arith) (s .within .each)
+    pub here-within : LoopIn x
+    here-within = let f = s .within .few in let r = s .within .room in subst LoopIn (sym q) (all-front LoopIn noLoop a (N .depth) (N .loops) h (omega arith) (s .within .each))
 
   module _ (start many : ℕ) (e : N .depth ≡ start + many) where
     inside-small : All SmallLoop (loopsFrom start (take many (drop start (N .loops))))

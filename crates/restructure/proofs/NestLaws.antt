@@ -7,7 +7,7 @@ use native.Mathlib.Omega.{arith}
 use native.Mathlib.Numerals.{add-one}
 use lib.Dec.{T, leb, le→leb}
 use lib.ListN.{length, getD, take, drop, set, length-set}
-use lib.Seq.{take-suc, take-suc-set, length-take-le, take-add}
+use lib.Seq.{take-suc, take-suc-set, take-set-lt, drop-set-lt, length-take-le, take-add}
 use Rattle.lists.specs.Membership.{Mem, All}
 use Rattle.lists.specs.Place.{under}
 use Rattle.lists.specs.Tests.{all}
@@ -19,7 +19,9 @@ use Rattle.model.specs.Judge.{fewLimits}
 use Rattle.nest.specs.Nested.{sideOf, loopOf, loopsFrom, loopsOf, LoopIn, NestIn}
 use Rattle.nest.specs.declared.Loop.{Loop}
 use Rattle.nest.specs.declared.Nest.{Nest}
-use Rattle.limits.proofs.SideLaws.{loops-append}
+use Rattle.limits.specs.Change.{LoopsAre}
+use Rattle.limits.specs.declared.Change.{Change}
+use Rattle.limits.proofs.SideLaws.{loops-append, front-at}
 use Rattle.exchange.specs.Filling.{fewIn}
 use Rattle.exchange.proofs.FillLaws.{side-length}
 use Rattle.small_numbers.proofs.SmallLaws.{loops-count}
@@ -71,6 +73,20 @@ module _ (a : ℕ) (l : List Loop) where
   two-set x y h =
       let n : a + 1 < length (set l a x) = simp length-set h in
       rw (add-one (a + 1)) (take-suc-set (set l a x) (a + 1) y n ∙ ap (_++ (y ∷ [])) (one-set x (omega arith)) ∙ append-assoc (take a l) (x ∷ []) (y ∷ []))
+
+-- ---- loops that stand in front of those that are changed
+
+module _ (ch : Change) (from into : List Loop) (start many by : ℕ) (r : List Loop) (o : LoopsAre ch from into start many by r) (k : ℕ) (h : k < start + by) where
+  pub loop-stays : (d : Loop) → getD r k d ≡ getD into k d
+  loop-stays d = front-at (start + by) r into (o .kept) k d h
+
+  pub loop-set : (x : Loop) → LoopsAre ch from (set into k x) start many by (set r k x)
+  loop-set x = record {
+    room = length-set r k x ∙ o .room;
+    kept = take-set-lt (start + by) r k x h ∙ ap (λ l. set l k x) (o .kept) ∙ sym (take-set-lt (start + by) into k x h);
+    made = rw (drop-set-lt (start + by) r k x h) (o .made);
+    within = rw (drop-set-lt (start + by) r k x h) (o .within);
+  }
 
 -- ---- at most 16 limits a side
 

@@ -25,20 +25,17 @@ pub fn reversed(nest: Nest, a: usize) -> Stepped
     requires { ⌜ ReversalIn nest a ⌝ }
     ensures { λ r. ⌜ After (reversal a) nest r ⌝ }
 {
-    let from = nest.loops;
     let depth = nest.depth;
-    let l = from[a];
-    let low = l.lower;
-    let up = l.upper;
-    let lower = limits::changed_side(up, a, Change::Negate);
-    let upper = limits::changed_side(low, a, Change::Negate);
+    let from = nest.loops;
     let start = a + 1;
-    let mut to = from;
-    to[a] = Loop {
+    let mut loops = limits::changed_from(from, start, depth - start, 0, Change::Turn(a));
+    let l = loops[a];
+    let lower = limits::changed_side(l.upper, a, Change::Negate);
+    let upper = limits::changed_side(l.lower, a, Change::Negate);
+    loops[a] = Loop {
         lower: lower,
         upper: upper,
     };
-    let loops = limits::changed_from(from, to, start, depth - start, 0, Change::Turn(a));
     Stepped {
         full: false,
         nest: Nest {
@@ -56,17 +53,16 @@ pub fn skewed(nest: Nest, a: usize, d: usize, positive: bool) -> Stepped
     let from = nest.loops;
     let depth = nest.depth;
     let b = a + 1 + d;
-    let l = from[b];
     let slant = Slant {
         outer: a,
         between: d,
         positive: positive,
     };
-    let m = limits::changed_loop(l, b, Change::Lean(slant));
     let start = b + 1;
-    let mut to = from;
-    to[b] = m;
-    let loops = limits::changed_from(from, to, start, depth - start, 0, Change::Skew(slant));
+    let mut loops = limits::changed_from(from, start, depth - start, 0, Change::Skew(slant));
+    let l = loops[b];
+    let m = limits::changed_loop(l, b, Change::Lean(slant));
+    loops[b] = m;
     Stepped {
         full: false,
         nest: Nest {
@@ -90,17 +86,16 @@ pub fn exchanged(nest: Nest, a: usize) -> Stepped
     let from = nest.loops;
     let depth = nest.depth;
     let b = a + 1;
-    let i = from[a];
-    let j = from[b];
+    let start = b + 1;
+    let mut loops = limits::changed_from(from, start, depth - start, 0, Change::Swap(a));
+    let i = loops[a];
+    let j = loops[b];
     let outer = exchange::new_outer(a, i, j);
     let inner = exchange::new_inner(a, i, j);
     let x = outer.body;
     let y = inner.body;
-    let mut to = from;
-    to[a] = x;
-    to[b] = y;
-    let start = b + 1;
-    let loops = limits::changed_from(from, to, start, depth - start, 0, Change::Swap(a));
+    loops[a] = x;
+    loops[b] = y;
     let full = either(outer.full, inner.full);
     Stepped {
         full: full,
@@ -162,36 +157,32 @@ pub fn sectioned(nest: Nest, a: usize, w: u32) -> Stepped
     let from = nest.loops;
     let depth = nest.depth;
     let b = a + 1;
-    let l = from[a];
-    let low = l.lower;
-    let up = l.upper;
-    let slow = limits::changed_side(low, a, Change::Low(w));
-    let sup = limits::changed_side(up, a, Change::Up(w));
-    let elow = limits::changed_side(low, a, Change::Element(w));
-    let eup = limits::changed_side(up, a, Change::Element(w));
+    let mut loops = limits::changed_from(
+        from,
+        b,
+        depth - b,
+        1,
+        Change::Split(Cut { place: a, width: w }),
+    );
+    let l = loops[a];
+    let slow = limits::changed_side(l.lower, a, Change::Low(w));
+    let sup = limits::changed_side(l.upper, a, Change::Up(w));
+    let elow = limits::changed_side(l.lower, a, Change::Element(w));
+    let eup = limits::changed_side(l.upper, a, Change::Element(w));
     let first = constant_limit(0);
     let last = constant_limit(w - 1);
     let flow = prepended(first, elow);
     let fup = prepended(last, eup);
     let lower = flow.side;
     let upper = fup.side;
-    let mut to = from;
-    to[a] = Loop {
+    loops[a] = Loop {
         lower: slow,
         upper: sup,
     };
-    to[b] = Loop {
+    loops[b] = Loop {
         lower: lower,
         upper: upper,
     };
-    let loops = limits::changed_from(
-        from,
-        to,
-        b,
-        depth - b,
-        1,
-        Change::Split(Cut { place: a, width: w }),
-    );
     let full = either(flow.full, fup.full);
     Stepped {
         full: full,

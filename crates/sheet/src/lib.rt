@@ -11,7 +11,7 @@ use space::Verdict;
 // Slices as `space` and `elements` are lent them. The first `arrays` arrays, `statements` statements and `accesses` accesses are in use.
 pub struct Sheet {
     pub depth: usize,
-    pub limits: [i64; 1536],
+    pub limits: [i16; 1536],
     pub counts: [usize; 12],
     pub arrays: usize,
     pub extents: [usize; 16],
@@ -21,7 +21,7 @@ pub struct Sheet {
     pub constants: [usize; 4],
     pub accesses: usize,
     pub owners: [usize; 20],
-    pub words: [i64; 480],
+    pub words: [i16; 480],
 }
 
 // Depth by depth, a partial point whose last index is beyond ±bound, then more than `most` of them.

@@ -40,7 +40,7 @@ fn outside(e: Ends, bound: usize) -> bool
 
 // The tally with the points that go on from the indices outer by one loop: the ends of its range decide.
 fn include(
-    nest: &[i64],
+    nest: &[i16],
     counts: &[usize],
     outer: &[i64],
     bound: usize,
@@ -74,7 +74,7 @@ fn moved(point: [i64; 6], k: usize, e: Ends, t: usize) -> [i64; 6]
 
 // The tally with the points that go on from the first k indices of a point by the next `left` loops. The last loop's range is not walked.
 pub fn tally_points(
-    nest: &[i64],
+    nest: &[i16],
     counts: &[usize],
     k: usize,
     left: usize,
@@ -111,7 +111,7 @@ pub enum Verdict {
 }
 
 // Depth by depth: a partial point whose last index is beyond ±bound, then more than `most` of them.
-pub fn survey(nest: &[i64], counts: &[usize], depth: usize, bound: usize, most: usize) -> Verdict
+pub fn survey(nest: &[i16], counts: &[usize], depth: usize, bound: usize, most: usize) -> Verdict
     requires { ⌜ SurveyIn (now nest) (now counts) depth bound most ⌝ }
     ensures { λ r. ⌜ Surveyed (now (nest .entry)) (now (counts .entry)) depth bound most r ⌝ }
 {
@@ -123,13 +123,15 @@ pub fn survey(nest: &[i64], counts: &[usize], depth: usize, bound: usize, most: 
             count: 0,
         };
         let seen = tally_points(nest, counts, 0, level, [0; 6], bound, most, none);
-        if seen.far {
+        count = seen.count;
+        let far = seen.far;
+        let crowded = most < count;
+        if far {
             return Verdict::FarIndex(level);
         }
-        if most < seen.count {
+        if crowded {
             return Verdict::Crowded(level);
         }
-        count = seen.count;
         level += 1;
     }
     Verdict::Admitted(count)
@@ -157,7 +159,7 @@ fn store_point(out: &mut [i64], at: usize, outer: &[i64], e: Ends, t: usize)
 }
 
 // Writes the points that go on from the indices outer by one loop; returns the place after them.
-fn collect_last(nest: &[i64], counts: &[usize], outer: &[i64], out: &mut [i64], at: usize) -> usize
+fn collect_last(nest: &[i16], counts: &[usize], outer: &[i64], out: &mut [i64], at: usize) -> usize
     requires { ⌜ CollectIn (now nest) (now counts) (length (now outer)) 1 (now outer) (length (now out)) at ⌝ }
     ensures { λ r. ⌜ Collected (now (nest .entry)) (now (counts .entry)) (length (now (outer .entry))) 1 (now (outer .entry)) (now (out .entry)) (now (out .exit)) at r ⌝ }
 {
@@ -176,7 +178,7 @@ fn collect_last(nest: &[i64], counts: &[usize], outer: &[i64], out: &mut [i64], 
 
 // Writes the points that go on from the first k indices of a point by the next `left` loops into out, in order; returns the place after them.
 fn collect(
-    nest: &[i64],
+    nest: &[i16],
     counts: &[usize],
     k: usize,
     left: usize,
@@ -203,7 +205,7 @@ fn collect(
 }
 
 // All points of a nest that keeps its bounds, row by row in order; returns how many.
-pub fn list_points(nest: &[i64], counts: &[usize], depth: usize, out: &mut [i64]) -> usize
+pub fn list_points(nest: &[i16], counts: &[usize], depth: usize, out: &mut [i64]) -> usize
     requires { ⌜ PointsIn (now nest) (now counts) depth (length (now out)) ⌝ }
     ensures { λ r. ⌜ Listed (now (nest .entry)) (now (counts .entry)) depth (now (out .entry)) (now (out .exit)) r ⌝ }
 {

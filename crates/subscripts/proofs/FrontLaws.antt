@@ -1,40 +1,46 @@
--- The front of an array, element by element, as a loop of the code goes through it: changed and stored in another array, or tested.
+-- The front of an array, element by element, as a loop of the code goes through it: changed in place, or tested.
 use mathlib.Core.Path.{_≡_, refl, sym, _∙_, ap, subst}
 use mathlib.Core.Bool.{Bool, true, false, _&&_}
 use mathlib.Core.List.{List, [], _∷_, map}
 use Prim.Native.Nat.{ℕ, _<_, _≤_, _+_}
 use native.Mathlib.Omega.{arith}
 use lib.Dec.{T}
-use lib.ListN.{length, getD, take, set, length-set}
+use lib.ListN.{length, getD, take, drop, set, length-set}
 use lib.Seq.{getD-take, length-take-le}
 use Rattle.lists.specs.Membership.{All}
 use Rattle.lists.specs.Tests.{all}
 use Rattle.lists.proofs.MembershipLaws.{all-nil}
 use Rattle.lists.proofs.TestLaws.{all-holds}
 use Rattle.reading.proofs.ReaderLaws.{all-more, all-read}
-use Rattle.limits.proofs.SideLaws.{map-more, all-front-map}
+use Rattle.limits.proofs.SideLaws.{map-more, all-front-map, rest-at, rest-more}
 use Rattle.small_numbers.proofs.SmallLaws.{all-none, all-next, all-broken}
 
--- ---- changed: the first k of `to` stand for h of what the first k of `from` stand for
+-- ---- changed: the first k of `to` stand for h of what the first k of `from` stand for, and the others are as they were
 
 pub record Changed {A B : Type 0} (In : A → Type 0) (f g : A → B) (h : B → B) (count room : ℕ) (from to : List A) (k : ℕ) : Type 0 where
   pub low : k ≤ count
   pub held : length to ≡ room
   pub each : All In (take k to)
   pub same : map f (take k to) ≡ map h (map g (take k from))
+  pub rest : drop k to ≡ drop k from
 
 module _ {A B : Type 0} (In : A → Type 0) (f g : A → B) (h : B → B) (count room : ℕ) (from : List A) (held : length from ≡ room) where
   pub changed-none : Changed In f g h count room from from 0
-  changed-none = record { low = omega arith; held = held; each = all-nil In; same = refl }
+  changed-none = record { low = omega arith; held = held; each = all-nil In; same = refl; rest = refl }
 
-  pub changed-more : (to : List A) (k : ℕ) (d z : A) → count ≤ room → k < count → Changed In f g h count room from to k → In z → f z ≡ h (g (getD from k d))
+  -- what is read at k
+  pub changed-read : (P : A → Type 0) (to : List A) (k : ℕ) (d : A) → Changed In f g h count room from to k → P (getD from k d) → P (getD to k d)
+  changed-read P to k d i = subst P (sym (rest-at k to from (i .rest) d))
+
+  pub changed-more : (to : List A) (k : ℕ) (d z : A) → count ≤ room → k < count → Changed In f g h count room from to k → In z → f z ≡ h (g (getD to k d))
       → Changed In f g h count room from (set to k z) (k + 1)
   changed-more to k d z c l i n e =
       let t = i .held in record {
         low = omega arith;
         held = simp length-set t;
         each = all-more In to k z (omega arith) n (i .each);
-        same = map-more f h g d k to from z (omega arith) (omega arith) (i .same) e;
+        same = map-more f h g d k to from z (omega arith) (omega arith) (i .same) (e ∙ ap (λ x. h (g x)) (rest-at k to from (i .rest) d));
+        rest = rest-more k to from (i .rest) z;
       }
 
   pub changed-all : (to : List A) (k : ℕ) → count ≤ k → Changed In f g h count room from to k → map f (take count to) ≡ map h (map g (take count from))

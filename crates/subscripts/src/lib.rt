@@ -65,11 +65,10 @@ fn access_after(access: Access, n: usize, step: Step) -> Access
     ensures { λ r. ⌜ AccessAfter access n step r ⌝ }
 {
     let count = access.dimensions;
-    let from = access.subscripts;
-    let mut to = from;
+    let mut to = access.subscripts;
     let mut k = 0;
     while k < count {
-        let s = from[k];
+        let s = to[k];
         let r = subscript_after(s, n, step);
         to[k] = r;
         k += 1;
@@ -89,7 +88,7 @@ fn accesses_after(from: [Access; 4], count: usize, n: usize, step: Step) -> [Acc
     let mut to = from;
     let mut k = 0;
     while k < count {
-        let a = from[k];
+        let a = to[k];
         let r = access_after(a, n, step);
         to[k] = r;
         k += 1;
@@ -101,10 +100,9 @@ fn statement_after(s: Statement, n: usize, step: Step) -> Statement
     requires { ⌜ StatementStepIn s n step ⌝ }
     ensures { λ r. ⌜ StatementAfter s n step r ⌝ }
 {
-    let w = s.write;
     let reads = s.reads;
     let from = s.read;
-    let write = access_after(w, n, step);
+    let write = access_after(s.write, n, step);
     let read = accesses_after(from, reads, n, step);
     Statement {
         rule: s.rule,
@@ -120,11 +118,10 @@ pub fn body_after(body: Body, depth: usize, step: Step) -> Body
     ensures { λ r. ⌜ BodyAfter body depth step r ⌝ }
 {
     let count = body.count;
-    let from = body.statements;
-    let mut to = from;
+    let mut to = body.statements;
     let mut k = 0;
     while k < count {
-        let s = from[k];
+        let s = to[k];
         let r = statement_after(s, depth, step);
         to[k] = r;
         k += 1;

@@ -33,17 +33,14 @@ mul-x c = omega arith
 array-copy-out-x : tie.Need-array-copy-out-x Inv-loop μ-loop
 array-copy-out-x c = c .loop-test .taken
 
-add-number : tie.Need-add-number Inv-loop μ-loop
-add-number c = let s = c .before .before .before in let i = s .pre .inside in let r = s .pre .room in let v = c .before .loop-test .taken in omega arith
+add-word : tie.Need-add-word Inv-loop μ-loop
+add-word c = let s = c .before .before .before in let i = s .pre .inside in let r = s .pre .room in let v = c .before .loop-test .taken in omega arith
 
-mul-number : tie.Need-mul-number Inv-loop μ-loop
-mul-number c = let s = c .before .before .before in let i = s .pre .inside in let r = s .pre .room in let v = c .before .loop-test .taken in omega arith
-
-shared-slice-copy-out-number : tie.Need-shared-slice-copy-out-number Inv-loop μ-loop
-shared-slice-copy-out-number c = let s = c .before .before .before in let i = s .pre .inside in let v = c .before .loop-test .taken in omega arith
+word-requires : tie.Need-word-requires Inv-loop μ-loop
+word-requires c κs = let s = c .before .before .before in let i = s .pre .inside in let v = c .before .loop-test .taken in omega arith
 
 number-requires : tie.Need-number-requires Inv-loop μ-loop
-number-requires c κs = number-in (c .before .before .before .before .pre) (c .before .before .before .loop .l)
+number-requires c κs = number-in (c .before .before .before .before .pre) (c .before .before .before .loop .l) (c .word .ensures)
 
 mul-r : tie.Need-mul-r Inv-loop μ-loop
 mul-r c = let v = c .before .before .before .loop-test .taken in omega arith
@@ -59,7 +56,7 @@ loop-less c = let v = c .before .before .before .loop-test .taken in omega arith
 
 loop-again : tie.Need-loop-again Inv-loop μ-loop
 loop-again c = let s = c .before .before .before .before .before in let l = c .before .before .before .before .loop in let v = c .before .before .before .loop-test .taken in
-    (omega arith, simp length-set (l .inv .1), fold-more (s .pre) (l .l) (l .r) (c .number .result) v (l .inv .1) (width s) (l .inv .2) (c .number .ensures))
+    (omega arith, simp length-set (l .inv .1), fold-more (s .pre) (l .l) (c .before .word .ensures) (l .r) (c .number .result) v (l .inv .1) (width s) (l .inv .2) (c .number .ensures))
 
 returns : tie.Need-returns Inv-loop μ-loop
 returns c = let s = c .before .before in let l = c .before .loop in fold-all (s .pre) (l .r) (l .l) (omega (arith, l .inv .0, c .loop-test .left)) (l .inv .1) (width s) (l .inv .2)
@@ -74,9 +71,8 @@ deepen-spec =
     loop-holds
     mul-x
     array-copy-out-x
-    add-number
-    mul-number
-    shared-slice-copy-out-number
+    add-word
+    word-requires
     number-requires
     mul-r
     array-set-from-r

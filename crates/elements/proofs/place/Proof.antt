@@ -1,42 +1,17 @@
--- `place`: the form's numbers are lent to `affine`, whose value is not negative.
+-- `place`: the value is not negative.
+use Rattle.elements.proofs.FormLaws.{place-cast, place-result}
 use borrow.Author.Needs.{needs}
-use Rattle.elements.proofs.FormLaws.{value-lent, value-cast, value-result}
 use Rattle.elements.proofs.place.Statement.{statement}
 use Rattle.elements.proofs.place.Tie as tie
 
-shared-slice-copy-out-affine : tie.Need-shared-slice-copy-out-affine
-shared-slice-copy-out-affine c = search needs
-
-add-affine : tie.Need-add-affine
-add-affine c = search needs
-
-sub-affine : tie.Need-sub-affine
-sub-affine c = search needs
-
-part-affine-start : tie.Need-part-affine-start
-part-affine-start c = search needs
-
-part-affine-end : tie.Need-part-affine-end
-part-affine-end c = search needs
-
-affine-requires : tie.Need-affine-requires
-affine-requires c κs = value-lent (c .before .before .pre)
+value-requires : tie.Need-value-requires
+value-requires c κs = search needs
 
 cast-result : tie.Need-cast-result
-cast-result c = value-cast (c .before .before .before .pre) (c .affine .ensures)
+cast-result c = place-cast (c .before .pre) (c .value .ensures)
 
 returns : tie.Need-returns
-returns c = value-result (c .before .before .before .pre) (c .affine .ensures)
+returns c = place-result (c .before .pre) (c .value .ensures)
 
 pub place-spec : {M : Type 1} → statement M
-place-spec =
-    tie.close
-    (tie.spec
-    shared-slice-copy-out-affine
-    add-affine
-    sub-affine
-    part-affine-start
-    part-affine-end
-    affine-requires
-    cast-result
-    returns)
+place-spec = tie.close (tie.spec value-requires cast-result returns)

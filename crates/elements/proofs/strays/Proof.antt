@@ -4,6 +4,7 @@ use mathlib.Core.Bool.{false}
 use Prim.Native.Nat.{ℕ, _+_, _*_, _-_, _≤_}
 use native.Mathlib.Omega.{arith}
 use native.Mathlib.Nat.{zero-mul}
+use borrow.Author.Needs.{needs}
 use Rattle.lists.specs.Parts.{rows}
 use Rattle.lists.specs.Tests.{any}
 use Rattle.lists.proofs.PartLaws.{row-next}
@@ -13,20 +14,26 @@ use Rattle.elements.proofs.strays.Statement.{statement}
 use Rattle.elements.proofs.strays.Tie as tie
 
 abbrev Inv-loop : tie.InvT-loop
-Inv-loop words j extent points depth count at₀ i₀ at i = (i ≤ count) × (at ≡ i * depth) × (straysAt words depth j extent (rows depth i points) ≡ false)
+Inv-loop words j extent points depth count form at₀ i₀ at i = (i ≤ count) × (at ≡ i * depth) × (straysAt words depth j extent (rows depth i points) ≡ false)
 
 abbrev μ-loop : tie.MeasureT-loop
-μ-loop words j extent points depth count at₀ i₀ at i = count - i
+μ-loop words j extent points depth count form at₀ i₀ at i = count - i
+
+widened-requires : tie.Need-widened-requires Inv-loop μ-loop
+widened-requires c κs = (c .pre .inside, c .pre .long, c .pre .small)
 
 loop-holds : tie.Need-loop-holds Inv-loop μ-loop
 unfolding straysAt rows any
-loop-holds c = (omega arith, sym (zero-mul (c .args .depth)), refl)
+loop-holds c = (omega arith, sym (zero-mul (c .before .args .depth)), refl)
+
+slice-aggregate-leaves : tie.Need-slice-aggregate-leaves Inv-loop μ-loop
+slice-aggregate-leaves c = search needs
 
 add-leaves : tie.Need-add-leaves Inv-loop μ-loop
-add-leaves c = let s = c .before .before in let l = c .before .loop in let r = row-small (s .pre .stored) (c .loop-test .taken) (l .inv .1) in omega arith
+add-leaves c = let s = c .before .before .before .before in let l = c .before .before .loop in let r = row-small (s .pre .stored) (c .before .loop-test .taken) (l .inv .1) in omega arith
 
 mul-leaves : tie.Need-mul-leaves Inv-loop μ-loop
-mul-leaves c = let s = c .before .before in let l = c .before .loop in let r = row-small (s .pre .stored) (c .loop-test .taken) (l .inv .1) in omega arith
+mul-leaves c = let s = c .before .before .before .before in let l = c .before .before .loop in let r = row-small (s .pre .stored) (c .before .loop-test .taken) (l .inv .1) in omega arith
 
 sub-leaves : tie.Need-sub-leaves Inv-loop μ-loop
 sub-leaves c = omega arith
@@ -35,29 +42,30 @@ part-leaves-start : tie.Need-part-leaves-start Inv-loop μ-loop
 part-leaves-start c = omega arith
 
 part-leaves-end : tie.Need-part-leaves-end Inv-loop μ-loop
-part-leaves-end c = let s = c .before .before in let l = c .before .loop in row-ends (s .pre .stored) (c .loop-test .taken) (l .inv .1)
+part-leaves-end c = let s = c .before .before .before .before in let l = c .before .before .loop in row-ends (s .pre .stored) (c .before .loop-test .taken) (l .inv .1)
 
 leaves-requires : tie.Need-leaves-requires Inv-loop μ-loop
-leaves-requires c κs = let s = c .before .before .before in let l = c .before .before .loop in stray-in (s .pre) (c .before .loop-test .taken) (l .inv .1)
+leaves-requires c κs = let s = c .before .before .before .before .before in let l = c .before .before .before .loop in stray-in (s .pre) (c .before .before .loop-test .taken) (l .inv .1) (c .before .before .before .before .widened .ensures)
 
 returns : tie.Need-returns Inv-loop μ-loop
-returns c = let s = c .before .before .before .before .before in let l = c .before .before .before .before .loop in stray-found (s .pre) (c .before .before .before .loop-test .taken) (l .inv .1) (c .before .leaves .ensures) (c .if1 .taken)
+returns c = let s = c .before .before .before .before .before .before .before in let l = c .before .before .before .before .before .loop in
+    stray-found (s .pre) (c .before .before .before .before .loop-test .taken) (l .inv .1) (c .before .before .before .before .before .before .widened .ensures) (c .before .leaves .ensures) (c .if1 .taken)
 
 add-at : tie.Need-add-at Inv-loop μ-loop
-add-at c = let s = c .before .before .before .before .before in let l = c .before .before .before .before .loop in let r = row-small (s .pre .stored) (c .before .before .before .loop-test .taken) (l .inv .1) in omega arith
+add-at c = let s = c .before .before .before .before .before .before .before in let l = c .before .before .before .before .before .loop in let r = row-small (s .pre .stored) (c .before .before .before .before .loop-test .taken) (l .inv .1) in omega arith
 
 add-i : tie.Need-add-i Inv-loop μ-loop
-add-i c = let s = c .before .before .before .before .before in let b = s .pre .stored .bound in omega arith
+add-i c = let s = c .before .before .before .before .before .before .before in let b = s .pre .stored .bound in omega arith
 
 loop-less : tie.Need-loop-less Inv-loop μ-loop
-loop-less c = let v = c .before .before .before .loop-test .taken in omega arith
+loop-less c = let v = c .before .before .before .before .loop-test .taken in omega arith
 
 loop-again : tie.Need-loop-again Inv-loop μ-loop
-loop-again c = let s = c .before .before .before .before .before in let l = c .before .before .before .before .loop in let v = c .before .before .before .loop-test .taken in
-    (omega arith, ap (λ (k : ℕ). k + s .args .depth) (l .inv .1) ∙ row-next (s .args .depth) (l .i), stray-not (s .pre) v (l .inv .1) (c .before .leaves .ensures) (c .if1 .left) (l .inv .2))
+loop-again c = let s = c .before .before .before .before .before .before .before in let l = c .before .before .before .before .before .loop in let v = c .before .before .before .before .loop-test .taken in
+    (omega arith, ap (λ (k : ℕ). k + s .args .depth) (l .inv .1) ∙ row-next (s .args .depth) (l .i), stray-not (s .pre) v (l .inv .1) (c .before .before .before .before .before .before .widened .ensures) (c .before .leaves .ensures) (c .if1 .left) (l .inv .2))
 
 returns-2 : tie.Need-returns-2 Inv-loop μ-loop
-returns-2 c = let s = c .before .before in let l = c .before .loop in let e : l .i ≡ s .args .count = omega (arith, l .inv .0, c .loop-test .left) in
+returns-2 c = let s = c .before .before .before in let l = c .before .loop in let e : l .i ≡ s .args .count = omega (arith, l .inv .0, c .loop-test .left) in
     sym (l .inv .2) ∙ ap (λ (k : ℕ). straysAt (s .args .words .now) (s .args .depth) (s .args .j) (s .args .extent) (rows (s .args .depth) k (s .args .points .now))) e
 
 pub strays-spec : {M : Type 1} → statement M
@@ -66,7 +74,9 @@ strays-spec =
     (tie.spec
     Inv-loop
     μ-loop
+    widened-requires
     loop-holds
+    slice-aggregate-leaves
     add-leaves
     mul-leaves
     sub-leaves

@@ -4,9 +4,6 @@ use native.Mathlib.Omega.{arith}
 use Rattle.extremes.proofs.SumLaws.{GreatestSoFar, greatest-none, greatest-so-far-size, term-in, greatest-next, greatest-whole}
 use Rattle.extremes.proofs.greatest_sum.Statement.{statement}
 use Rattle.extremes.proofs.greatest_sum.Tie as tie
-use Rattle.extremes.proofs.greatest_sum.Reads as reads
-use Rattle.extremes.proofs.greatest_sum.Lts as lts
-use Rattle.extremes.proofs.plus_greatest.Reads as plus-greatest-reads
 
 abbrev Inv-loop : tie.InvT-loop
 Inv-loop words at n ranges sum₀ i₀ sum i = (i ≤ n) × GreatestSoFar words at n ranges i (sum .value)
@@ -14,49 +11,35 @@ Inv-loop words at n ranges sum₀ i₀ sum i = (i ≤ n) × GreatestSoFar words 
 abbrev μ-loop : tie.MeasureT-loop
 μ-loop words at n ranges sum₀ i₀ sum i = n - i
 
--- src/lib.rt:77:5
 loop-holds : tie.Need-loop-holds Inv-loop μ-loop
 loop-holds c = (omega arith, greatest-none (c .args .words .now) (c .args .at) (c .args .n) (c .args .t4) (c .pre))
 
--- src/lib.rt:78:40
-add-plus-greatest : tie.Need-add-plus-greatest Inv-loop μ-loop
-add-plus-greatest c = let v = c .before .before .pre .inside in omega arith
+add-word : tie.Need-add-word Inv-loop μ-loop
+add-word c = let v = c .before .before .pre .inside in omega arith
 
--- src/lib.rt:78:34
+word-requires : tie.Need-word-requires Inv-loop μ-loop
+word-requires c κs = let v = c .before .before .pre .inside in omega arith
+
 mul-plus-greatest : tie.Need-mul-plus-greatest Inv-loop μ-loop
-mul-plus-greatest c = let v = c .before .before .pre .inside in omega arith
+mul-plus-greatest c = let f = c .before .before .before .pre .ranges .few in omega arith
 
--- src/lib.rt:78:34
-shared-slice-copy-out-plus-greatest : tie.Need-shared-slice-copy-out-plus-greatest Inv-loop μ-loop
-shared-slice-copy-out-plus-greatest c = let v = c .before .before .pre .inside in omega arith
-
--- src/lib.rt:78:49
-mul-plus-greatest-2 : tie.Need-mul-plus-greatest-2 Inv-loop μ-loop
-mul-plus-greatest-2 c = let f = c .before .before .before .pre .ranges .few in omega arith
-
--- src/lib.rt:78:49
 array-copy-out-plus-greatest : tie.Need-array-copy-out-plus-greatest Inv-loop μ-loop
 array-copy-out-plus-greatest c = let f = c .before .before .before .pre .ranges .few in let l = c .before .before .before .pre .ranges .six in omega arith
 
--- src/lib.rt:78:9
 plus-greatest-requires : tie.Need-plus-greatest-requires Inv-loop μ-loop
-plus-greatest-requires c κs = let s = c .before .before .before .before in let l = c .before .before .before .loop in term-in (s .args .words .now) (s .args .at) (s .args .n) (s .args .t4) (s .pre) (l .i) (l .sum .value) (c .before .before .loop-test .taken)
+plus-greatest-requires c κs = let s = c .before .before .before .before in let l = c .before .before .before .loop in term-in (s .args .words .now) (s .args .at) (s .args .n) (s .args .t4) (s .pre) (l .i) (l .sum .value) (c .before .word .ensures) (c .before .before .loop-test .taken)
     (greatest-so-far-size (s .args .words .now) (s .args .at) (s .args .n) (s .args .t4) (s .pre) (l .i) (l .sum .value) (l .inv .1))
 
--- src/lib.rt:79:9
 add-i : tie.Need-add-i Inv-loop μ-loop
 add-i c = let f = c .before .before .before .before .before .pre .ranges .few in omega arith
 
--- src/lib.rt:77:5
 loop-less : tie.Need-loop-less Inv-loop μ-loop
 loop-less c = omega arith
 
--- src/lib.rt:77:5
 loop-again : tie.Need-loop-again Inv-loop μ-loop
 loop-again c = let s = c .before .before .before .before .before in let l = c .before .before .before .before .loop in
-    (omega arith, greatest-next (s .args .words .now) (s .args .at) (s .args .n) (s .args .t4) (s .pre) (l .i) (l .sum .value) (c .before .before .before .loop-test .taken) (c .plus-greatest .result .value) (l .inv .1) (c .plus-greatest .ensures))
+    (omega arith, greatest-next (s .args .words .now) (s .args .at) (s .args .n) (s .args .t4) (s .pre) (l .i) (l .sum .value) (c .before .before .word .ensures) (c .before .before .before .loop-test .taken) (c .plus-greatest .result .value) (l .inv .1) (c .plus-greatest .ensures))
 
--- src/lib.rt:71:1
 returns : tie.Need-returns Inv-loop μ-loop
 returns c = let s = c .before .before in let l = c .before .loop in
     greatest-whole (s .args .words .now) (s .args .at) (s .args .n) (s .args .t4) (s .pre) (l .i) (l .sum .value) (omega arith) (l .inv .1)
@@ -68,10 +51,9 @@ greatest-sum-spec =
     Inv-loop
     μ-loop
     loop-holds
-    add-plus-greatest
+    add-word
+    word-requires
     mul-plus-greatest
-    shared-slice-copy-out-plus-greatest
-    mul-plus-greatest-2
     array-copy-out-plus-greatest
     plus-greatest-requires
     add-i

@@ -1,65 +1,42 @@
 -- `least_of`: the least e, divided and rounded up.
-use Rattle.extremes.proofs.ValueLaws.{value-fits, least-is}
+use Rattle.extremes.proofs.ValueLaws.{divisor-positive, value-fits, least-is}
 use borrow.Author.Needs.{needs}
 use Rattle.extremes.proofs.least_of.Statement.{statement}
 use Rattle.extremes.proofs.least_of.Tie as tie
-use Rattle.extremes.proofs.least_of.Reads as reads
-use Rattle.extremes.proofs.least_of.Lts as lts
-use Rattle.integers.proofs.ceil_div.Reads as ceil-div-reads
-use Rattle.extremes.proofs.least_sum.Reads as least-sum-reads
 
--- src/lib.rt:89:29
 mul-least-sum : tie.Need-mul-least-sum
 mul-least-sum c = search needs
 
--- src/lib.rt:89:29
 add-least-sum : tie.Need-add-least-sum
 add-least-sum c = search needs
 
--- src/lib.rt:89:9
 least-sum-requires : tie.Need-least-sum-requires
 least-sum-requires c κs = search needs
 
--- src/lib.rt:90:29
-mul-ceil-div : tie.Need-mul-ceil-div
-mul-ceil-div c = search needs
+mul-word : tie.Need-mul-word
+mul-word c = search needs
 
--- src/lib.rt:90:29
+add-word : tie.Need-add-word
+add-word c = search needs
+
+word-requires : tie.Need-word-requires
+word-requires c κs = search needs
+
 add-ceil-div : tie.Need-add-ceil-div
-add-ceil-div c = search needs
+add-ceil-div c = let s = c .before .before .before .before in let e = c .before .before .before .least-sum in value-fits (s .args .nest .now) (s .args .j) (s .args .k) (s .args .outer) (s .pre) (e .result .value) (e .ensures .1) (c .before .before .word .ensures)
 
--- src/lib.rt:90:24
-mul-ceil-div-2 : tie.Need-mul-ceil-div-2
-mul-ceil-div-2 c = search needs
+mul-word-2 : tie.Need-mul-word-2
+mul-word-2 c = search needs
 
--- src/lib.rt:90:24
-shared-slice-copy-out-ceil-div : tie.Need-shared-slice-copy-out-ceil-div
-shared-slice-copy-out-ceil-div c = search needs
+word-requires-2 : tie.Need-word-requires-2
+word-requires-2 c κs = search needs
 
--- src/lib.rt:90:24
-add-ceil-div-2 : tie.Need-add-ceil-div-2
-add-ceil-div-2 c = let s = c .before .before .before .before in value-fits (s .args .nest .now) (s .args .j) (s .args .k) (s .args .outer) (s .pre) (c .before .before .before .least-sum .result .value) (c .before .before .before .least-sum .ensures .1)
-
--- src/lib.rt:90:56
-mul-ceil-div-3 : tie.Need-mul-ceil-div-3
-mul-ceil-div-3 c = search needs
-
--- src/lib.rt:90:51
-mul-ceil-div-4 : tie.Need-mul-ceil-div-4
-mul-ceil-div-4 c = search needs
-
--- src/lib.rt:90:51
-shared-slice-copy-out-ceil-div-2 : tie.Need-shared-slice-copy-out-ceil-div-2
-shared-slice-copy-out-ceil-div-2 c = search needs
-
--- src/lib.rt:90:5
 ceil-div-requires : tie.Need-ceil-div-requires
-ceil-div-requires c κs = search needs
+ceil-div-requires c κs = let s = c .before .before .before .before .before in divisor-positive (s .args .nest .now) (s .args .j) (s .args .k) (s .args .outer) (s .pre) (c .word2 .ensures)
 
--- src/lib.rt:85:1
 returns : tie.Need-returns
 returns c = let s = c .before .before .before .before .before .before in let e = c .before .before .before .before .before .least-sum in
-    least-is (s .args .nest .now) (s .args .j) (s .args .k) (s .args .outer) (s .pre) (e .result .value) (e .ensures .1) (c .ceil-div .result) (e .ensures .0) (c .ceil-div .ensures)
+    least-is (s .args .nest .now) (s .args .j) (s .args .k) (s .args .outer) (s .pre) (e .result .value) (e .ensures .1) (c .before .before .before .before .word .ensures) (c .ceil-div .result) (c .before .word2 .ensures) (e .ensures .0) (c .ceil-div .ensures)
 
 pub least-of-spec : {M : Type 1} → statement M
 least-of-spec =
@@ -68,13 +45,11 @@ least-of-spec =
     mul-least-sum
     add-least-sum
     least-sum-requires
-    mul-ceil-div
+    mul-word
+    add-word
+    word-requires
     add-ceil-div
-    mul-ceil-div-2
-    shared-slice-copy-out-ceil-div
-    add-ceil-div-2
-    mul-ceil-div-3
-    mul-ceil-div-4
-    shared-slice-copy-out-ceil-div-2
+    mul-word-2
+    word-requires-2
     ceil-div-requires
     returns)

@@ -5,26 +5,26 @@ use Rattle.judgement.proofs.judge_step.Statement.{statement}
 use Rattle.judgement.proofs.judge_step.Tie as tie
 
 direction-after-requires : tie.Need-direction-after-requires
-direction-after-requires c κs = direction-in (c .args .nest) (c .args .body) (c .args .set) (c .args .step) (c .pre)
+direction-after-requires c κs = direction-in (c .args .before .nest) (c .args .before .body) (c .args .before .set) (c .args .step) (c .pre)
+
+points-back-requires : tie.Need-points-back-requires
+points-back-requires c κs = let s = c .before in let a = c .direction-after in back-in (s .args .before .nest) (s .args .before .body) (s .args .before .set) (s .args .step) (s .pre) (a .result) (a .ensures)
 
 take-step-requires : tie.Need-take-step-requires
 take-step-requires c κs = search needs
-
-points-back-requires : tie.Need-points-back-requires
-points-back-requires c κs = let s = c .before .before in let a = c .before .direction-after in back-in (s .args .nest) (s .args .body) (s .args .set) (s .args .step) (s .pre) (a .result) (a .ensures)
 
 step-status-requires : tie.Need-step-status-requires
 step-status-requires c κs = search needs
 
 returns : tie.Need-returns
-returns c = let s = c .before .before .before .before .before .before in let a = c .before .before .before .before .before .direction-after in let g = c .before .before .before .before .take-step in let b = c .before .before .before .points-back in let z = c .before .before .step-status in judges-step (s .args .nest) (s .args .body) (s .args .set) (s .args .step) (s .pre) (a .result) (a .ensures) (g .result) (g .ensures) (b .result) (b .ensures) (s .args .number) (z .result) (z .ensures)
+returns c = let s = c .before .before .before .before .before .before in let a = c .before .before .before .before .before .direction-after in let b = c .before .before .before .before .points-back in let g = c .before .before .before .take-step in let z = c .before .before .step-status in judges-step (s .args .before .nest) (s .args .before .body) (s .args .before .set) (s .args .step) (s .pre) (a .result) (a .ensures) (g .result) (g .ensures) (b .result) (b .ensures) (s .args .number) (z .result) (z .ensures)
 
 pub judge-step-spec : {M : Type 1} → statement M
 judge-step-spec =
     tie.close
     (tie.spec
     direction-after-requires
-    take-step-requires
     points-back-requires
+    take-step-requires
     step-status-requires
     returns)

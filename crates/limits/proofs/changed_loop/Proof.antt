@@ -8,11 +8,11 @@ use Rattle.limits.proofs.changed_loop.Tie as tie
 
 changed-side-requires : tie.Need-changed-side-requires
 unfolding loopOf
-changed-side-requires c κs = let s = c .before .before in record { allowed = s .pre .allowed; small = s .pre .small .lower; within = s .pre .within .lower }
+changed-side-requires c κs = record { allowed = c .pre .allowed; small = c .pre .small .lower; within = c .pre .within .lower }
 
 changed-side-requires-2 : tie.Need-changed-side-requires-2
 unfolding loopOf
-changed-side-requires-2 c κs = let s = c .before .before .before in record { allowed = s .pre .allowed; small = s .pre .small .upper; within = s .pre .within .upper }
+changed-side-requires-2 c κs = let s = c .before in record { allowed = s .pre .allowed; small = s .pre .small .upper; within = s .pre .within .upper }
 
 returns : tie.Need-returns
 unfolding loopOf

@@ -2,7 +2,7 @@
 use mathlib.Core.Path.{sym}
 use native.Mathlib.Omega.{arith}
 use lib.ListN.{length-set}
-use Rattle.loop_layout.proofs.WriteLaws.{multiplier-fits, constant-wide, row-length, constant-room, wrote, wrote-length}
+use Rattle.loop_layout.proofs.WriteLaws.{multiplier-fits, constant-fits, row-length, row-small, constant-room, wrote, wrote-length}
 use borrow.Author.Needs.{needs}
 use Rattle.loop_layout.proofs.lay_limit.Statement.{statement}
 use Rattle.loop_layout.proofs.lay_limit.Tie as tie
@@ -20,7 +20,7 @@ slice-set-from-words : tie.Need-slice-set-from-words
 slice-set-from-words c = search needs
 
 cast-words-2 : tie.Need-cast-words-2
-cast-words-2 c = let s = c .before .before .before in constant-wide (s .args .words .now) (s .args .j) (s .args .outer) (s .args .limit) (s .pre)
+cast-words-2 c = let s = c .before .before .before in constant-fits (s .args .words .now) (s .args .j) (s .args .outer) (s .args .limit) (s .pre)
 
 add-t9 : tie.Need-add-t9
 add-t9 c = search needs
@@ -31,23 +31,24 @@ mul-t11 c = search needs
 slice-set-from-words-2 : tie.Need-slice-set-from-words-2
 slice-set-from-words-2 c = let s = c .before .before .before in constant-room (s .args .words .now) (s .args .j) (s .args .outer) (s .args .limit) (s .pre) _
 
-add-widen : tie.Need-add-widen
-add-widen c = search needs
+add-lay-row : tie.Need-add-lay-row
+add-lay-row c = search needs
 
 array-share-prefix-coefficients : tie.Need-array-share-prefix-coefficients
 array-share-prefix-coefficients c = search needs
 
-slice-aggregate-widen : tie.Need-slice-aggregate-widen
-slice-aggregate-widen c = let s = c .before .before .before .before .before in sym (row-length (s .args .words .now) (s .args .j) (s .args .outer) (s .args .limit) (s .pre))
+slice-aggregate-lay-row : tie.Need-slice-aggregate-lay-row
+slice-aggregate-lay-row c = let s = c .before .before .before .before .before in sym (row-length (s .args .words .now) (s .args .j) (s .args .outer) (s .args .limit) (s .pre))
 
-widen-requires : tie.Need-widen-requires
-widen-requires c κs = let s = c .before .before .before .before .before in let n = row-length (s .args .words .now) (s .args .j) (s .args .outer) (s .args .limit) (s .pre) in let p = s .pre in simp length-set (omega arith)
+lay-row-requires : tie.Need-lay-row-requires
+lay-row-requires c κs = let s = c .before .before .before .before .before in let n = row-length (s .args .words .now) (s .args .j) (s .args .outer) (s .args .limit) (s .pre) in let p = s .pre in
+    (simp length-set (omega arith), row-small (s .args .words .now) (s .args .j) (s .args .outer) (s .args .limit) (s .pre))
 
 same-length : tie.Need-same-length
-same-length c = let s = c .before .before .before .before .before .before .before in let w = wrote (s .args .words .now) (s .args .j) (s .args .outer) (s .args .limit) (s .pre) _ (c .before .widen .ensures) in wrote-length (s .args .words .now) (s .args .j) (s .args .outer) (s .args .limit) (s .pre) _ w
+same-length c = let s = c .before .before .before .before .before .before .before in let w = wrote (s .args .words .now) (s .args .j) (s .args .outer) (s .args .limit) (s .pre) _ (c .before .lay-row .ensures) in wrote-length (s .args .words .now) (s .args .j) (s .args .outer) (s .args .limit) (s .pre) _ w
 
 returns : tie.Need-returns
-returns c = let s = c .before .before .before .before .before .before .before in wrote (s .args .words .now) (s .args .j) (s .args .outer) (s .args .limit) (s .pre) _ (c .before .widen .ensures)
+returns c = let s = c .before .before .before .before .before .before .before in wrote (s .args .words .now) (s .args .j) (s .args .outer) (s .args .limit) (s .pre) _ (c .before .lay-row .ensures)
 
 pub lay-limit-spec : {M : Type 1} → statement M
 lay-limit-spec =
@@ -61,9 +62,9 @@ lay-limit-spec =
     add-t9
     mul-t11
     slice-set-from-words-2
-    add-widen
+    add-lay-row
     array-share-prefix-coefficients
-    slice-aggregate-widen
-    widen-requires
+    slice-aggregate-lay-row
+    lay-row-requires
     same-length
     returns)

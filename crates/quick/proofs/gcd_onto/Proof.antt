@@ -7,10 +7,6 @@ use Rattle.quick.specs.Differences.{gcdOnto}
 use Rattle.quick.proofs.DivisorLaws.{gcd-none, magnitude-in, gcd-more, gcd-all}
 use Rattle.quick.proofs.gcd_onto.Statement.{statement}
 use Rattle.quick.proofs.gcd_onto.Tie as tie
-use Rattle.quick.proofs.gcd_onto.Reads as reads
-use Rattle.quick.proofs.gcd_onto.Lts as lts
-use Rattle.integers.proofs.gcd.Reads as gcd-reads
-use Rattle.quick.proofs.magnitude.Reads as magnitude-reads
 
 abbrev Inv-loop : tie.InvT-loop
 Inv-loop words at n g r₀ i₀ r i = (i ≤ n) × (r ≡ gcdOnto (take (n - i) (drop (at + i) words)) g)
@@ -18,44 +14,31 @@ Inv-loop words at n g r₀ i₀ r i = (i ≤ n) × (r ≡ gcdOnto (take (n - i) 
 abbrev μ-loop : tie.MeasureT-loop
 μ-loop words at n g r₀ i₀ r i = i
 
--- src/lib.rt:251:5
 loop-holds : tie.Need-loop-holds Inv-loop μ-loop
 loop-holds c = (omega arith, gcd-none (c .args .words .now) (c .args .at) (c .args .n) (c .pre) (c .args .g))
 
--- src/lib.rt:252:9
 sub-i : tie.Need-sub-i Inv-loop μ-loop
 sub-i c = c .loop-test .taken
 
--- src/lib.rt:253:43
-add-magnitude : tie.Need-add-magnitude Inv-loop μ-loop
-add-magnitude c = let v = c .before .before .pre .inside in let r = c .before .before .pre .room in omega arith
+add-word : tie.Need-add-word Inv-loop μ-loop
+add-word c = let v = c .before .before .pre .inside in let r = c .before .before .pre .room in omega arith
 
--- src/lib.rt:253:37
-mul-magnitude : tie.Need-mul-magnitude Inv-loop μ-loop
-mul-magnitude c = let v = c .before .before .pre .inside in let r = c .before .before .pre .room in omega arith
+word-requires : tie.Need-word-requires Inv-loop μ-loop
+word-requires c κs = let v = c .before .before .pre .inside in let h = c .loop-test .taken in omega arith
 
--- src/lib.rt:253:37
-shared-slice-copy-out-magnitude : tie.Need-shared-slice-copy-out-magnitude Inv-loop μ-loop
-shared-slice-copy-out-magnitude c = let v = c .before .before .pre .inside in let h = c .loop-test .taken in omega arith
-
--- src/lib.rt:253:27
 magnitude-requires : tie.Need-magnitude-requires Inv-loop μ-loop
-magnitude-requires c κs = let s = c .before .before .before in let l = c .before .before .loop in magnitude-in (s .args .words .now) (s .args .at) (s .args .n) (s .pre) (s .args .g) (l .i) (c .before .loop-test .taken) (l .inv .0)
+magnitude-requires c κs = let s = c .before .before .before in let l = c .before .before .loop in magnitude-in (s .args .words .now) (s .args .at) (s .args .n) (s .pre) (s .args .g) (l .i) (c .before .loop-test .taken) (l .inv .0) (c .word .ensures)
 
--- src/lib.rt:253:9
 gcd-requires : tie.Need-gcd-requires Inv-loop μ-loop
 gcd-requires c κs = tt
 
--- src/lib.rt:251:5
 loop-less : tie.Need-loop-less Inv-loop μ-loop
 loop-less c = let h = c .before .before .before .loop-test .taken in omega arith
 
--- src/lib.rt:251:5
 loop-again : tie.Need-loop-again Inv-loop μ-loop
 loop-again c = let s = c .before .before .before .before .before in let l = c .before .before .before .before .loop in
-    (omega arith, c .gcd .ensures ∙ gcd-more (s .args .words .now) (s .args .at) (s .args .n) (s .pre) (s .args .g) (l .i) (c .before .before .before .loop-test .taken) (l .inv .0) (l .r) (c .before .magnitude .result) (l .inv .1) (c .before .magnitude .ensures))
+    (omega arith, c .gcd .ensures ∙ gcd-more (s .args .words .now) (s .args .at) (s .args .n) (s .pre) (s .args .g) (l .i) (c .before .before .before .loop-test .taken) (l .inv .0) (c .before .before .word .ensures) (l .r) (c .before .magnitude .result) (l .inv .1) (c .before .magnitude .ensures))
 
--- src/lib.rt:245:1
 returns : tie.Need-returns Inv-loop μ-loop
 returns c = let s = c .before .before in let l = c .before .loop in let h = c .loop-test .left in gcd-all (s .args .words .now) (s .args .at) (s .args .n) (s .pre) (s .args .g) (l .i) (l .r) (omega arith) (l .inv .1)
 
@@ -67,9 +50,8 @@ gcd-onto-spec =
     μ-loop
     loop-holds
     sub-i
-    add-magnitude
-    mul-magnitude
-    shared-slice-copy-out-magnitude
+    add-word
+    word-requires
     magnitude-requires
     gcd-requires
     loop-less

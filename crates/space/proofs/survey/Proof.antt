@@ -2,6 +2,7 @@
 use mathlib.Core.Path.{_≡_}
 use Prim.Native.Nat.{_+_, _-_, _≤_, _<_}
 use native.Mathlib.Omega.{arith}
+use borrow.Author.Tests.{ltb-true, ltb-false}
 use lib.ListN.{length}
 use Rattle.model.specs.Points.{partialPoints}
 use Rattle.bounds.specs.Flat.{loopsFrom}
@@ -27,22 +28,23 @@ returns c = let s = c .before .before .before .before .before in let l = c .befo
     far-out (s .pre) (l .inv .1) (l .inv .0) (c .before .before .loop-test .taken) _ (t .ensures) (c .if1 .taken)
 
 returns-2 : tie.Need-returns-2 Inv-loop μ-loop
-returns-2 c = let s = c .before .before .before .before .before .before .before in let l = c .before .before .before .before .before .loop in let t = c .before .before .before .tally-points in
-    crowded-out (s .pre) (l .inv .1) (l .inv .0) (c .before .before .before .before .loop-test .taken) _ (t .ensures) (c .before .before .if1 .left) (c .if2 .taken)
+returns-2 c = let s = c .before .before .before .before .before .before in let l = c .before .before .before .before .loop in let t = c .before .before .tally-points in
+    crowded-out (s .pre) (l .inv .1) (l .inv .0) (c .before .before .before .loop-test .taken) _ (t .ensures) (c .before .if1 .left) (ltb-true (s .args .most) (t .result .count) (c .if2 .taken))
 
 add-level : tie.Need-add-level Inv-loop μ-loop
-add-level c = let d = c .before .before .before .before .before .before .before .pre .nest .shallow in let h = c .before .before .before .before .loop-test .taken in omega arith
+add-level c = let d = c .before .before .before .before .before .before .pre .nest .shallow in let h = c .before .before .before .loop-test .taken in omega arith
 
 loop-less : tie.Need-loop-less Inv-loop μ-loop
-loop-less c = let h = c .before .before .before .before .loop-test .taken in omega arith
+loop-less c = let h = c .before .before .before .loop-test .taken in omega arith
 
 loop-again : tie.Need-loop-again Inv-loop μ-loop
-loop-again c = let s = c .before .before .before .before .before .before .before in let l = c .before .before .before .before .before .loop in let t = c .before .before .before .tally-points in let h = c .before .before .before .before .loop-test .taken in (
-  omega arith,
-  passes (s .pre) (l .inv .1) (l .inv .0) h _ (t .ensures) (c .before .before .if1 .left) (c .if2 .left),
-  omega arith,
-  λ q. counts (s .pre) (l .inv .1) (l .inv .0) h _ (t .ensures) (c .if2 .left),
-)
+loop-again c = let s = c .before .before .before .before .before .before in let l = c .before .before .before .before .loop in let t = c .before .before .tally-points in let h = c .before .before .before .loop-test .taken in
+    let f = ltb-false (s .args .most) (t .result .count) (c .if2 .left) in (
+      omega arith,
+      passes (s .pre) (l .inv .1) (l .inv .0) h _ (t .ensures) (c .before .if1 .left) f,
+      omega arith,
+      λ q. counts (s .pre) (l .inv .1) (l .inv .0) h _ (t .ensures) f,
+    )
 
 returns-3 : tie.Need-returns-3 Inv-loop μ-loop
 returns-3 c = let s = c .before .before .before in let l = c .before .loop in admitted-out (s .pre) (l .inv .1) (l .inv .0) (l .count) (omega (arith, l .inv .2, c .loop-test .left)) (l .inv .3)

@@ -1,5 +1,6 @@
 use Prim.Native.Nat.{_-_}
 use native.Mathlib.Omega.{arith}
+use lib.Dec.{T}
 use borrow.Author.Needs.{needs}
 use Rattle.model.specs.Grammar.{depthAfter}
 use Rattle.model.specs.Limits.{subscriptAfter}
@@ -7,16 +8,16 @@ use Rattle.model.specs.Judge.{smallAccess}
 use Rattle.body.specs.Statements.{subscriptOf, accessOf, SubscriptIn}
 use Rattle.steps.specs.Steps.{stepOf}
 use Rattle.subscripts.specs.After.{smallSubscript}
-use Rattle.subscripts.proofs.FrontLaws.{Changed, changed-none, changed-more, changed-all, changed-each, tested-at}
+use Rattle.subscripts.proofs.FrontLaws.{Changed, changed-none, changed-read, changed-more, changed-all, changed-each, tested-at}
 use Rattle.subscripts.proofs.SubscriptLaws.{access-is}
 use Rattle.subscripts.proofs.access_after.Statement.{statement}
 use Rattle.subscripts.proofs.access_after.Tie as tie
 
 abbrev Inv-loop : tie.InvT-loop
-Inv-loop access n step count from to₀ k₀ to k = Changed SubscriptIn (subscriptOf (depthAfter (stepOf step) n)) (subscriptOf n) (subscriptAfter (stepOf step)) count 3 from to k
+Inv-loop access n step count to₀ k₀ to k = Changed SubscriptIn (subscriptOf (depthAfter (stepOf step) n)) (subscriptOf n) (subscriptAfter (stepOf step)) count 3 to₀ to k
 
 abbrev μ-loop : tie.MeasureT-loop
-μ-loop access n step count from to₀ k₀ to k = count - k
+μ-loop access n step count to₀ k₀ to k = count - k
 
 loop-holds : tie.Need-loop-holds Inv-loop μ-loop
 loop-holds c = let s = c .before in changed-none SubscriptIn _ _ _ (s .args .access .dimensions) 3 (s .args .access .subscripts) (s .pre .within .room)
@@ -30,8 +31,10 @@ array-copy-out-s c = search needs
 subscript-after-requires : tie.Need-subscript-after-requires Inv-loop μ-loop
 unfolding smallAccess accessOf
 subscript-after-requires c κs =
-    let s = c .before .before .before .before in let f = s .pre .within .few in let r = s .pre .within .room in
-    record { step = s .pre .step; small = tested-at smallSubscript (subscriptOf (s .args .n)) (s .args .access .subscripts) (c .before .before .loop .k) (s .args .access .dimensions) _ (omega arith) (omega arith) (s .pre .small) }
+    let s = c .before .before .before .before in let f = s .pre .within .few in let r = s .pre .within .room in let a = s .args .access in let l = c .before .before .loop in record {
+      step = s .pre .step;
+      small = changed-read SubscriptIn _ _ _ (a .dimensions) 3 (a .subscripts) r (λ x. T (smallSubscript (subscriptOf (s .args .n) x))) (l .to) (l .k) _ (l .inv) (tested-at smallSubscript (subscriptOf (s .args .n)) (a .subscripts) (l .k) (a .dimensions) _ (omega arith) (omega arith) (s .pre .small));
+    }
 
 mul-to : tie.Need-mul-to Inv-loop μ-loop
 mul-to c = search needs

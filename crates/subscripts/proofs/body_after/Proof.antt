@@ -1,5 +1,6 @@
 use Prim.Native.Nat.{_-_}
 use native.Mathlib.Omega.{arith}
+use lib.Dec.{T}
 use borrow.Author.Needs.{needs}
 use Rattle.model.specs.Grammar.{depthAfter}
 use Rattle.model.specs.Limits.{statementAfter}
@@ -7,15 +8,15 @@ use Rattle.body.specs.Statements.{statementOf, statementsOf, StatementIn}
 use Rattle.steps.specs.Steps.{stepOf}
 use Rattle.limits.proofs.SideLaws.{all-front}
 use Rattle.subscripts.specs.After.{smallStatement}
-use Rattle.subscripts.proofs.FrontLaws.{Changed, changed-none, changed-more, changed-all, changed-each, tested-at}
+use Rattle.subscripts.proofs.FrontLaws.{Changed, changed-none, changed-read, changed-more, changed-all, changed-each, tested-at}
 use Rattle.subscripts.proofs.body_after.Statement.{statement}
 use Rattle.subscripts.proofs.body_after.Tie as tie
 
 abbrev Inv-loop : tie.InvT-loop
-Inv-loop depth step count from to₀ k₀ to k = Changed StatementIn (statementOf (depthAfter (stepOf step) depth)) (statementOf depth) (statementAfter (stepOf step)) count 4 from to k
+Inv-loop depth step count to₀ k₀ to k = Changed StatementIn (statementOf (depthAfter (stepOf step) depth)) (statementOf depth) (statementAfter (stepOf step)) count 4 to₀ to k
 
 abbrev μ-loop : tie.MeasureT-loop
-μ-loop depth step count from to₀ k₀ to k = count - k
+μ-loop depth step count to₀ k₀ to k = count - k
 
 loop-holds : tie.Need-loop-holds Inv-loop μ-loop
 loop-holds c = let s = c .before in changed-none StatementIn _ _ _ (s .args .body .count) 4 (s .args .body .statements) (s .pre .within .room)
@@ -28,10 +29,10 @@ array-copy-out-s c = search needs
 
 statement-after-requires : tie.Need-statement-after-requires Inv-loop μ-loop
 unfolding statementsOf
-statement-after-requires c κs = let s = c .before .before .before .before in let f = s .pre .within .few in let r = s .pre .within .room in let B = s .args .body in record {
+statement-after-requires c κs = let s = c .before .before .before .before in let f = s .pre .within .few in let r = s .pre .within .room in let B = s .args .body in let l = c .before .before .loop in record {
   step = s .pre .step;
-  within = all-front StatementIn _ (c .before .before .loop .k) (B .count) (B .statements) (omega arith) (omega arith) (s .pre .within .each);
-  small = tested-at smallStatement (statementOf (s .args .depth)) (B .statements) (c .before .before .loop .k) (B .count) _ (omega arith) (omega arith) (s .pre .small);
+  within = changed-read StatementIn _ _ _ (B .count) 4 (B .statements) r StatementIn (l .to) (l .k) _ (l .inv) (all-front StatementIn _ (l .k) (B .count) (B .statements) (omega arith) (omega arith) (s .pre .within .each));
+  small = changed-read StatementIn _ _ _ (B .count) 4 (B .statements) r (λ x. T (smallStatement (statementOf (s .args .depth) x))) (l .to) (l .k) _ (l .inv) (tested-at smallStatement (statementOf (s .args .depth)) (B .statements) (l .k) (B .count) _ (omega arith) (omega arith) (s .pre .small));
 }
 
 mul-to : tie.Need-mul-to Inv-loop μ-loop
