@@ -35,8 +35,8 @@ fn leaves(form: &[i64], extent: usize, point: &[i64]) -> bool
     extent as i64 <= x
 }
 
-// The words of subscript j of all, as a form: widened once, before it is lent for every point.
-fn widened(words: &[i16], j: usize) -> [i64; 8]
+// The words of subscript j of all as a form, which is made once and lent for every point.
+fn words_at(words: &[i16], j: usize) -> [i64; 8]
     requires { ⌜ (j * 8 + 8 ≤ length (now words)) × (length (now words) ≤ 480) × Within 32767 (now words) ⌝ }
     ensures { λ r. ⌜ r ≡ wordsAt (now (words .entry)) j ⌝ }
 {
@@ -63,7 +63,7 @@ fn strays(
     requires { ⌜ StrayIn (now words) j extent (now points) depth count ⌝ }
     ensures { λ r. ⌜ r ≡ straysAt (now (words .entry)) depth j extent (rows depth count (now (points .entry))) ⌝ }
 {
-    let form = widened(words, j);
+    let form = words_at(words, j);
     let mut at = 0;
     let mut i = 0;
     while i < count {

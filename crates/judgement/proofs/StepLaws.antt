@@ -16,6 +16,7 @@ use Rattle.model.specs.Limits.{nestAfter}
 use Rattle.model.specs.Judge.{fewLimits, smallNumbers, judgeSteps}
 use Rattle.model.proofs.Verdict.SameVectorsLaws.{pointsBack-same, judgeSteps-same}
 use Rattle.reading.specs.declared.Refusal.{Refusal}
+use Rattle.reading.specs.declared.Refusal.the-variants.{DependenceReversed, TooManyLimits, NumberOutOfRange}
 use Rattle.reading.specs.declared.Status.{Status}
 use Rattle.reading.specs.declared.Status.the-variants.{Fine, Refused}
 use Rattle.nest.specs.declared.Nest.{Nest}
@@ -93,37 +94,44 @@ module _ (N : Nest) (B : Body) (s : DirectionSet) (t : Step) (i : JudgeStepIn N 
     pub back-in : q .depth ≤ 6
     back-in = subst (λ m. m ≤ 6) (sym (a .depth)) (few-after (stepOf t) (s .depth) (direction-in .few) (direction-in .there))
 
-    module _ (r : Taken) (g : Takes N B t r) (b : Bool) (p : b ≡ somePointsBack (vectorsOf q)) (k : ℕ) where
-      abbrev stepped : Status → Stepped
-      stepped z = record { status = z; nest = r .nest; body = r .body; set = q }
-
+    module _ (b : Bool) (p : b ≡ somePointsBack (vectorsOf q)) (k : ℕ) where
       back-is : somePointsBack (vectorsAfter (stepOf t) (vectorsOf s)) ≡ b
       back-is = sym (pointsBack-same (a .vectors)) ∙ sym p
 
-      few-are : (as′ : List (List ℕ)) → fewLimits (nestAfter (stepOf t) (nestOf as′ N B) .loops) ≡ not (r .full)
-      few-are as′ = not-is (fewLimits (nestAfter (stepOf t) (nestOf as′ N B) .loops)) (r .full) (g .full as′)
-
-      refuse : (x : Refusal) → ((as′ : List (List ℕ)) (ts : List Model.Step) → judgeSteps k (stepOf t ∷ ts) (vectorsOf s) (nestOf as′ N B) ≡ unless (Refused x) (judgeSteps k ts (vectorsOf s) (nestOf as′ N B)))
-          → JudgesStep N B s t k (stepped (Refused x))
-      refuse x h = record { same = λ as′ ts. sym (h as′ ts); ready = λ e. not-fine x e; depth = λ e. not-fine x e }
-
-      by : (b′ f n : Bool) → b ≡ b′ → r .full ≡ f → r .small ≡ n → JudgesStep N B s t k (stepped (stepStatus b′ f n k))
-      by true f n eb ef en = refuse _ (λ as′ ts. stop-at-10 k (stepOf t) ts (vectorsOf s) (nestOf as′ N B) (back-is ∙ eb))
-      by false true n eb ef en = refuse _ (λ as′ ts. stop-at-11 k (stepOf t) ts (vectorsOf s) (nestOf as′ N B) (back-is ∙ eb) (few-are as′ ∙ ap not ef))
-      by false false false eb ef en = refuse _ (λ as′ ts. stop-at-12 k (stepOf t) ts (vectorsOf s) (nestOf as′ N B) (back-is ∙ eb) (few-are as′ ∙ ap not ef) (sym (g .small as′ ef) ∙ en))
-      by false false true eb ef en = record {
-        same = λ as′ ts.
-            judgeSteps-same (suc k) ts (nestOf as′ (r .nest) (r .body)) (a .vectors)
-            ∙ ap (judgeSteps (suc k) ts (vectorsAfter (stepOf t) (vectorsOf s))) (g .whole as′ ef)
-            ∙ sym (go-on k (stepOf t) ts (vectorsOf s) (nestOf as′ N B) (back-is ∙ eb) (few-are as′ ∙ ap not ef) (sym (g .small as′ ef) ∙ en));
-        ready = λ _. record {
-          nest = g .nest;
-          body = g .body;
-          small = true-T (smallNumbers (nestOf [] (r .nest) (r .body))) (ap smallNumbers (g .whole [] ef) ∙ sym (g .small [] ef) ∙ en);
-          level = a .depth ∙ ap (depthAfter (stepOf t)) (i .ready .level) ∙ sym (g .depth ef);
-        };
-        depth = λ _. g .depth ef;
+      refuse : (r : Stepped) (x : Refusal) → r .status ≡ Refused x
+          → ((as′ : List (List ℕ)) (ts : List Model.Step) → judgeSteps k (stepOf t ∷ ts) (vectorsOf s) (nestOf as′ N B) ≡ unless (Refused x) (judgeSteps k ts (vectorsOf s) (nestOf as′ N B))) → JudgesStep N B s t k r
+      refuse r x e h = record {
+        same = λ as′ ts. ap (λ (z : Status). unless z (judgeSteps (suc k) ts (vectorsOf (r .set)) (nestOf as′ (r .nest) (r .body)))) e ∙ sym (h as′ ts);
+        ready = λ f. not-fine x (sym e ∙ f);
+        depth = λ f. not-fine x (sym e ∙ f);
       }
 
-      pub judges-step : (z : Status) → z ≡ stepStatus b (r .full) (r .small) k → JudgesStep N B s t k (stepped z)
-      judges-step z e = subst (λ (x : Status). JudgesStep N B s t k (stepped x)) (sym e) (by b (r .full) (r .small) refl refl refl)
+      pub judges-back : b ≡ true → (r : Stepped) → r .status ≡ Refused (DependenceReversed k) → JudgesStep N B s t k r
+      judges-back eb r e = refuse r (DependenceReversed k) e (λ as′ ts. stop-at-10 k (stepOf t) ts (vectorsOf s) (nestOf as′ N B) (back-is ∙ eb))
+
+      module _ (eb : b ≡ false) (r : Taken) (g : Takes N B t r) where
+        abbrev stepped : Status → Stepped
+        stepped z = record { status = z; nest = r .nest; body = r .body; set = q }
+
+        few-are : (as′ : List (List ℕ)) → fewLimits (nestAfter (stepOf t) (nestOf as′ N B) .loops) ≡ not (r .full)
+        few-are as′ = not-is (fewLimits (nestAfter (stepOf t) (nestOf as′ N B) .loops)) (r .full) (g .full as′)
+
+        by : (f n : Bool) → r .full ≡ f → r .small ≡ n → JudgesStep N B s t k (stepped (stepStatus f n k))
+        by true n ef en = refuse (stepped (Refused (TooManyLimits k))) (TooManyLimits k) refl (λ as′ ts. stop-at-11 k (stepOf t) ts (vectorsOf s) (nestOf as′ N B) (back-is ∙ eb) (few-are as′ ∙ ap not ef))
+        by false false ef en = refuse (stepped (Refused (NumberOutOfRange k))) (NumberOutOfRange k) refl (λ as′ ts. stop-at-12 k (stepOf t) ts (vectorsOf s) (nestOf as′ N B) (back-is ∙ eb) (few-are as′ ∙ ap not ef) (sym (g .small as′ ef) ∙ en))
+        by false true ef en = record {
+          same = λ as′ ts.
+              judgeSteps-same (suc k) ts (nestOf as′ (r .nest) (r .body)) (a .vectors)
+              ∙ ap (judgeSteps (suc k) ts (vectorsAfter (stepOf t) (vectorsOf s))) (g .whole as′ ef)
+              ∙ sym (go-on k (stepOf t) ts (vectorsOf s) (nestOf as′ N B) (back-is ∙ eb) (few-are as′ ∙ ap not ef) (sym (g .small as′ ef) ∙ en));
+          ready = λ _. record {
+            nest = g .nest;
+            body = g .body;
+            small = true-T (smallNumbers (nestOf [] (r .nest) (r .body))) (ap smallNumbers (g .whole [] ef) ∙ sym (g .small [] ef) ∙ en);
+            level = a .depth ∙ ap (depthAfter (stepOf t)) (i .ready .level) ∙ sym (g .depth ef);
+          };
+          depth = λ _. g .depth ef;
+        }
+
+        pub judges-step : (z : Status) → z ≡ stepStatus (r .full) (r .small) k → JudgesStep N B s t k (stepped z)
+        judges-step z e = subst (λ (x : Status). JudgesStep N B s t k (stepped x)) (sym e) (by (r .full) (r .small) refl refl)

@@ -13,7 +13,7 @@ use Rattle.model.specs.Ranges.{StepThere, NestRanges, TicketRanges}
 use Rattle.model.specs.Shape.{WellFormed}
 use Rattle.model.specs.Judge.{smallNumbers, judgeSteps, directionsOf, judgeTicket}
 use Rattle.reading.specs.Refusals.{refusal}
-use Rattle.reading.specs.declared.Refusal.the-variants.{DependenceReversed, TooManyLimits, NumberOutOfRange}
+use Rattle.reading.specs.declared.Refusal.the-variants.{TooManyLimits, NumberOutOfRange}
 use Rattle.reading.specs.declared.Status.{Status}
 use Rattle.reading.specs.declared.Status.the-variants.{Fine, Refused}
 use Rattle.nest.specs.Nested.{NestIn}
@@ -50,9 +50,9 @@ pub record DirectionIn (s : DirectionSet) (t : Step) : Type 0 where
   pub few : s .depth ≤ 6
   pub there : StepThere (s .depth) (stepOf t)
 
--- 10, then 11, then 12
-abbrev pub stepStatus : Bool → Bool → Bool → ℕ → Status
-stepStatus back full small k = cond back (Refused (DependenceReversed k)) (cond full (Refused (TooManyLimits k)) (cond small Fine (Refused (NumberOutOfRange k))))
+-- 11, then 12
+abbrev pub stepStatus : Bool → Bool → ℕ → Status
+stepStatus full small k = cond full (Refused (TooManyLimits k)) (cond small Fine (Refused (NumberOutOfRange k)))
 
 -- a nest that a step may be taken on, every number within ±32767, and vectors of its depth
 pub record Ready (N : Nest) (B : Body) (s : DirectionSet) : Type 0 where

@@ -1,5 +1,6 @@
 // From an admitted ticket and its directions to the new nest on its sheet; or the first refusal of 10 to 13. Loops are counted from 0.
 ghost use mathlib.Core.Path.{_≡_};
+ghost use Rattle.reading.specs.declared.Refusal.the-variants.{DependenceReversed};
 ghost use Rattle.reading.specs.declared.Status.the-variants.{Refused};
 ghost use Rattle.steps.specs.Steps.{stepOf};
 ghost use Rattle.directions.specs.Sets.{After};
@@ -59,13 +60,25 @@ fn direction_after(set: DirectionSet, step: Step) -> DirectionSet
     }
 }
 
-// Refusals 10, 11 and 12 in this order.
-fn step_status(back: bool, full: bool, small: bool, number: usize) -> Status
-    ensures { λ r. ⌜ r ≡ stepStatus back full small number ⌝ }
+// Refusal 10, for which the step need not be taken.
+fn turned_back(before: Stepped, number: usize) -> Stepped
+    ensures { λ r. ⌜ r .status ≡ Refused (DependenceReversed number) ⌝ }
 {
-    if back {
-        return Status::Refused(Refusal::DependenceReversed(number));
+    let nest = before.nest;
+    let body = before.body;
+    let set = before.set;
+    Stepped {
+        status: Status::Refused(Refusal::DependenceReversed(number)),
+        nest: nest,
+        body: body,
+        set: set,
     }
+}
+
+// Refusals 11 and 12 in this order.
+fn step_status(full: bool, small: bool, number: usize) -> Status
+    ensures { λ r. ⌜ r ≡ stepStatus full small number ⌝ }
+{
     if full {
         return Status::Refused(Refusal::TooManyLimits(number));
     }
@@ -80,9 +93,11 @@ fn judge_step(before: Stepped, step: Step, number: usize) -> Stepped
     ensures { λ r. ⌜ JudgesStep (before .nest) (before .body) (before .set) step number r ⌝ }
 {
     let after = direction_after(before.set, step);
-    let back = directions::points_back(after);
+    if directions::points_back(after) {
+        return turned_back(before, number);
+    }
     let taken = stepping::take_step(before.nest, before.body, step);
-    let status = step_status(back, taken.full, taken.small, number);
+    let status = step_status(taken.full, taken.small, number);
     let loops = taken.nest;
     let statements = taken.body;
     Stepped {

@@ -19,8 +19,8 @@ Inv-loop words j extent points depth count form at₀ i₀ at i = (i ≤ count) 
 abbrev μ-loop : tie.MeasureT-loop
 μ-loop words j extent points depth count form at₀ i₀ at i = count - i
 
-widened-requires : tie.Need-widened-requires Inv-loop μ-loop
-widened-requires c κs = (c .pre .inside, c .pre .long, c .pre .small)
+words-at-requires : tie.Need-words-at-requires Inv-loop μ-loop
+words-at-requires c κs = (c .pre .inside, c .pre .long, c .pre .small)
 
 loop-holds : tie.Need-loop-holds Inv-loop μ-loop
 unfolding straysAt rows any
@@ -45,11 +45,11 @@ part-leaves-end : tie.Need-part-leaves-end Inv-loop μ-loop
 part-leaves-end c = let s = c .before .before .before .before in let l = c .before .before .loop in row-ends (s .pre .stored) (c .before .loop-test .taken) (l .inv .1)
 
 leaves-requires : tie.Need-leaves-requires Inv-loop μ-loop
-leaves-requires c κs = let s = c .before .before .before .before .before in let l = c .before .before .before .loop in stray-in (s .pre) (c .before .before .loop-test .taken) (l .inv .1) (c .before .before .before .before .widened .ensures)
+leaves-requires c κs = let s = c .before .before .before .before .before in let l = c .before .before .before .loop in stray-in (s .pre) (c .before .before .loop-test .taken) (l .inv .1) (c .before .before .before .before .words-at .ensures)
 
 returns : tie.Need-returns Inv-loop μ-loop
 returns c = let s = c .before .before .before .before .before .before .before in let l = c .before .before .before .before .before .loop in
-    stray-found (s .pre) (c .before .before .before .before .loop-test .taken) (l .inv .1) (c .before .before .before .before .before .before .widened .ensures) (c .before .leaves .ensures) (c .if1 .taken)
+    stray-found (s .pre) (c .before .before .before .before .loop-test .taken) (l .inv .1) (c .before .before .before .before .before .before .words-at .ensures) (c .before .leaves .ensures) (c .if1 .taken)
 
 add-at : tie.Need-add-at Inv-loop μ-loop
 add-at c = let s = c .before .before .before .before .before .before .before in let l = c .before .before .before .before .before .loop in let r = row-small (s .pre .stored) (c .before .before .before .before .loop-test .taken) (l .inv .1) in omega arith
@@ -62,7 +62,7 @@ loop-less c = let v = c .before .before .before .before .loop-test .taken in ome
 
 loop-again : tie.Need-loop-again Inv-loop μ-loop
 loop-again c = let s = c .before .before .before .before .before .before .before in let l = c .before .before .before .before .before .loop in let v = c .before .before .before .before .loop-test .taken in
-    (omega arith, ap (λ (k : ℕ). k + s .args .depth) (l .inv .1) ∙ row-next (s .args .depth) (l .i), stray-not (s .pre) v (l .inv .1) (c .before .before .before .before .before .before .widened .ensures) (c .before .leaves .ensures) (c .if1 .left) (l .inv .2))
+    (omega arith, ap (λ (k : ℕ). k + s .args .depth) (l .inv .1) ∙ row-next (s .args .depth) (l .i), stray-not (s .pre) v (l .inv .1) (c .before .before .before .before .before .before .words-at .ensures) (c .before .leaves .ensures) (c .if1 .left) (l .inv .2))
 
 returns-2 : tie.Need-returns-2 Inv-loop μ-loop
 returns-2 c = let s = c .before .before .before in let l = c .before .loop in let e : l .i ≡ s .args .count = omega (arith, l .inv .0, c .loop-test .left) in
@@ -74,7 +74,7 @@ strays-spec =
     (tie.spec
     Inv-loop
     μ-loop
-    widened-requires
+    words-at-requires
     loop-holds
     slice-aggregate-leaves
     add-leaves

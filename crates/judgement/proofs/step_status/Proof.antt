@@ -7,13 +7,10 @@ returns : tie.Need-returns
 returns c = simp (c .if1 .taken)
 
 returns-2 : tie.Need-returns-2
-returns-2 c = simp (c .before .if1 .left, c .if2 .taken)
+returns-2 c = search needs
 
 returns-3 : tie.Need-returns-3
-returns-3 c = search needs
-
-returns-4 : tie.Need-returns-4
-returns-4 c = simp (c .before .before .if1 .left, c .before .if2 .left, c .if3 .left)
+returns-3 c = simp (c .before .if1 .left, c .if2 .left)
 
 pub step-status-spec : {M : Type 1} → statement M
-step-status-spec = tie.close (tie.spec returns returns-2 returns-3 returns-4)
+step-status-spec = tie.close (tie.spec returns returns-2 returns-3)

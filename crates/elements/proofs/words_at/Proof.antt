@@ -1,4 +1,4 @@
--- `widened`: the first l words are copied.
+-- `words_at`: the first l words are copied.
 use mathlib.Core.Path.{_≡_, refl}
 use Prim.Native.Nat.{_-_, _≤_}
 use native.Mathlib.Omega.{arith}
@@ -6,8 +6,8 @@ use lib.ListN.{length, take, length-set}
 use borrow.Author.Needs.{needs}
 use Rattle.elements.specs.Forms.{wordsAt}
 use Rattle.elements.proofs.FormLaws.{copy-more, copy-all}
-use Rattle.elements.proofs.widened.Statement.{statement}
-use Rattle.elements.proofs.widened.Tie as tie
+use Rattle.elements.proofs.words_at.Statement.{statement}
+use Rattle.elements.proofs.words_at.Tie as tie
 
 abbrev Inv-loop : tie.InvT-loop
 Inv-loop words j at r₀ l₀ r l = (l ≤ 8) × (length r ≡ 8) × (take l r ≡ take l (wordsAt words j))
@@ -46,8 +46,8 @@ loop-again c = let s = c .before .before .before in let l = c .before .before .l
 returns : tie.Need-returns Inv-loop μ-loop
 returns c = let s = c .before .before in let l = c .before .loop in copy-all (s .args .words .now) (s .args .j) (s .pre .0) (l .r) (l .l) (omega (arith, l .inv .0, c .loop-test .left)) (l .inv .1) (l .inv .2)
 
-pub widened-spec : {M : Type 1} → statement M
-widened-spec =
+pub words-at-spec : {M : Type 1} → statement M
+words-at-spec =
     tie.close
     (tie.spec
     Inv-loop
