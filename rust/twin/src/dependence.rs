@@ -75,28 +75,9 @@ fn vector<const D: usize>(source: &[i32; D], sink: &[i32; D]) -> usize {
 
 struct Search<'a, const D: usize> {
     points: &'a [[i32; D]],
-    /// For each element one more than the last point that named it, or 0: all 0 between two uses.
+    /// For each element one more than the last point that named it, or 0; for each point the same of the point before it.
     head: Vec<u16>,
-    /// For each point the link to a source before it: as a source, and as a sink.
     next: Vec<u16>,
-    start: Vec<u16>,
-}
-
-/// For each y one more than the last point before y (or up to y, if `own`) at which `from` has the element of `to` at y, or 0; whether there is one.
-fn link(from: &[u16], to: &[u16], own: bool, head: &mut [u16], out: &mut [u16]) -> bool {
-    let mut any = false;
-    for ((y, link), (from, to)) in out.iter_mut().enumerate().zip(from.iter().zip(to)) {
-        *link = head[*to as usize];
-        head[*from as usize] = y as u16 + 1;
-        if own {
-            *link = head[*to as usize];
-        }
-        any |= *link != 0;
-    }
-    for from in from {
-        head[*from as usize] = 0;
-    }
-    any
 }
 
 impl<const D: usize> Search<'_, D> {
@@ -133,15 +114,17 @@ impl<const D: usize> Search<'_, D> {
 
     /// Marks the vectors of all conflicts. A statement's own iteration counts where the source stands before the sink.
     fn search(&mut self, source: &[u16], sink: &[u16], own: bool, marks: &mut [bool]) {
-        if !link(source, sink, own, &mut self.head, &mut self.start) {
-            return;
-        }
+        self.head.fill(0);
         // Vectors that do not point backwards, and that of one point alone if `own`.
         let end = marks.len() / 2 + own as usize;
         let mut possible = None;
         let mut spent = 0;
-        for (y, start) in self.start.iter().enumerate().filter(|(_, start)| **start != 0) {
-            spent += self.walk(y, *start, marks);
+        for y in 0..source.len() {
+            let (from, to) = (source[y] as usize, sink[y] as usize);
+            let before = self.head[to];
+            self.next[y] = self.head[from];
+            self.head[from] = y as u16 + 1;
+            spent += self.walk(y, if own { self.head[to] } else { before }, marks);
             if spent > 729 {
                 let possible = possible.get_or_insert_with(|| self.possible(source, sink));
                 if possible[..end].iter().zip(&*marks).all(|(possible, mark)| !possible || *mark) {
@@ -158,10 +141,8 @@ fn search_all<const D: usize>(admitted: &Admitted, uses: &[Use], lines: &mut Lin
         points: admitted.points.rows(),
         head: vec![0; admitted.ticket.nest.elements()],
         next: vec![0; admitted.count],
-        start: vec![0; admitted.count],
     };
     for source in uses {
-        link(source.places, source.places, false, &mut search.head, &mut search.next);
         for sink in uses.iter().filter(|sink| sink.array == source.array) {
             if let Some(kind) = kind(source, sink) {
                 let (s, t) = (source.statement, sink.statement);
