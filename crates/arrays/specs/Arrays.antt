@@ -1,33 +1,30 @@
--- The arrays that the structs hold. What stands beyond a count is not looked at.
+-- What reading one array and all of them gives: the model's answer, and slices that it is laid over. Of a refused section the arrays before
+-- the refusal are laid.
 use mathlib.Core.Path.{_≡_}
 use mathlib.Core.List.{List, map}
-use Prim.Native.Nat.{ℕ, _≤_}
+use Prim.Native.Nat.{ℕ, _+_, _*_, _≤_}
 use lib.ListN.{length, take}
 use Rattle.lists.specs.Membership.{All}
-use Rattle.model.specs.Grammar.{Reader, _>>=_, count, natural, times, elements, arrays}
+use Rattle.model.specs.Grammar as Grammar
+use Rattle.model.specs.Grammar.{Reader, _>>=_, count, natural, times, elements, total}
+use Rattle.model.specs.Ranges.{ArrayRanges}
 use Rattle.reading.specs.Refusals.{Reads}
+use Rattle.elements.specs.Layout.{arraysOf}
+use Rattle.arrays.specs.Laid.{layRows, shapeWords}
 use Rattle.arrays.specs.declared.Shape.{Shape}
-use Rattle.arrays.specs.declared.Arrays.{Arrays}
 use Rattle.arrays.specs.declared.ShapeRead.{ShapeRead}
 use Rattle.arrays.specs.declared.ArraysRead.{ArraysRead}
 
+-- ---- one array
+
 unfoldable pub shapeOf : Shape → List ℕ
 shapeOf a = take (a .dimensions) (a .extents)
-
-unfoldable pub arraysOf : Arrays → List (List ℕ)
-arraysOf A = map shapeOf (take (A .count) (A .shapes))
 
 -- counts within the arrays
 pub record ShapeIn (a : Shape) : Type 0 where
   pub few : a .dimensions ≤ 3
   pub room : length (a .extents) ≡ 3
 
-pub record ArraysIn (A : Arrays) : Type 0 where
-  pub few : A .count ≤ 4
-  pub room : length (A .shapes) ≡ 4
-  pub each : All ShapeIn (take (A .count) (A .shapes))
-
--- one array
 unfoldable pub shape : Reader (List ℕ)
 shape = do
   d ← count 1 3
@@ -40,6 +37,20 @@ pub record ReadsShape (b : List ℕ) (k : ℕ) (r : ShapeRead) : Type 0 where
   -- 4096 × 4096 × 4096
   pub bounded : r .elements ≤ 68719476736
 
-pub record ReadsArrays (b : List ℕ) (k : ℕ) (r : ArraysRead) : Type 0 where
-  pub reads : Reads (arrays b k) b (r .status) (arraysOf (r .arrays)) (r .next)
-  pub within : ArraysIn (r .arrays)
+-- an array can be laid; `room` is the number of words
+pub record LayShapeIn (room i : ℕ) (a : Shape) : Type 0 where
+  pub fits : i * 4 + 4 ≤ room
+  pub within : ShapeIn a
+
+-- ---- all arrays
+
+pub record ReadsArrays (b : List ℕ) (at : ℕ) (e e′ : List ℕ) (r : ArraysRead) : Type 0 where
+  pub arrays : List (List ℕ)
+  pub reads : Reads (Grammar.arrays b at) b (r .status) arrays (r .next)
+  pub count : length arrays ≡ r .count
+  pub few : r .count ≤ 4
+  pub ranges : All ArrayRanges arrays
+  pub room : total arrays ≤ 16384
+  pub laid : e′ ≡ layRows 4 e 0 (map shapeWords arrays)
+  -- as they stand on the slice
+  pub same : arraysOf (take (r .count * 4) e′) ≡ arrays

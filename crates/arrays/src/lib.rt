@@ -1,11 +1,12 @@
-// The arrays of a ticket. `at` is the number of a word, from 1.
+// The arrays of a ticket, read onto a flat slice (`elements`, specs/Layout). `at` is the number of a word, from 1.
 ghost use mathlib.Core.Path.{_≡_};
-ghost use Prim.Native.Nat.{_<_};
+ghost use Prim.Native.Nat.{_*_};
 ghost use lib.ListN.{length};
+ghost use Rattle.lists.specs.Parts.{put};
 ghost use Rattle.reading.specs.Refusals.{Reached};
 ghost use Rattle.reading.specs.declared.Status.the-variants.{Refused};
-ghost use Rattle.model.specs.Grammar.{extents};
-ghost use Rattle.arrays.specs.Arrays.{ReadsShape, ReadsArrays};
+ghost use Rattle.arrays.specs.Laid.{shapeWords};
+ghost use Rattle.arrays.specs.Arrays.{shapeOf, LayShapeIn, ReadsShape, ReadsArrays};
 use reading::Natural;
 use reading::Refusal;
 use reading::Status;
@@ -16,11 +17,6 @@ pub struct Shape {
     pub extents: [usize; 3],
 }
 
-pub struct Arrays {
-    pub count: usize,
-    pub shapes: [Shape; 4],
-}
-
 // With the number of its elements.
 pub struct ShapeRead {
     pub status: Status,
@@ -29,9 +25,10 @@ pub struct ShapeRead {
     pub next: usize,
 }
 
+// The first `count` arrays are laid.
 pub struct ArraysRead {
     pub status: Status,
-    pub arrays: Arrays,
+    pub count: usize,
     pub next: usize,
 }
 
@@ -84,40 +81,37 @@ pub fn read_shape(s: &[u8], at: usize) -> ShapeRead
     }
 }
 
-fn no_shapes() -> [Shape; 4]
-    ensures { λ r. ⌜ length r ≡ 4 ⌝ }
+// Array i of all.
+fn lay_shape(extents: &mut [usize], i: usize, shape: Shape)
+    requires { ⌜ LayShapeIn (length (now extents)) i shape ⌝ }
+    ensures { λ _. ⌜ now (extents .exit) ≡ put (now (extents .entry)) (i * 4) (shapeWords (shapeOf shape)) ⌝ }
 {
-    let blank = Shape {
-        dimensions: 0,
-        extents: [0usize; 3],
-    };
-    [blank; 4]
-}
-
-fn no_arrays(r: Refusal, at: usize) -> ArraysRead
-    ensures { λ q. ⌜ (q .status ≡ Refused r) × (q .next ≡ at) × (q .arrays .count ≡ 0) × (length (q .arrays .shapes) ≡ 4) ⌝ }
-{
-    let blank = no_shapes();
-    ArraysRead {
-        status: Status::Refused(r),
-        arrays: Arrays {
-            count: 0,
-            shapes: blank,
-        },
-        next: at,
+    let at = i * 4;
+    let dimensions = shape.dimensions;
+    let row = shape.extents;
+    extents[at] = dimensions;
+    let mut d = 0;
+    while d < dimensions {
+        extents[at + 1 + d] = row[d];
+        d += 1;
     }
 }
 
 // A count from 1 to 4 and as many arrays, with at most 16,384 elements together, tested after each.
-pub fn read_arrays(s: &[u8], at: usize) -> ArraysRead
-    requires { ⌜ Reached (now s) at ⌝ }
-    ensures { λ r. ⌜ ReadsArrays (now (s .entry)) at r ⌝ }
+pub fn read_arrays(s: &[u8], at: usize, extents: &mut [usize]) -> ArraysRead
+    requires { ⌜ Reached (now s) at × (length (now extents) ≡ 16) ⌝ }
+    ensures { λ r. ⌜ ReadsArrays (now (s .entry)) at (now (extents .entry)) (now (extents .exit)) r ⌝ }
 {
     let count = match reading::read_count(s, at, 1, 4) {
         Natural::Value(v) => v,
-        Natural::Refused(r) => return no_arrays(r, at),
+        Natural::Refused(r) => {
+            return ArraysRead {
+                status: Status::Refused(r),
+                count: 0,
+                next: at,
+            };
+        }
     };
-    let mut shapes = no_shapes();
     let mut total = 0;
     let mut next = at + 1;
     let mut k = 0;
@@ -129,21 +123,28 @@ pub fn read_arrays(s: &[u8], at: usize) -> ArraysRead
                 total = total + one.elements;
                 next = one.next;
                 if 16384 < total {
-                    return no_arrays(Refusal::TooManyElements(next - 1), at);
+                    return ArraysRead {
+                        status: Status::Refused(Refusal::TooManyElements(next - 1)),
+                        count: k,
+                        next: next,
+                    };
                 }
                 let shape = one.shape;
-                shapes[k] = shape;
+                lay_shape(extents, k, shape);
                 k += 1;
             }
-            Status::Refused(r) => return no_arrays(r, at),
+            Status::Refused(r) => {
+                return ArraysRead {
+                    status: Status::Refused(r),
+                    count: k,
+                    next: next,
+                };
+            }
         }
     }
     ArraysRead {
         status: Status::Fine,
-        arrays: Arrays {
-            count: count,
-            shapes: shapes,
-        },
+        count: k,
         next: next,
     }
 }

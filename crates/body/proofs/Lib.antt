@@ -1,3 +1,6 @@
--- Laws of statements that the code's proofs cite.
+-- Accesses that are laid and read back, then what reading lays.
+pub mod SubscriptWrites
+pub mod AccessBack
 pub mod AccessLaws
 pub mod StatementLaws
+pub mod BodyLaws

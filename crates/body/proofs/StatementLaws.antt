@@ -1,16 +1,30 @@
 -- A statement, from its parts.
-use mathlib.Core.Path.{_≡_, ap, _∙_, subst}
+use mathlib.Core.Path.{_≡_, refl, sym, ap, ap₂, _∙_, subst}
 use mathlib.Core.Bool.{cond}
-use mathlib.Core.List.{List, map}
-use Prim.Native.Nat.{ℕ, _+_}
+use mathlib.Core.List.{List, [], _∷_}
+use Prim.Native.Nat.{ℕ, _+_, _<_}
 use native.Mathlib.Omega.{arith}
+use native.Mathlib.Numerals.{add-one}
 use lib.Dec.{eqb}
-use lib.ListN.{take}
+use lib.IntN.{ℤ}
+use lib.ListN.{length, set}
+use Rattle.lists.specs.Parts.{put}
+use Rattle.lists.proofs.PartLaws.{set-is-put, put-put}
 use Rattle.model.specs.Answer.{accepted, refused}
+use Rattle.model.specs.Ticket.{Access, Statement}
+use Rattle.model.specs.Bounds.{accessesOf}
 use Rattle.model.specs.Grammar.{_>>=_, count, natural, times, done, access, statement}
-use Rattle.reading.proofs.ReaderLaws.{after-value, after-refusal, regrouped}
-use Rattle.body.specs.Statements.{accessOf, statementOf, accesses}
-use Rattle.body.specs.declared.Access.{Access}
+use Rattle.reading.specs.Refusals.{answer, firstOf}
+use Rattle.reading.specs.declared.Status.{Status}
+use Rattle.reading.specs.declared.Status.the-variants as Status
+use Rattle.reading.proofs.ReaderLaws.{first-fine, after-value, after-refusal, regrouped}
+use Rattle.elements.specs.Layout.{arraysOf}
+use Rattle.body.specs.Laid.{layAccess, layAccesses, arrayNumbers}
+use Rattle.body.specs.Statements.{Laid, accesses, ReadsAccess, ReadsAccesses, ReadsStatement}
+use Rattle.body.specs.declared.AccessRead.{AccessRead}
+use Rattle.body.specs.declared.AccessesRead.{AccessesRead}
+
+-- ---- the reader
 
 module _ (n : ℕ) (as′ : List (List ℕ)) (b : List ℕ) (k : ℕ) where
   pub no-rule : (q p : ℕ) → natural 0 3 b k ≡ refused q p → statement n as′ b k ≡ refused q p
@@ -31,7 +45,7 @@ module _ (n : ℕ) (as′ : List (List ℕ)) (b : List ℕ) (k : ℕ) where
           let z : k + 1 + 1 ≡ k + 2 = omega arith in
           subst (λ x. natural 0 x b (k + 1) ≡ accepted (record { value = c; next = k + 2 })) s (f ∙ ap (λ j. accepted (record { value = c; next = j })) z)
 
-      pub no-write : (q p : ℕ) → access n as′ b (k + 2) ≡ refused q p → statement n as′ b k ≡ refused q p
+      no-write : (q p : ℕ) → access n as′ b (k + 2) ≡ refused q p → statement n as′ b k ≡ refused q p
       unfolding statement
       no-write q p g =
           after-value (natural 0 3) _ b k v (k + 1) e
@@ -39,23 +53,66 @@ module _ (n : ℕ) (as′ : List (List ℕ)) (b : List ℕ) (k : ℕ) where
           ∙ after-refusal (access n as′) _ b (k + 2) q p g
 
       -- lo is the least number of reads that the rule allows
-      module _ (w : Access) (j lo : ℕ) (t : lo ≡ cond (eqb v 3) 1 0) (g : access n as′ b (k + 2) ≡ accepted (record { value = accessOf n w; next = j })) where
-        pub no-reads : (q p : ℕ) → accesses lo n as′ b j ≡ refused q p → statement n as′ b k ≡ refused q p
+      module _ (w : Access) (j lo : ℕ) (t : lo ≡ cond (eqb v 3) 1 0) (g : access n as′ b (k + 2) ≡ accepted (record { value = w; next = j })) where
+        no-reads : (q p : ℕ) → accesses lo n as′ b j ≡ refused q p → statement n as′ b k ≡ refused q p
         unfolding statement accesses
         no-reads q p h =
             after-value (natural 0 3) _ b k v (k + 1) e
             ∙ after-value (natural 0 (cond (eqb v 3) 0 32767)) _ b (k + 1) c (k + 2) constant-read
-            ∙ after-value (access n as′) _ b (k + 2) (accessOf n w) j g
+            ∙ after-value (access n as′) _ b (k + 2) w j g
             ∙ regrouped (count (cond (eqb v 3) 1 0) 4) (λ i. times i (access n as′)) _ b j
             ∙ after-refusal (count (cond (eqb v 3) 1 0) 4 >>= (λ i. times i (access n as′))) _ b j q p (subst (λ x. accesses x n as′ b j ≡ refused q p) t h)
 
-        pub one-statement : (r i : ℕ) (l : List Access) → accesses lo n as′ b j ≡ accepted (record { value = map (accessOf n) (take r l); next = i })
-            → statement n as′ b k ≡ accepted (record { value = statementOf n (record { rule = v; constant = c; write = w; reads = r; read = l }); next = i })
-        unfolding statement accesses statementOf done
-        one-statement r i l h =
+        one-statement : (l : List Access) (i : ℕ) → accesses lo n as′ b j ≡ accepted (record { value = l; next = i })
+            → statement n as′ b k ≡ accepted (record { value = record { rule = v; constant = c; writes = w ∷ []; reads = l }; next = i })
+        unfolding statement accesses done
+        one-statement l i h =
             after-value (natural 0 3) _ b k v (k + 1) e
             ∙ after-value (natural 0 (cond (eqb v 3) 0 32767)) _ b (k + 1) c (k + 2) constant-read
-            ∙ after-value (access n as′) _ b (k + 2) (accessOf n w) j g
+            ∙ after-value (access n as′) _ b (k + 2) w j g
             ∙ regrouped (count (cond (eqb v 3) 1 0) 4) (λ i. times i (access n as′)) _ b j
-            ∙ after-value (count (cond (eqb v 3) 1 0) 4 >>= (λ i. times i (access n as′))) _ b j (map (accessOf n) (take r l)) i
-            (subst (λ x. accesses x n as′ b j ≡ accepted (record { value = map (accessOf n) (take r l); next = i })) t h)
+            ∙ after-value (count (cond (eqb v 3) 1 0) 4 >>= (λ i. times i (access n as′))) _ b j l i
+            (subst (λ x. accesses x n as′ b j ≡ accepted (record { value = l; next = i })) t h)
+
+      -- the first refusal decides
+      pub joined : (s₁ s₂ : Status) (w : Access) (l : List Access) (lo j i : ℕ) → lo ≡ cond (eqb v 3) 1 0 → answer s₁ w j ≡ access n as′ b (k + 2) → answer s₂ l i ≡ accesses lo n as′ b j
+          → answer (firstOf s₁ s₂) (record { rule = v; constant = c; writes = w ∷ []; reads = l }) i ≡ statement n as′ b k
+      joined (Status.Refused r) s₂ w l lo j i t g h = sym (no-write _ _ (sym g))
+      joined Status.Fine (Status.Refused r) w l lo j i t g h = sym (no-reads w j lo t (sym g) _ _ (sym h))
+      joined Status.Fine Status.Fine w l lo j i t g h = sym (one-statement w j lo t (sym g) l i (sym h))
+
+-- ---- its accesses, the written one first
+
+module _ (k r c : ℕ) (a : Access) (l : List Access) (w v u : List ℤ) (o p q : List ℕ) where
+  pub statement-laid : k < length o → v ≡ layAccess w k a → p ≡ set o k (a .array) → Laid (k + 1) l v u p q → Laid k (accessesOf (record { rule = r; constant = c; writes = a ∷ []; reads = l })) w u o q
+  unfolding accessesOf layAccesses
+  statement-laid h e f g = record {
+    words = g .words ∙ ap₂ (λ x m. layAccesses x m l) e (add-one k);
+    named = g .named ∙ ap (λ x. put x (k + 1) (arrayNumbers l)) (f ∙ set-is-put o k (a .array) h) ∙ put-put o k (a .array ∷ []) (arrayNumbers l) (omega arith);
+  }
+
+module _ (b : List ℕ) (at n : ℕ) (e : List ℕ) (k : ℕ) (w v u : List ℤ) (o p q : List ℕ) (x : AccessRead) (y : AccessesRead) where
+  pub statement-reads : (rule constant m lo : ℕ) (z : Status) → m ≡ cond (eqb rule 3) 0 32767 → natural 0 3 b at ≡ accepted (record { value = rule; next = at + 1 })
+      → natural 0 m b (at + 1) ≡ accepted (record { value = constant; next = at + 1 + 1 }) → lo ≡ cond (eqb rule 3) 1 0 → k < length o
+      → ReadsAccess b (at + 2) n e k w v o p x → ReadsAccesses b (x .next) lo n e (k + 1) v u p q y → z ≡ firstOf (x .status) (y .status)
+      → ReadsStatement b at n e k w u o q (record { status = z; rule = rule; constant = constant; size = y .count + 1; next = y .next })
+  unfolding accessesOf
+  statement-reads rule constant m lo z s f g t h A R d =
+      let S : Statement = record { rule = rule; constant = constant; writes = A .access ∷ []; reads = R .list } in
+      record {
+        statement = S;
+        reads = record {
+          same = ap (λ i. answer i S (y .next)) d ∙ joined n (arraysOf e) b at rule m s f constant g (x .status) (y .status) (A .access) (R .list) lo (x .next) (y .next) t (A .reads .same) (R .reads .same);
+          reached = R .reads .reached;
+        };
+        few = let l = R .few in omega arith;
+        laid = λ a.
+            let h₂ = first-fine (x .status) (y .status) (sym d ∙ a) in
+            let c = R .count (h₂ .1) in
+            record {
+              laid = statement-laid k rule constant (A .access) (R .list) w v u o p q h (A .words (h₂ .0)) (A .named (h₂ .0)) (R .laid (h₂ .1));
+              size = omega arith;
+              rule = refl;
+              constant = refl;
+            };
+      }

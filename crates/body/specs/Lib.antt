@@ -1,2 +1,3 @@
--- The model's lists that this crate's structs stand for, and what reading them gives.
+-- Flat slices with accesses laid over them, and what reading gives.
+pub mod Laid
 pub mod Statements

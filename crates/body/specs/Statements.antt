@@ -1,87 +1,114 @@
--- The accesses and statements that the structs hold. What stands beyond a count is not looked at.
+-- What reading accesses and statements gives: the model's answer, and slices that an accepted one is laid over.
 use mathlib.Core.Path.{_≡_}
-use mathlib.Core.List.{List, [], _∷_, map}
-use Prim.Native.Nat.{ℕ, _≤_}
-use lib.ListN.{length, take}
-use Rattle.lists.specs.Membership.{All}
+use mathlib.Core.List.{List, map}
+use Prim.Native.Nat.{ℕ, _+_, _*_, _≤_, _<_}
+use lib.IntN.{ℤ}
+use lib.ListN.{length, take, getD, set}
+use Rattle.lists.specs.Parts.{put}
 use Rattle.model.specs.Ticket as Model
-use Rattle.model.specs.Grammar.{Reader, _>>=_, count, times, subscript, access, statement, statements}
-use Rattle.reading.specs.Refusals.{Reads}
-use Rattle.arrays.specs.Arrays.{arraysOf}
-use Rattle.arrays.specs.declared.Arrays.{Arrays}
+use Rattle.model.specs.Bounds.{accessesOf}
+use Rattle.model.specs.Grammar as Grammar
+use Rattle.model.specs.Grammar.{Reader, _>>=_, count, times, subscript}
+use Rattle.model.specs.Ranges.{SubscriptRanges}
+use Rattle.reading.specs.Refusals.{Reached, Reads}
+use Rattle.reading.specs.declared.Status.the-variants.{Fine}
+use Rattle.elements.specs.Layout.{arraysOf}
+use Rattle.body.specs.Laid.{layAccess, layAccesses, arrayNumbers, accessesIn, sizeOf}
 use Rattle.body.specs.declared.Subscript.{Subscript}
-use Rattle.body.specs.declared.Access.{Access}
-use Rattle.body.specs.declared.Statement.{Statement}
-use Rattle.body.specs.declared.Body.{Body}
 use Rattle.body.specs.declared.SubscriptRead.{SubscriptRead}
 use Rattle.body.specs.declared.AccessRead.{AccessRead}
 use Rattle.body.specs.declared.AccessesRead.{AccessesRead}
 use Rattle.body.specs.declared.StatementRead.{StatementRead}
 use Rattle.body.specs.declared.BodyRead.{BodyRead}
 
--- n is the number of loops
+-- ---- one subscript; n is the number of loops
 
 unfoldable pub subscriptOf : ℕ → Subscript → Model.Subscript
 subscriptOf n s = record { constant = s .constant; coefficients = take n (s .coefficients) }
 
-unfoldable pub accessOf : ℕ → Access → Model.Access
-accessOf n a = record { array = a .array; subscripts = map (subscriptOf n) (take (a .dimensions) (a .subscripts)) }
-
-unfoldable pub statementOf : ℕ → Statement → Model.Statement
-statementOf n s =
-    record { rule = s .rule; constant = s .constant; writes = accessOf n (s .write) ∷ []; reads = map (accessOf n) (take (s .reads) (s .read)) }
-
-unfoldable pub statementsOf : ℕ → Body → List Model.Statement
-statementsOf n B = map (statementOf n) (take (B .count) (B .statements))
-
--- ---- counts within the arrays
-
+-- counts within the arrays
 pub record SubscriptIn (s : Subscript) : Type 0 where
   pub room : length (s .coefficients) ≡ 6
-
-pub record AccessIn (a : Access) : Type 0 where
-  pub few : a .dimensions ≤ 3
-  pub room : length (a .subscripts) ≡ 3
-  pub each : All SubscriptIn (take (a .dimensions) (a .subscripts))
-
-pub record AccessesIn (n : ℕ) (l : List Access) : Type 0 where
-  pub few : n ≤ 4
-  pub room : length l ≡ 4
-  pub each : All AccessIn (take n l)
-
-pub record StatementIn (s : Statement) : Type 0 where
-  pub write : AccessIn (s .write)
-  pub read : AccessesIn (s .reads) (s .read)
-
-pub record BodyIn (B : Body) : Type 0 where
-  pub few : B .count ≤ 4
-  pub room : length (B .statements) ≡ 4
-  pub each : All StatementIn (take (B .count) (B .statements))
-
--- ---- what reading gives: the model's answer, in arrays that hold it
 
 pub record ReadsSubscript (b : List ℕ) (k n : ℕ) (r : SubscriptRead) : Type 0 where
   pub reads : Reads (subscript n b k) b (r .status) (subscriptOf n (r .subscript)) (r .next)
   pub within : SubscriptIn (r .subscript)
 
-pub record ReadsAccess (b : List ℕ) (k n : ℕ) (A : Arrays) (r : AccessRead) : Type 0 where
-  pub reads : Reads (access n (arraysOf A) b k) b (r .status) (accessOf n (r .access)) (r .next)
-  pub within : AccessIn (r .access)
+-- a subscript can be laid; `room` is the number of words
+pub record LaySubscriptIn (room j n : ℕ) (s : Subscript) : Type 0 where
+  pub fits : j * 8 + 8 ≤ room
+  pub shallow : n ≤ 6
+  pub within : SubscriptIn s
+  pub ranges : SubscriptRanges (subscriptOf n s)
+
+-- ---- what the readers ask: m arrays on a slice, and room for 20 accesses
+
+pub record ArraysIn (e : List ℕ) (m : ℕ) : Type 0 where
+  pub length-is : length e ≡ m * 4
+  pub few : m ≤ 4
+  pub dimensions : (i : ℕ) → i < m → getD e (i * 4) 0 ≤ 3
+  pub extents : (j : ℕ) → getD e j 0 ≤ 4096
+
+pub record Room (b : List ℕ) (at n : ℕ) (e : List ℕ) (m rows names : ℕ) : Type 0 where
+  pub reached : Reached b at
+  pub shallow : n ≤ 6
+  pub arrays : ArraysIn e m
+  pub words : rows ≡ 480
+  pub owners : names ≡ 20
+
+-- ---- one access
+
+pub record ReadsAccess (b : List ℕ) (at n : ℕ) (e : List ℕ) (k : ℕ) (w w′ : List ℤ) (o o′ : List ℕ) (r : AccessRead) : Type 0 where
+  pub access : Model.Access
+  pub reads : Reads (Grammar.access n (arraysOf e) b at) b (r .status) access (r .next)
+  pub words : r .status ≡ Fine → w′ ≡ layAccess w k access
+  pub named : r .status ≡ Fine → o′ ≡ set o k (access .array)
+
+-- ---- accesses from access k on
+
+pub record Laid (k : ℕ) (as′ : List Model.Access) (w w′ : List ℤ) (o o′ : List ℕ) : Type 0 where
+  pub words : w′ ≡ layAccesses w k as′
+  pub named : o′ ≡ put o k (arrayNumbers as′)
 
 -- a count from lo to 4 and as many accesses
 unfoldable pub accesses : ℕ → ℕ → List (List ℕ) → Reader (List Model.Access)
 accesses lo n as′ = do
   m ← count lo 4
-  times m (access n as′)
+  times m (Grammar.access n as′)
 
-pub record ReadsAccesses (b : List ℕ) (k lo n : ℕ) (A : Arrays) (r : AccessesRead) : Type 0 where
-  pub reads : Reads (accesses lo n (arraysOf A) b k) b (r .status) (map (accessOf n) (take (r .count) (r .accesses))) (r .next)
-  pub within : AccessesIn (r .count) (r .accesses)
+pub record ReadsAccesses (b : List ℕ) (at lo n : ℕ) (e : List ℕ) (k : ℕ) (w w′ : List ℤ) (o o′ : List ℕ) (r : AccessesRead) : Type 0 where
+  pub list : List Model.Access
+  pub reads : Reads (accesses lo n (arraysOf e) b at) b (r .status) list (r .next)
+  pub few : r .count ≤ 4
+  pub count : r .status ≡ Fine → length list ≡ r .count
+  pub laid : r .status ≡ Fine → Laid k list w w′ o o′
 
-pub record ReadsStatement (b : List ℕ) (k n : ℕ) (A : Arrays) (r : StatementRead) : Type 0 where
-  pub reads : Reads (statement n (arraysOf A) b k) b (r .status) (statementOf n (r .statement)) (r .next)
-  pub within : StatementIn (r .statement)
+-- ---- statements
 
-pub record ReadsBody (b : List ℕ) (k n : ℕ) (A : Arrays) (r : BodyRead) : Type 0 where
-  pub reads : Reads (statements n (arraysOf A) b k) b (r .status) (statementsOf n (r .body)) (r .next)
-  pub within : BodyIn (r .body)
+pub record StatementLaid (s : Model.Statement) (k : ℕ) (w w′ : List ℤ) (o o′ : List ℕ) (r : StatementRead) : Type 0 where
+  pub laid : Laid k (accessesOf s) w w′ o o′
+  pub size : r .size ≡ sizeOf s
+  pub rule : r .rule ≡ s .rule
+  pub constant : r .constant ≡ s .constant
+
+pub record ReadsStatement (b : List ℕ) (at n : ℕ) (e : List ℕ) (k : ℕ) (w w′ : List ℤ) (o o′ : List ℕ) (r : StatementRead) : Type 0 where
+  pub statement : Model.Statement
+  pub reads : Reads (Grammar.statement n (arraysOf e) b at) b (r .status) statement (r .next)
+  pub few : r .size ≤ 5
+  pub laid : r .status ≡ Fine → StatementLaid statement k w w′ o o′ r
+
+-- sizes, rules and constants beside the accesses
+pub record BodyLaid (ss : List Model.Statement) (w w′ : List ℤ) (o o′ ms rs cs : List ℕ) (r : BodyRead) : Type 0 where
+  pub laid : Laid 0 (accessesIn ss) w w′ o o′
+  pub count : length ss ≡ r .count
+  pub accesses : r .accesses ≡ length (accessesIn ss)
+  pub sizes : take (r .count) ms ≡ map sizeOf ss
+  pub rules : take (r .count) rs ≡ map (λ (s : Model.Statement). s .rule) ss
+  pub constants : take (r .count) cs ≡ map (λ (s : Model.Statement). s .constant) ss
+
+pub record ReadsBody (b : List ℕ) (at n : ℕ) (e : List ℕ) (w w′ : List ℤ) (o o′ ms rs cs : List ℕ) (r : BodyRead) : Type 0 where
+  pub statements : List Model.Statement
+  pub reads : Reads (Grammar.statements n (arraysOf e) b at) b (r .status) statements (r .next)
+  pub few : r .count ≤ 4
+  pub few-accesses : r .accesses ≤ 20
+  pub laid : r .status ≡ Fine → BodyLaid statements w w′ o o′ ms rs cs r

@@ -1,15 +1,14 @@
-// The statements of a ticket. `at` is the number of a word, from 1.
+// The statements of a ticket, read onto flat slices (`elements`, specs/Layout). `at` is the number of a word, from 1.
 ghost use mathlib.Core.Path.{_≡_};
-ghost use Prim.Native.Nat.{_<_, _≤_};
+ghost use Prim.Native.Nat.{_+_, _*_, _<_, _≤_};
 ghost use mathlib.Core.Bool.{cond};
 ghost use lib.Dec.{eqb};
 ghost use lib.ListN.{length};
+ghost use Rattle.lists.specs.Parts.{put};
 ghost use Rattle.reading.specs.Refusals.{Reached};
 ghost use Rattle.reading.specs.declared.Status.the-variants.{Refused};
-ghost use Rattle.model.specs.Grammar.{extents};
-ghost use Rattle.arrays.specs.Arrays.{arraysOf, ArraysIn};
-ghost use Rattle.body.specs.Statements.{SubscriptIn, AccessIn, AccessesIn, StatementIn, BodyIn, ReadsSubscript, ReadsAccess, ReadsAccesses, ReadsStatement, ReadsBody};
-use arrays::Arrays;
+ghost use Rattle.body.specs.Laid.{subscriptWords};
+ghost use Rattle.body.specs.Statements.{subscriptOf, SubscriptIn, LaySubscriptIn, Room, ReadsSubscript, ReadsAccess, ReadsAccesses, ReadsStatement, ReadsBody};
 use reading::Natural;
 use reading::Number;
 use reading::Refusal;
@@ -21,27 +20,6 @@ pub struct Subscript {
     pub coefficients: [i32; 6],
 }
 
-// An array, from 0, and its first `dimensions` subscripts.
-pub struct Access {
-    pub array: usize,
-    pub dimensions: usize,
-    pub subscripts: [Subscript; 3],
-}
-
-// The first `reads` of `read` are read.
-pub struct Statement {
-    pub rule: usize,
-    pub constant: usize,
-    pub write: Access,
-    pub reads: usize,
-    pub read: [Access; 4],
-}
-
-pub struct Body {
-    pub count: usize,
-    pub statements: [Statement; 4],
-}
-
 pub struct SubscriptRead {
     pub status: Status,
     pub subscript: Subscript,
@@ -50,26 +28,29 @@ pub struct SubscriptRead {
 
 pub struct AccessRead {
     pub status: Status,
-    pub access: Access,
     pub next: usize,
 }
 
 pub struct AccessesRead {
     pub status: Status,
     pub count: usize,
-    pub accesses: [Access; 4],
     pub next: usize,
 }
 
+// With the number of its accesses.
 pub struct StatementRead {
     pub status: Status,
-    pub statement: Statement,
+    pub rule: usize,
+    pub constant: usize,
+    pub size: usize,
     pub next: usize,
 }
 
+// With the number of the accesses of all statements.
 pub struct BodyRead {
     pub status: Status,
-    pub body: Body,
+    pub count: usize,
+    pub accesses: usize,
     pub next: usize,
 }
 
@@ -114,163 +95,129 @@ pub fn read_subscript(s: &[u8], at: usize, depth: usize) -> SubscriptRead
     }
 }
 
-fn no_subscripts() -> [Subscript; 3]
-    ensures { λ r. ⌜ length r ≡ 3 ⌝ }
+// Subscript j of all.
+fn lay_subscript(words: &mut [i16], j: usize, subscript: Subscript, depth: usize)
+    requires { ⌜ LaySubscriptIn (length (now words)) j depth subscript ⌝ }
+    ensures { λ _. ⌜ now (words .exit) ≡ put (now (words .entry)) (j * 8) (subscriptWords (subscriptOf depth subscript)) ⌝ }
 {
-    let blank = Subscript {
-        constant: 0,
-        coefficients: [0i32; 6],
-    };
-    [blank; 3]
+    let at = j * 8;
+    let constant = subscript.constant;
+    let coefficients = subscript.coefficients;
+    words[at] = constant as i16;
+    nest::lay_row(words, at + 1, &coefficients[..depth]);
 }
 
-fn blank_access() -> Access
-    ensures { λ r. ⌜ AccessIn r ⌝ }
+// Access k: the number of an array, from 1, and a subscript for each of its dimensions.
+fn read_access(
+    s: &[u8],
+    at: usize,
+    depth: usize,
+    extents: &[usize],
+    arrays: usize,
+    words: &mut [i16],
+    owners: &mut [usize],
+    k: usize,
+) -> AccessRead
+    requires { ⌜ Room (now s) at depth (now extents) arrays (length (now words)) (length (now owners)) × (k < 20) ⌝ }
+    ensures { λ r. ⌜ ReadsAccess (now (s .entry)) at depth (now (extents .entry)) k (now (words .entry)) (now (words .exit)) (now (owners .entry)) (now (owners .exit)) r ⌝ }
 {
-    let blank = no_subscripts();
-    Access {
-        array: 0,
-        dimensions: 0,
-        subscripts: blank,
-    }
-}
-
-fn no_access(r: Refusal, at: usize) -> AccessRead
-    ensures { λ q. ⌜ (q .status ≡ Refused r) × (q .next ≡ at) × AccessIn (q .access) ⌝ }
-{
-    let blank = blank_access();
-    AccessRead {
-        status: Status::Refused(r),
-        access: blank,
-        next: at,
-    }
-}
-
-fn dimensions_of(arrays: Arrays, array: usize) -> usize
-    requires { ⌜ ArraysIn arrays × (array < arrays .count) ⌝ }
-    ensures { λ r. ⌜ (r ≡ length (extents (arraysOf arrays) array)) × (r ≤ 3) ⌝ }
-{
-    let shape = arrays.shapes[array];
-    shape.dimensions
-}
-
-// The number of an array, from 1, and a subscript for each of its dimensions.
-pub fn read_access(s: &[u8], at: usize, depth: usize, arrays: Arrays) -> AccessRead
-    requires { ⌜ Reached (now s) at × (depth ≤ 6) × ArraysIn arrays ⌝ }
-    ensures { λ r. ⌜ ReadsAccess (now (s .entry)) at depth arrays r ⌝ }
-{
-    let number = match reading::read_natural(s, at, 1, arrays.count) {
+    let number = match reading::read_natural(s, at, 1, arrays) {
         Natural::Value(v) => v,
-        Natural::Refused(r) => return no_access(r, at),
+        Natural::Refused(r) => {
+            return AccessRead {
+                status: Status::Refused(r),
+                next: at,
+            };
+        }
     };
     let array = number - 1;
-    let dimensions = dimensions_of(arrays, array);
-    let mut subscripts = no_subscripts();
+    let dimensions = extents[array * 4];
+    owners[k] = array;
     let mut next = at + 1;
-    let mut k = 0;
-    while k < dimensions {
+    let mut d = 0;
+    while d < dimensions {
         let one = read_subscript(s, next, depth);
         let status = one.status;
         match status {
             Status::Fine => {
                 let subscript = one.subscript;
-                subscripts[k] = subscript;
+                lay_subscript(words, k * 3 + d, subscript, depth);
                 next = one.next;
-                k += 1;
+                d += 1;
             }
-            Status::Refused(r) => return no_access(r, at),
+            Status::Refused(r) => {
+                return AccessRead {
+                    status: Status::Refused(r),
+                    next: at,
+                };
+            }
         }
     }
     AccessRead {
         status: Status::Fine,
-        access: Access {
-            array: array,
-            dimensions: dimensions,
-            subscripts: subscripts,
-        },
         next: next,
     }
 }
 
-fn no_accesses() -> [Access; 4]
-    ensures { λ r. ⌜ length r ≡ 4 ⌝ }
-{
-    let blank = blank_access();
-    [blank; 4]
-}
-
-fn none_read(r: Refusal, at: usize) -> AccessesRead
-    ensures { λ q. ⌜ (q .status ≡ Refused r) × (q .next ≡ at) × AccessesIn (q .count) (q .accesses) ⌝ }
-{
-    let blank = no_accesses();
-    AccessesRead {
-        status: Status::Refused(r),
-        count: 0,
-        accesses: blank,
-        next: at,
-    }
-}
-
-// A count from `least` to 4 and as many accesses.
-pub fn read_accesses(
+// A count from `least` to 4 and as many accesses, from access k on.
+fn read_accesses(
     s: &[u8],
     at: usize,
     least: usize,
     depth: usize,
-    arrays: Arrays,
+    extents: &[usize],
+    arrays: usize,
+    words: &mut [i16],
+    owners: &mut [usize],
+    k: usize,
 ) -> AccessesRead
-    requires { ⌜ Reached (now s) at × (depth ≤ 6) × ArraysIn arrays ⌝ }
-    ensures { λ r. ⌜ ReadsAccesses (now (s .entry)) at least depth arrays r ⌝ }
+    requires { ⌜ Room (now s) at depth (now extents) arrays (length (now words)) (length (now owners)) × (k + 4 ≤ 20) ⌝ }
+    ensures { λ r. ⌜ ReadsAccesses (now (s .entry)) at least depth (now (extents .entry)) k (now (words .entry)) (now (words .exit)) (now (owners .entry)) (now (owners .exit)) r ⌝ }
 {
     let count = match reading::read_count(s, at, least, 4) {
         Natural::Value(v) => v,
-        Natural::Refused(r) => return none_read(r, at),
+        Natural::Refused(r) => {
+            return AccessesRead {
+                status: Status::Refused(r),
+                count: 0,
+                next: at,
+            };
+        }
     };
-    let mut accesses = no_accesses();
     let mut next = at + 1;
-    let mut k = 0;
-    while k < count {
-        let one = read_access(s, next, depth, arrays);
+    let mut i = 0;
+    while i < count {
+        let one = read_access(s, next, depth, extents, arrays, words, owners, k + i);
         let status = one.status;
         match status {
             Status::Fine => {
-                let access = one.access;
-                accesses[k] = access;
                 next = one.next;
-                k += 1;
+                i += 1;
             }
-            Status::Refused(r) => return none_read(r, at),
+            Status::Refused(r) => {
+                return AccessesRead {
+                    status: Status::Refused(r),
+                    count: i,
+                    next: at,
+                };
+            }
         }
     }
     AccessesRead {
         status: Status::Fine,
-        count: count,
-        accesses: accesses,
+        count: i,
         next: next,
     }
 }
 
-fn blank_statement() -> Statement
-    ensures { λ r. ⌜ StatementIn r ⌝ }
-{
-    let write = blank_access();
-    let read = no_accesses();
-    Statement {
-        rule: 0,
-        constant: 0,
-        write: write,
-        reads: 0,
-        read: read,
-    }
-}
-
 fn no_statement(r: Refusal, at: usize) -> StatementRead
-    ensures { λ q. ⌜ (q .status ≡ Refused r) × (q .next ≡ at) × StatementIn (q .statement) ⌝ }
+    ensures { λ q. ⌜ (q .status ≡ Refused r) × (q .next ≡ at) × (q .size ≡ 0) ⌝ }
 {
-    let blank = blank_statement();
     StatementRead {
         status: Status::Refused(r),
-        statement: blank,
+        rule: 0,
+        constant: 0,
+        size: 0,
         next: at,
     }
 }
@@ -288,10 +235,20 @@ fn least_reads(rule: usize) -> usize
     if rule == 3 { 1 } else { 0 }
 }
 
-// Rule, constant, the access written, and those read.
-pub fn read_statement(s: &[u8], at: usize, depth: usize, arrays: Arrays) -> StatementRead
-    requires { ⌜ Reached (now s) at × (depth ≤ 6) × ArraysIn arrays ⌝ }
-    ensures { λ r. ⌜ ReadsStatement (now (s .entry)) at depth arrays r ⌝ }
+// Rule, constant, the access written, and those read, from access k on. Reads are read from where the write was refused too, and not
+// looked at.
+fn read_statement(
+    s: &[u8],
+    at: usize,
+    depth: usize,
+    extents: &[usize],
+    arrays: usize,
+    words: &mut [i16],
+    owners: &mut [usize],
+    k: usize,
+) -> StatementRead
+    requires { ⌜ Room (now s) at depth (now extents) arrays (length (now words)) (length (now owners)) × (k + 5 ≤ 20) ⌝ }
+    ensures { λ r. ⌜ ReadsStatement (now (s .entry)) at depth (now (extents .entry)) k (now (words .entry)) (now (words .exit)) (now (owners .entry)) (now (owners .exit)) r ⌝ }
 {
     let rule = match reading::read_natural(s, at, 0, 3) {
         Natural::Value(v) => v,
@@ -301,89 +258,88 @@ pub fn read_statement(s: &[u8], at: usize, depth: usize, arrays: Arrays) -> Stat
         Natural::Value(v) => v,
         Natural::Refused(r) => return no_statement(r, at),
     };
-    let first = read_access(s, at + 2, depth, arrays);
-    let status = first.status;
-    match status {
-        Status::Fine => {}
-        Status::Refused(r) => return no_statement(r, at),
-    }
+    let first = read_access(s, at + 2, depth, extents, arrays, words, owners, k);
     let middle = first.next;
-    let others = read_accesses(s, middle, least_reads(rule), depth, arrays);
-    let status = others.status;
-    match status {
-        Status::Fine => {
-            let write = first.access;
-            let reads = others.count;
-            let read = others.accesses;
-            let next = others.next;
-            StatementRead {
-                status: Status::Fine,
-                statement: Statement {
-                    rule: rule,
-                    constant: constant,
-                    write: write,
-                    reads: reads,
-                    read: read,
-                },
-                next: next,
-            }
-        }
-        Status::Refused(r) => no_statement(r, at),
-    }
-}
-
-fn no_statements() -> [Statement; 4]
-    ensures { λ r. ⌜ length r ≡ 4 ⌝ }
-{
-    let blank = blank_statement();
-    [blank; 4]
-}
-
-fn no_body(r: Refusal, at: usize) -> BodyRead
-    ensures { λ q. ⌜ (q .status ≡ Refused r) × (q .next ≡ at) × BodyIn (q .body) ⌝ }
-{
-    let blank = no_statements();
-    BodyRead {
-        status: Status::Refused(r),
-        body: Body {
-            count: 0,
-            statements: blank,
-        },
-        next: at,
+    let least = least_reads(rule);
+    let others = read_accesses(
+        s,
+        middle,
+        least,
+        depth,
+        extents,
+        arrays,
+        words,
+        owners,
+        k + 1,
+    );
+    let a = first.status;
+    let b = others.status;
+    let status = reading::first_of(a, b);
+    StatementRead {
+        status: status,
+        rule: rule,
+        constant: constant,
+        size: others.count + 1,
+        next: others.next,
     }
 }
 
 // The section: a count from 1 to 4 and as many statements, in body order.
-pub fn read_body(s: &[u8], at: usize, depth: usize, arrays: Arrays) -> BodyRead
-    requires { ⌜ Reached (now s) at × (depth ≤ 6) × ArraysIn arrays ⌝ }
-    ensures { λ r. ⌜ ReadsBody (now (s .entry)) at depth arrays r ⌝ }
+pub fn read_body(
+    s: &[u8],
+    at: usize,
+    depth: usize,
+    extents: &[usize],
+    arrays: usize,
+    words: &mut [i16],
+    owners: &mut [usize],
+    sizes: &mut [usize],
+    rules: &mut [usize],
+    constants: &mut [usize],
+) -> BodyRead
+    requires { ⌜ Room (now s) at depth (now extents) arrays (length (now words)) (length (now owners)) × (length (now sizes) ≡ 4) × (length (now rules) ≡ 4) × (length (now constants) ≡ 4) ⌝ }
+    ensures { λ r. ⌜ ReadsBody (now (s .entry)) at depth (now (extents .entry)) (now (words .entry)) (now (words .exit)) (now (owners .entry)) (now (owners .exit)) (now (sizes .exit)) (now (rules .exit)) (now (constants .exit)) r ⌝ }
 {
     let count = match reading::read_count(s, at, 1, 4) {
         Natural::Value(v) => v,
-        Natural::Refused(r) => return no_body(r, at),
+        Natural::Refused(r) => {
+            return BodyRead {
+                status: Status::Refused(r),
+                count: 0,
+                accesses: 0,
+                next: at,
+            };
+        }
     };
-    let mut all = no_statements();
+    let mut accesses = 0;
     let mut next = at + 1;
-    let mut k = 0;
-    while k < count {
-        let one = read_statement(s, next, depth, arrays);
+    let mut i = 0;
+    while i < count {
+        let one = read_statement(s, next, depth, extents, arrays, words, owners, accesses);
         let status = one.status;
         match status {
             Status::Fine => {
-                let statement = one.statement;
-                all[k] = statement;
+                sizes[i] = one.size;
+                rules[i] = one.rule;
+                constants[i] = one.constant;
+                accesses = accesses + one.size;
                 next = one.next;
-                k += 1;
+                i += 1;
             }
-            Status::Refused(r) => return no_body(r, at),
+            Status::Refused(r) => {
+                return BodyRead {
+                    status: Status::Refused(r),
+                    count: i,
+                    accesses: accesses,
+                    next: at,
+                };
+            }
         }
     }
     BodyRead {
         status: Status::Fine,
-        body: Body {
-            count: count,
-            statements: all,
-        },
+        count: i,
+        accesses: accesses,
         next: next,
     }
 }

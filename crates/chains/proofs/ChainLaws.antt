@@ -7,9 +7,10 @@ use mathlib.Core.List.{List}
 use Prim.Native.Nat.{ℕ, zero, suc, _+_, _-_, _≤_, _<_}
 use native.Mathlib.Nat.{eq-or-lt-of-le}
 use native.Mathlib.Numerals.{add-one}
+use native.Mathlib.Decide.{decLt}
 use native.Mathlib.Omega.{arith}
 use lib.Dec.{T, eqb}
-use lib.ListN.{length, getD, set}
+use lib.ListN.{length, getD, set, length-set, List·getD-eq-default}
 use lib.Seq.{getD-set-same, getD-set-other}
 use borrow.Author.Count.{below-more}
 use borrow.Author.Tests.{eq-eqb, eqb-true, eqb-false, not-false}
@@ -81,37 +82,40 @@ cases-upTo false x y (inr h) = absurd (h .1)
 -- ---- the heads of the chains: for each element its latest place below y
 
 abbrev pub Heads : List ℕ → List ℕ → ℕ → Type 0
-Heads from head y = (e : ℕ) → e < 16384 → getD head e 0 ≡ latest from e y
+Heads from head y = (e : ℕ) → e < length head → getD head e 0 ≡ latest from e y
 
 pub heads-none : (from head : List ℕ) → Clear head → Heads from head 0
 unfolding latest
-heads-none from head h = h
+heads-none from head h e k = h e
 
-pub heads-more : (from head : List ℕ) (y f v : ℕ) → 16384 ≤ length head → f < 16384 → f ≡ getD from y 0 → v ≡ y + 1 → Heads from head y → Heads from (set head f v) (y + 1)
+pub heads-more : (from head : List ℕ) (y f v : ℕ) → f < length head → f ≡ getD from y 0 → v ≡ y + 1 → Heads from head y → Heads from (set head f v) (y + 1)
 unfolding latest
-heads-more from head y f v l b i n h e k = rw (n, add-one y) (go (eqb (getD from y 0) e) refl)
+heads-more from head y f v b i n h e k = rw (n, add-one y) (go (eqb (getD from y 0) e) refl)
   where
     go : (t : Bool) → eqb (getD from y 0) e ≡ t → getD (set head f (suc y)) e 0 ≡ cond (eqb (getD from y 0) e) (suc y) (latest from e y)
     go true g = let a : f ≡ e = i ∙ eqb-true (getD from y 0) e g in rw (g, a) (getD-set-same head e (suc y) 0 (omega arith))
-    go false g = rw g (getD-set-other head f e (suc y) 0 (λ a. eqb-false (getD from y 0) e g (sym i ∙ sym a)) ∙ h e k)
+    go false g = rw g (getD-set-other head f e (suc y) 0 (λ a. eqb-false (getD from y 0) e g (sym i ∙ sym a)) ∙ h e (let z = length-set head f v in omega arith))
 
 -- the heads are taken away again, the latest place first
 
 pub heads-else : (from head : List ℕ) (y : ℕ) → Heads from head y → ClearElse from head y
-heads-else from head y h e k l = h e k ∙ l
+heads-else from head y h e l = elim (decLt e (length head)) [
+  | yes k ↦ h e k ∙ l
+  | no k ↦ List·getD-eq-default head 0 (omega arith)
+]
 
-pub clear-less : (from head : List ℕ) (y f : ℕ) → 16384 ≤ length head → 0 < y → f ≡ getD from (y - 1) 0 → ClearElse from head y → ClearElse from (set head f 0) (y - 1)
+pub clear-less : (from head : List ℕ) (y f : ℕ) → f < length head → 0 < y → f ≡ getD from (y - 1) 0 → ClearElse from head y → ClearElse from (set head f 0) (y - 1)
 unfolding latest
-clear-less from head y f l p i h e k none = go (eqb (getD from (y - 1) 0) e) refl
+clear-less from head y f l p i h e none = go (eqb (getD from (y - 1) 0) e) refl
   where
     go : (t : Bool) → eqb (getD from (y - 1) 0) e ≡ t → getD (set head f 0) e 0 ≡ 0
     go true g = let a : f ≡ e = i ∙ eqb-true (getD from (y - 1) 0) e g in rw a (getD-set-same head e 0 0 (omega arith))
     go false g = getD-set-other head f e 0 0 (λ a. eqb-false (getD from (y - 1) 0) e g (sym i ∙ sym a))
-        ∙ h e k (let j : y ≡ suc (y - 1) = (let z : y ≡ (y - 1) + 1 = omega arith in z) ∙ add-one (y - 1) in ap (latest from e) j ∙ ap (λ b. cond b (suc (y - 1)) (latest from e (y - 1))) g ∙ none)
+        ∙ h e (let j : y ≡ suc (y - 1) = (let z : y ≡ (y - 1) + 1 = omega arith in z) ∙ add-one (y - 1) in ap (latest from e) j ∙ ap (λ b. cond b (suc (y - 1)) (latest from e (y - 1))) g ∙ none)
 
 pub clear-all : (from head : List ℕ) (y : ℕ) → y ≤ 0 → ClearElse from head y → Clear head
 unfolding latest
-clear-all from head y l h e k = h e k (ap (latest from e) (let z : y ≡ 0 = omega arith in z))
+clear-all from head y l h e = h e (ap (latest from e) (let z : y ≡ 0 = omega arith in z))
 
 -- ---- links
 
@@ -128,11 +132,11 @@ unlinked-more out false y l b h e = below-more (λ k. getD (set out y l) k 0 ≡
     (λ k g. getD-set-other out y k l 0 (λ a. let r : k ≡ y = a in absurd (omega arith)) ∙ h refl k g) (getD-set-same out y l 0 b ∙ eqb-true l 0 (not-false (eqb l 0) e))
 
 -- the link of y is read before its own place is entered, or after
-pub link-turn : (from head head′ : List ℕ) (own : Bool) (y e e′ l : ℕ) → e < 16384 → e ≡ e′ → Heads from head y → Heads from head′ (y + 1)
+pub link-turn : (from head head′ : List ℕ) (own : Bool) (y e e′ l : ℕ) → e < length head → length head′ ≡ length head → e ≡ e′ → Heads from head y → Heads from head′ (y + 1)
     → ((own ≡ true) × (l ≡ getD head′ e 0)) ⊎ ((own ≡ false) × (l ≡ getD head e 0)) → l ≡ latest from e′ (upTo own y)
 unfolding upTo
-link-turn from head head′ own y e e′ l b i h g (inl w) = rw (w .0, ← i) (w .1 ∙ g e b)
-link-turn from head head′ own y e e′ l b i h g (inr w) = rw (w .0, ← i) (w .1 ∙ h e b)
+link-turn from head head′ own y e e′ l b z i h g (inl w) = rw (w .0, ← i) (w .1 ∙ g e (omega arith))
+link-turn from head head′ own y e e′ l b z i h g (inr w) = rw (w .0, ← i) (w .1 ∙ h e b)
 
 -- ---- a walk
 

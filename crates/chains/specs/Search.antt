@@ -49,18 +49,19 @@ pub record NextLinked (links : List ℕ) (y n r : ℕ) : Type 0 where
 
 -- no element has a head
 abbrev pub Clear : List ℕ → Type 0
-Clear head = (e : ℕ) → e < 16384 → getD head e 0 ≡ 0
+Clear head = (e : ℕ) → getD head e 0 ≡ 0
 
 -- no element has a head but those that `from` has below y
 abbrev pub ClearElse : List ℕ → List ℕ → ℕ → Type 0
-ClearElse from head y = (e : ℕ) → e < 16384 → latest from e y ≡ 0 → getD head e 0 ≡ 0
+ClearElse from head y = (e : ℕ) → latest from e y ≡ 0 → getD head e 0 ≡ 0
 
+-- a head is lent for each element
 pub record Linkable (from to head out : List ℕ) : Type 0 where
   pub few : length from ≤ 4096
   pub both : length to ≡ length from
-  pub sources : Below 16384 from
-  pub sinks : Below 16384 to
-  pub heads : 16384 ≤ length head
+  pub sources : Below (length head) from
+  pub sinks : Below (length head) to
+  pub heads : length head ≤ 16384
   pub clear : Clear head
   pub room : length from ≤ length out
 
@@ -126,15 +127,14 @@ pub record Searchable (s : List ℤ) (d : ℕ) (from to : List ℕ) (base : ℕ)
   pub shallow : d ≤ 6
   pub stored : length from * d ≤ length s
   pub rising : Ordered Earlier (rows d (length from) s)
-  pub sources : Below 16384 from
-  pub sinks : Below 16384 to
   pub room : base + 729 ≤ length marks
 
 -- the links of the sources are there; a head for each element is lent, and room for the links of the sinks
 pub record Linked (from next head start : List ℕ) : Type 0 where
   pub nexts : Links from from false next
   pub table : length from ≤ length next
-  pub heads : 16384 ≤ length head
+  pub sources : Below (length head) from
+  pub heads : length head ≤ 16384
   pub clear : Clear head
   pub room : length from ≤ length start
 

@@ -22,7 +22,7 @@ fn narrow(x: usize) -> u16
 
 // Takes the heads of all elements that `from` has away.
 fn clear(from: &[u16], head: &mut [u16])
-    requires { ⌜ Below 16384 (now from) × (16384 ≤ length (now head)) × ClearElse (now from) (now head) (length (now from)) ⌝ }
+    requires { ⌜ Below (length (now head)) (now from) × (length (now head) ≤ 16384) × ClearElse (now from) (now head) (length (now from)) ⌝ }
     ensures { λ _. ⌜ Clear (now (head .exit)) ⌝ }
 {
     let mut y = from.len();
@@ -220,7 +220,7 @@ pub fn search(
     start: &mut [u16],
     marks: &mut [bool],
 )
-    requires { ⌜ Searchable (now points) depth (now from) (now to) base (now marks) × Linked (now from) (now next) (now head) (now start) ⌝ }
+    requires { ⌜ Searchable (now points) depth (now from) (now to) base (now marks) × Linked (now from) (now next) (now head) (now start) × Below (length (now head)) (now to) ⌝ }
     ensures { λ _. ⌜ Adds (now (marks .entry)) (now (marks .exit)) (found depth (now (points .entry)) (length (now (from .entry))) (now (from .entry)) (now (to .entry)) own base) × Clear (now (head .exit)) ⌝ }
 {
     if link(from, to, own, head, start) {

@@ -18,16 +18,16 @@ use Rattle.model.specs.Machine.{same, element}
 use Rattle.model.specs.Directions.{earlier}
 use Rattle.model.specs.Inside.{Earlier}
 use Rattle.vectors.specs.Candidates.{row}
-use Rattle.dependence.specs.Flat.{Flat, flat, numberAt, pointAt, usesFrom, useAt, Describes, Ready}
+use Rattle.dependence.specs.Flat.{Flat, flat, numberAt, pointAt, usesFrom, useAt, Describes, Ready, NumbersBelow}
 
 abbrev body : List Statement
 body = (record { rule = 0; constant = 0; writes = (record { array = 0; subscripts = (record { constant = pos 0; coefficients = pos 0 ∷ [] }) ∷ [] }) ∷ []; reads = [] }) ∷ []
 
 abbrev stored : Flat
-stored = flat (pos 0 ∷ pos 1 ∷ []) 1 2 (replicate 4096 0) (0 ∷ []) (true ∷ []) 1
+stored = flat (pos 0 ∷ pos 1 ∷ []) 1 2 (replicate 2 0) (0 ∷ []) (true ∷ []) 1
 
 number-is : (a x : ℕ) → a < 1 → x < 2 → numberAt stored a x ≡ 0
-number-is a x h g = getD-replicate 4096 (a * 4096 + x) 0 0 (omega arith)
+number-is a x h g = getD-replicate 2 (a * 2 + x) 0 0 (omega arith)
 
 element-is : (a x : ℕ) → a < 1 → x < 2 → element (pointAt stored x) (useAt body a .access) ≡ record { array = 0; subscripts = pos 0 ∷ [] }
 unfolding row useAt usesFrom element subscriptAt affine dot
@@ -45,14 +45,16 @@ ready = record {
   rising = (all-cons (Earlier (pos 0 ∷ [])) tt (all-nil (Earlier (pos 0 ∷ []))), (all-nil (Earlier (pos 1 ∷ [])), tt));
   both = refl;
   inBody = one;
-  table = omega (arith, length-replicate {A = ℕ} 4096 0);
-  small = λ a x h g. (let e = number-is a x h g in omega arith);
+  table = omega (arith, length-replicate {A = ℕ} 2 0);
   room = omega (arith, length-replicate {A = Bool} 2187 false);
 }
   where
     one : (a : ℕ) → a < 1 → getD (0 ∷ []) a 0 < 1
     one zero h = omega arith
     one (suc a) h = absurd (omega arith)
+
+pub numbers-below : NumbersBelow 1 stored
+numbers-below = record { few = omega arith; below = λ a x h g. (let e = number-is a x h g in omega arith) }
 
 pub describes : Describes body stored
 unfolding usesFrom same sameBy

@@ -19,7 +19,7 @@ use Rattle.chains.specs.Search.{some, found, Clear}
 
 -- ---- flat data
 
--- points: rows of `depth` indices. Of each access: its element number at each point, 4096 numbers apart; its statement; whether it writes.
+-- points: rows of `depth` indices. Of each access: its element number at each point, one access after the other; its statement; whether it writes.
 pub record Flat : Type 0 where
   pub points : List ℤ
   pub depth : ℕ
@@ -33,7 +33,7 @@ abbrev pub flat : List ℤ → ℕ → ℕ → List ℕ → List ℕ → List Bo
 flat p d n e s w b = record { points = p; depth = d; count = n; numbers = e; statements = s; writes = w; body = b }
 
 abbrev pub numberAt : Flat → ℕ → ℕ → ℕ
-numberAt F a x = getD (F .numbers) (a * 4096 + x) 0
+numberAt F a x = getD (F .numbers) (a * F .count + x) 0
 
 abbrev pub statementOf : Flat → ℕ → ℕ
 statementOf F a = getD (F .statements) a 0
@@ -88,9 +88,13 @@ pub record Ready (F : Flat) (marks : List Bool) : Type 0 where
   pub rising : Ordered Earlier (pointsOf F)
   pub both : length (F .writes) ≡ length (F .statements)
   pub inBody : (a : ℕ) → a < length (F .statements) → statementOf F a < F .body
-  pub table : length (F .statements) * 4096 ≤ length (F .numbers)
-  pub small : (a x : ℕ) → a < length (F .statements) → x < F .count → numberAt F a x < 16384
+  pub table : length (F .statements) * F .count ≤ length (F .numbers)
   pub room : F .body * F .body * 2187 ≤ length marks
+
+-- every number is below m, of which there are no more than elements
+pub record NumbersBelow (m : ℕ) (F : Flat) : Type 0 where
+  pub few : m ≤ 16384
+  pub below : (a x : ℕ) → a < length (F .statements) → x < F .count → numberAt F a x < m
 
 -- the mark of every line that there could be is set if the model says that it occurs, and no other mark changes
 pub record Searched (F : Flat) (m m′ : List Bool) : Type 0 where
@@ -109,7 +113,7 @@ kindOf false false = 3
 
 -- the element numbers of access a at n points
 unfoldable pub numbersOf : ℕ → List ℕ → ℕ → List ℕ
-numbersOf n numbers a = take n (drop (a * 4096) numbers)
+numbersOf n numbers a = take n (drop (a * n) numbers)
 
 unfoldable pub setBy : Flat → ℕ → ℕ → ℕ → Bool
 setBy F a b j = ltb (kindOf (writesAt F a) (writesAt F b)) 3
@@ -125,7 +129,7 @@ setFrom F a j = some (length (F .statements)) (λ b. setBy F a b j)
 pub record Listed (n : ℕ) (numbers statements : List ℕ) (writes : List Bool) : Type 0 where
   pub few : n ≤ 4096
   pub both : length writes ≡ length statements
-  pub table : length statements * 4096 ≤ length numbers
+  pub table : length statements * n ≤ length numbers
 
 -- two accesses of one statement that name the same elements in the same way
 pub record Alike (n : ℕ) (numbers statements : List ℕ) (writes : List Bool) (a b : ℕ) : Type 0 where
@@ -140,9 +144,9 @@ pub record FirstLike (n : ℕ) (numbers statements : List ℕ) (writes : List Bo
 
 -- ---- what is lent for links
 
--- room for the links of n sources and n sinks, and a head for each element, of which none is there
-pub record Lent (n : ℕ) (next head start : List ℕ) : Type 0 where
-  pub nexts : n ≤ length next
-  pub heads : 16384 ≤ length head
+-- room for the links of the sources and of the sinks, and a head for each element, of which none is there
+pub record Lent (F : Flat) (next head start : List ℕ) : Type 0 where
+  pub nexts : F .count ≤ length next
+  pub heads : NumbersBelow (length head) F
   pub clear : Clear head
-  pub starts : n ≤ length start
+  pub starts : F .count ≤ length start

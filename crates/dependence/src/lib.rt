@@ -5,7 +5,7 @@ ghost use Prim.Native.Nat.{_+_, _*_, _-_, _^_, _≤_, _<_};
 ghost use lib.ListN.{length};
 ghost use Rattle.vectors.specs.Numbers.{placeOf};
 ghost use Rattle.chains.specs.Search.{Adds, Clear, Linked};
-ghost use Rattle.dependence.specs.Flat.{flat, Ready, Searched, kindOf, numbersOf, setBy, setFrom, Lent, Listed, Alike, FirstLike};
+ghost use Rattle.dependence.specs.Flat.{flat, Ready, Searched, kindOf, numbersOf, setBy, setFrom, NumbersBelow, Lent, Listed, Alike, FirstLike};
 
 // ---- accesses that are searched once
 
@@ -42,10 +42,9 @@ fn alike(
     if writes[a] != writes[b] {
         return false;
     }
-    same(
-        &numbers[a * 4096..a * 4096 + count],
-        &numbers[b * 4096..b * 4096 + count],
-    )
+    let i = a * count;
+    let j = b * count;
+    same(&numbers[i..i + count], &numbers[j..j + count])
 }
 
 // The first access that is like a.
@@ -111,18 +110,20 @@ fn between(
     start: &mut [u16],
     marks: &mut [bool],
 )
-    requires { ⌜ Ready (flat (now points) depth count (now numbers) (now statements) (now writes) body) (now marks) × (a < length (now statements)) × (b < length (now statements)) × Linked (numbersOf count (now numbers) a) (now next) (now head) (now start) ⌝ }
+    requires { ⌜ Ready (flat (now points) depth count (now numbers) (now statements) (now writes) body) (now marks) × (a < length (now statements)) × (b < length (now statements)) × Linked (numbersOf count (now numbers) a) (now next) (now head) (now start) × NumbersBelow (length (now head)) (flat (now points) depth count (now numbers) (now statements) (now writes) body) ⌝ }
     ensures { λ _. ⌜ Adds (now (marks .entry)) (now (marks .exit)) (setBy (flat (now (points .entry)) depth count (now (numbers .entry)) (now (statements .entry)) (now (writes .entry)) body) a b) × Clear (now (head .exit)) ⌝ }
 {
     let k = kind(writes[a], writes[b]);
     if k < 3 {
         let s = statements[a];
         let t = statements[b];
+        let i = a * count;
+        let j = b * count;
         chains::search(
             points,
             depth,
-            &numbers[a * 4096..a * 4096 + count],
-            &numbers[b * 4096..b * 4096 + count],
+            &numbers[i..i + count],
+            &numbers[j..j + count],
             s < t,
             block(body, s, t, k),
             next,
@@ -148,12 +149,13 @@ fn from_access(
     start: &mut [u16],
     marks: &mut [bool],
 )
-    requires { ⌜ Ready (flat (now points) depth count (now numbers) (now statements) (now writes) body) (now marks) × (a < length (now statements)) × Lent count (now next) (now head) (now start) ⌝ }
+    requires { ⌜ Ready (flat (now points) depth count (now numbers) (now statements) (now writes) body) (now marks) × (a < length (now statements)) × Lent (flat (now points) depth count (now numbers) (now statements) (now writes) body) (now next) (now head) (now start) ⌝ }
     ensures { λ _. ⌜ Adds (now (marks .entry)) (now (marks .exit)) (setFrom (flat (now (points .entry)) depth count (now (numbers .entry)) (now (statements .entry)) (now (writes .entry)) body) a) × Clear (now (head .exit)) ⌝ }
 {
+    let i = a * count;
     chains::link(
-        &numbers[a * 4096..a * 4096 + count],
-        &numbers[a * 4096..a * 4096 + count],
+        &numbers[i..i + count],
+        &numbers[i..i + count],
         false,
         head,
         next,
@@ -181,8 +183,8 @@ fn from_access(
     }
 }
 
-// Marks every line that the listing of the nest has.
-pub fn dependences(
+// Marks the conflicts of every access, as the source, with every access. A source that an earlier one is like sets no more.
+fn from_all(
     points: &[i64],
     depth: usize,
     count: usize,
@@ -190,14 +192,14 @@ pub fn dependences(
     statements: &[usize],
     writes: &[bool],
     body: usize,
+    next: &mut [u16],
+    head: &mut [u16],
+    start: &mut [u16],
     marks: &mut [bool],
 )
-    requires { ⌜ Ready (flat (now points) depth count (now numbers) (now statements) (now writes) body) (now marks) ⌝ }
+    requires { ⌜ Ready (flat (now points) depth count (now numbers) (now statements) (now writes) body) (now marks) × Lent (flat (now points) depth count (now numbers) (now statements) (now writes) body) (now next) (now head) (now start) ⌝ }
     ensures { λ _. ⌜ Searched (flat (now (points .entry)) depth count (now (numbers .entry)) (now (statements .entry)) (now (writes .entry)) body) (now (marks .entry)) (now (marks .exit)) ⌝ }
 {
-    let mut next = [0u16; 4096];
-    let mut head = [0u16; 16384];
-    let mut start = [0u16; 4096];
     let mut a = 0;
     while a < statements.len() {
         if first_like(count, numbers, statements, writes, a) == a {
@@ -210,12 +212,74 @@ pub fn dependences(
                 writes,
                 body,
                 a,
-                &mut next,
-                &mut head,
-                &mut start,
+                next,
+                head,
+                start,
                 marks,
             );
         }
         a += 1;
     }
+}
+
+// Whether links and heads of a small nest do: 256 points and 1024 elements.
+fn few(count: usize, elements: usize) -> bool
+    ensures { λ r. ⌜ (r ≡ true → (count ≤ 256) × (elements ≤ 1024)) ⌝ }
+{
+    if 256 < count {
+        return false;
+    }
+    elements <= 1024
+}
+
+// Marks every line that the listing of the nest has. All numbers are below `elements`; a small nest has fewer links and heads to clear.
+pub fn dependences(
+    points: &[i64],
+    depth: usize,
+    count: usize,
+    numbers: &[u16],
+    elements: usize,
+    statements: &[usize],
+    writes: &[bool],
+    body: usize,
+    marks: &mut [bool],
+)
+    requires { ⌜ Ready (flat (now points) depth count (now numbers) (now statements) (now writes) body) (now marks) × NumbersBelow elements (flat (now points) depth count (now numbers) (now statements) (now writes) body) ⌝ }
+    ensures { λ _. ⌜ Searched (flat (now (points .entry)) depth count (now (numbers .entry)) (now (statements .entry)) (now (writes .entry)) body) (now (marks .entry)) (now (marks .exit)) ⌝ }
+{
+    if few(count, elements) {
+        let mut next = [0u16; 256];
+        let mut head = [0u16; 1024];
+        let mut start = [0u16; 256];
+        from_all(
+            points,
+            depth,
+            count,
+            numbers,
+            statements,
+            writes,
+            body,
+            &mut next,
+            &mut head,
+            &mut start,
+            marks,
+        );
+        return;
+    }
+    let mut next = [0u16; 4096];
+    let mut head = [0u16; 16384];
+    let mut start = [0u16; 4096];
+    from_all(
+        points,
+        depth,
+        count,
+        numbers,
+        statements,
+        writes,
+        body,
+        &mut next,
+        &mut head,
+        &mut start,
+        marks,
+    );
 }

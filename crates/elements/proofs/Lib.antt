@@ -5,6 +5,7 @@ pub mod LayoutLaws
 pub mod StrayLaws
 pub mod FindLaws
 pub mod ElementLaws
+pub mod TotalLaws
 pub mod FormLaws
 pub mod PlaceLaws
 pub mod NumberLaws

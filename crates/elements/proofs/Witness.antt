@@ -63,7 +63,7 @@ pub search-in : SearchIn words owners arrays (1 ∷ []) (pos 0 ∷ []) 1 1
 unfolding sum
 search-in = record { accesses = accesses-ok; statements = omega arith; each = omega arith; stored = rows-in }
 
-pub number-in : NumberIn words owners arrays (pos 0 ∷ []) 1 1 4096
+pub number-in : NumberIn words owners arrays (pos 0 ∷ []) 1 1 1
 unfolding rows strays outside extents arraysOf arraysFrom extentsAt accessAt formsFrom formAt subscriptAt affine dot elements total
 number-in = record { accesses = accesses-ok; stored = rows-in; inside = λ k h. kept k (omega arith); fits = omega arith; space = omega arith }
   where

@@ -1,4 +1,4 @@
--- The place in the store of every access at every point, and how these numbers are stored: for access k from place 4096 k on.
+-- The place in the store of every access at every point, and how these numbers are stored: those of one access after those of another.
 use mathlib.Core.Path.{_≡_}
 use mathlib.Core.Bool.{false}
 use mathlib.Core.List.{List, map}
@@ -18,6 +18,12 @@ pub record BaseIn (a : List ℕ) (i : ℕ) : Type 0 where
   pub array : ArrayIn a i
   pub fits : total (arraysOf a) ≤ 16384
 
+-- all n arrays of a slice
+pub record TotalIn (a : List ℕ) (n : ℕ) : Type 0 where
+  pub all : length a ≡ n * 4
+  pub each : (i : ℕ) → i < n → ArrayIn a i
+  pub fits : total (arraysOf a) ≤ 16384
+
 -- the place of access k of all at a point
 unfoldable pub placeAt : List ℤ → List ℕ → List ℕ → ℕ → ℕ → List ℤ → ℕ
 placeAt w o a n k p = placeOf (arraysOf a) (element p (accessAt w o a n k))
@@ -26,10 +32,10 @@ placeAt w o a n k p = placeOf (arraysOf a) (element p (accessAt w o a n k))
 unfoldable pub placesOf : List ℤ → List ℕ → List ℕ → ℕ → List (List ℤ) → ℕ → List ℕ
 placesOf w o a n ps k = map (placeAt w o a n k) ps
 
--- the first m accesses, each 4096 numbers after the one before
-unfoldable pub numbered : (ℕ → List ℕ) → ℕ → List ℕ → List ℕ
-numbered f zero out = out
-numbered f (suc m) out = put (numbered f m out) (m * 4096) (f m)
+-- the first m accesses, each w numbers after the one before
+unfoldable pub numbered : ℕ → (ℕ → List ℕ) → ℕ → List ℕ → List ℕ
+numbered w f zero out = out
+numbered w f (suc m) out = put (numbered w f m out) (m * w) (f m)
 
 -- stored points at which no access leaves its array, and room
 pub record NumberIn (w : List ℤ) (o a : List ℕ) (points : List ℤ) (depth count room : ℕ) : Type 0 where
@@ -37,4 +43,4 @@ pub record NumberIn (w : List ℤ) (o a : List ℕ) (points : List ℤ) (depth c
   pub stored : RowsIn points depth count
   pub inside : (k : ℕ) → k < length o → All (λ p. strays (arraysOf a) p (accessAt w o a depth k) ≡ false) (rows depth count points)
   pub fits : total (arraysOf a) ≤ 16384
-  pub space : length o * 4096 ≤ room
+  pub space : length o * count ≤ room

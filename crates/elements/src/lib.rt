@@ -7,13 +7,13 @@ ghost use lib.ListN.{length};
 ghost use Rattle.lists.specs.Parts.{rows, put};
 ghost use Rattle.integers.specs.Difference.{size};
 ghost use Rattle.integers.specs.Affine.{Within};
-ghost use Rattle.model.specs.Grammar.{elements};
+ghost use Rattle.model.specs.Grammar.{elements, total};
 ghost use Rattle.model.specs.Store.{base};
 ghost use Rattle.bounds.specs.Ranges.{Narrow};
 ghost use Rattle.elements.specs.Layout.{extentsAt, arraysOf, ArrayIn};
 ghost use Rattle.elements.specs.Search.{off, straysAt, StrayIn, SearchIn, Searched};
 ghost use Rattle.elements.specs.Forms.{wordsAt, folded, raised, formOf, valueAt, FoldIn, FormIn, ValueIn, PlacedIn};
-ghost use Rattle.elements.specs.Places.{BaseIn, NumberIn, placesOf, numbered};
+ghost use Rattle.elements.specs.Places.{BaseIn, TotalIn, NumberIn, placesOf, numbered};
 
 // The value of a form at a point.
 fn value(form: &[i64], point: &[i64]) -> i64
@@ -144,6 +144,20 @@ pub fn base_of(arrays: &[usize], i: usize) -> usize
     r
 }
 
+// The number of elements of all n arrays.
+pub fn total_of(arrays: &[usize], n: usize) -> usize
+    requires { ⌜ TotalIn (now arrays) n ⌝ }
+    ensures { λ r. ⌜ r ≡ total (arraysOf (now (arrays .entry))) ⌝ }
+{
+    let mut r = 0;
+    let mut i = 0;
+    while i < n {
+        r += elements_of(arrays, i);
+        i += 1;
+    }
+    r
+}
+
 // One number of a form, with one dimension more.
 fn number(x: i64, extent: usize, word: i64) -> i64
     requires { ⌜ (size x ≤ 134246399) × (extent ≤ 4096) × (size word ≤ 32767) ⌝ }
@@ -205,7 +219,7 @@ fn place(form: &[i64], point: &[i64]) -> u16
     value(form, point) as u16
 }
 
-// Writes the place of access k at every point, from place 4096 k on.
+// Writes the place of access k at every point, behind those of the accesses before it.
 fn number_access(
     words: &[i16],
     owners: &[usize],
@@ -217,11 +231,11 @@ fn number_access(
     out: &mut [u16],
 )
     requires { ⌜ NumberIn (now words) (now owners) (now arrays) (now points) depth count (length (now out)) × (k < length (now owners)) ⌝ }
-    ensures { λ _. ⌜ now (out .exit) ≡ put (now (out .entry)) (k * 4096) (placesOf (now (words .entry)) (now (owners .entry)) (now (arrays .entry)) depth (rows depth count (now (points .entry))) k) ⌝ }
+    ensures { λ _. ⌜ now (out .exit) ≡ put (now (out .entry)) (k * count) (placesOf (now (words .entry)) (now (owners .entry)) (now (arrays .entry)) depth (rows depth count (now (points .entry))) k) ⌝ }
 {
     let b = base_of(arrays, owners[k]);
     let form = form_of(words, owners, arrays, k, b);
-    let first = k * 4096;
+    let first = k * count;
     let mut at = 0;
     let mut i = 0;
     while i < count {
@@ -231,7 +245,7 @@ fn number_access(
     }
 }
 
-// Writes the place of every access at every point, 4096 numbers apart.
+// Writes the place of every access at every point, those of one access after those of another.
 pub fn number_accesses(
     words: &[i16],
     owners: &[usize],
@@ -242,7 +256,7 @@ pub fn number_accesses(
     out: &mut [u16],
 )
     requires { ⌜ NumberIn (now words) (now owners) (now arrays) (now points) depth count (length (now out)) ⌝ }
-    ensures { λ _. ⌜ now (out .exit) ≡ numbered (placesOf (now (words .entry)) (now (owners .entry)) (now (arrays .entry)) depth (rows depth count (now (points .entry)))) (length (now (owners .entry))) (now (out .entry)) ⌝ }
+    ensures { λ _. ⌜ now (out .exit) ≡ numbered count (placesOf (now (words .entry)) (now (owners .entry)) (now (arrays .entry)) depth (rows depth count (now (points .entry)))) (length (now (owners .entry))) (now (out .entry)) ⌝ }
 {
     let mut k = 0;
     while k < owners.len() {

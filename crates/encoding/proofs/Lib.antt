@@ -1,4 +1,5 @@
--- Laws that the proofs of more than one function share, or that stand on their own.
+-- Laws of the sections of a nest, then of a whole nest and of a sheet.
+pub mod SectionLaws
 pub mod StatementLaws
 pub mod EncodeLaws
 pub mod Witness

@@ -1,54 +1,162 @@
--- A nest that meets the preconditions of writing: one loop from 0 to 0, one array of one element, and one statement that stores 0 in it.
-use mathlib.Core.Path.{refl}
-use mathlib.Core.List.{[], map, flatMap}
+-- A sheet that meets what writing asks: one loop from 1 to 1, an array of one element and a statement that stores 0 in it.
+use mathlib.Core.Path.{refl, sym, ap, subst}
+use Prim.Native.Nat.{ℕ, zero, suc, _+_, _*_, _≤_, _<_}
 use native.Mathlib.Omega.{arith}
-use lib.IntN.{pos}
-use lib.ListN.{replicate}
+use lib.IntN.{pos, natAbs}
+use lib.Signed.{_<ℤ_}
+use lib.ListN.{length, getD, replicate, length-replicate, getD-replicate}
 use Rattle.lists.proofs.MembershipLaws.{all-nil, all-cons}
-use Rattle.model.specs.Encode.{counted, limitWords, loopWords, arrayWords, accessWords, statementWords, nestWords}
-use Rattle.model.specs.Ranges.{Small}
-use Rattle.nest.specs.Nested.{limitOf, sideOf, loopOf, loopsFrom, loopsOf, LimitIn, SideIn, LoopIn}
-use Rattle.nest.specs.declared.Limit.{Limit}
-use Rattle.nest.specs.declared.Side.{Side}
-use Rattle.nest.specs.declared.Nest.{Nest}
-use Rattle.arrays.specs.Arrays.{shapeOf, arraysOf, ShapeIn}
-use Rattle.body.specs.Statements.{subscriptOf, accessOf, statementOf, statementsOf, SubscriptIn, AccessIn, StatementIn}
-use Rattle.arrays.specs.declared.Arrays.{Arrays}
-use Rattle.body.specs.declared.Access.{Access}
-use Rattle.body.specs.declared.Body.{Body}
-use Rattle.writing.specs.Held.{nestOf, Held, Encodable}
+use Rattle.integers.specs.Affine.{Within}
+use Rattle.integers.proofs.RingLaws.{zarith}
+use Rattle.model.specs.Grammar.{elements, total, extents}
+use Rattle.model.specs.Store.{sum}
+use Rattle.model.specs.Ranges.{InRange, Small, LimitRanges, LoopRanges, ArrayRanges, SubscriptRanges, AccessRanges, StatementRanges, NestRanges}
+use Rattle.model.specs.Shape.{Runs, Fits, FitsAll, WellFormed}
+use Rattle.bounds.specs.Flat.{limitAt, limitsAt, loopAt, loopsFrom, NestOk}
+use Rattle.elements.specs.Layout.{extentsAt, arraysFrom, arraysOf, formAt, formsFrom, accessAt, accessesFrom, AccessesOk}
+use Rattle.sheet.specs.declared.Sheet.{Sheet}
+use Rattle.sheet.specs.Sheets.{wordsIn, ownersIn, extentsIn, statementsFrom, nestOf, SheetIn}
+use Rattle.encoding.specs.Encodable.{SheetEncodable}
 
-abbrev limit : Limit
-limit = record { multiplier = 1; constant = pos 0; coefficients = replicate 6 (pos 0) }
-
-abbrev side : Side
-side = record { count = 1; limits = replicate 16 limit }
-
-abbrev nest : Nest
-nest = record { depth = 1; loops = replicate 6 (record { lower = side; upper = side }) }
-
-abbrev arrays : Arrays
-arrays = record { count = 1; shapes = replicate 4 (record { dimensions = 1; extents = replicate 3 1 }) }
-
-abbrev access : Access
-access = record { array = 0; dimensions = 1; subscripts = replicate 3 (record { constant = pos 0; coefficients = replicate 6 (pos 0) }) }
-
-abbrev body : Body
-body = record { count = 1; statements = replicate 4 (record { rule = 0; constant = 0; write = access; reads = 0; read = replicate 4 access }) }
-
-side-in : SideIn side
-side-in = record { few = omega arith; room = refl; each = all-cons LimitIn (record { room = refl }) (all-nil LimitIn) }
-
-access-in : AccessIn access
-access-in = record { few = omega arith; room = refl; each = all-cons SubscriptIn (record { room = refl }) (all-nil SubscriptIn) }
-
-held : Held nest arrays body
-held = record {
-  nest = record { few = omega arith; room = refl; each = all-cons LoopIn (record { lower = side-in; upper = side-in }) (all-nil LoopIn) };
-  arrays = record { few = omega arith; room = refl; each = all-cons ShapeIn (record { few = omega arith; room = refl }) (all-nil ShapeIn) };
-  body = record { few = omega arith; room = refl; each = all-cons StatementIn (record { write = access-in; read = record { few = omega arith; room = refl; each = all-nil AccessIn } }) (all-nil StatementIn) };
+abbrev smallest : Sheet
+smallest = record {
+  depth = 1;
+  limits = replicate 1536 (pos 1);
+  counts = replicate 12 1;
+  arrays = 1;
+  extents = replicate 16 1;
+  statements = 1;
+  sizes = replicate 4 1;
+  rules = replicate 4 0;
+  constants = replicate 4 0;
+  accesses = 1;
+  owners = replicate 20 0;
+  words = replicate 480 (pos 0);
 }
 
-pub encodable : Encodable nest arrays body
-unfolding nestWords nestOf counted flatMap map loopWords limitWords arrayWords accessWords statementWords limitOf sideOf loopOf loopsFrom loopsOf shapeOf arraysOf subscriptOf accessOf statementOf statementsOf
-encodable = record { held = held; small = all-cons Small (omega arith) (all-cons Small (omega arith) (all-cons Small (omega arith) (all-cons Small (omega arith) (all-cons Small (omega arith) (all-cons Small (omega arith) (all-cons Small (omega arith) (all-cons Small (omega arith) (all-cons Small (omega arith) (all-cons Small (omega arith) (all-cons Small (omega arith) (all-cons Small (omega arith) (all-cons Small (omega arith) (all-cons Small (omega arith) (all-cons Small (omega arith) (all-cons Small (omega arith) (all-cons Small (omega arith) (all-cons Small (omega arith) (all-nil Small)))))))))))))))))) }
+within-ones : (n : ℕ) → Within 32767 (replicate n (pos 1))
+within-ones zero = tt
+within-ones (suc n) = (omega arith, within-ones n)
+
+within-zeros : (n : ℕ) → Within 32767 (replicate n (pos 0))
+within-zeros zero = tt
+within-zeros (suc n) = (omega arith, within-zeros n)
+
+count : (i : ℕ) → i < 12 → (1 ≤ getD (smallest .counts) i 0) × (getD (smallest .counts) i 0 ≤ 16)
+count i h = let e = getD-replicate {A = ℕ} 12 i 1 0 h in (omega arith, omega arith)
+
+multiplier : (i : ℕ) → i < 1536 → pos 0 <ℤ getD (smallest .limits) i (pos 0)
+multiplier i h = subst (λ z. pos 0 <ℤ z) (sym (getD-replicate 1536 i (pos 1) (pos 0) h)) (omega zarith)
+
+nest-ok : NestOk (smallest .limits) (smallest .counts) 1
+nest-ok = record {
+  words = length-replicate 1536 (pos 1);
+  counts = length-replicate {A = ℕ} 12 1;
+  shallow = omega arith;
+  small = within-ones 1536;
+  lower-count = λ k h. count (k * 2) (omega arith);
+  upper-count = λ k h. count (k * 2 + 1) (omega arith);
+  lower-positive = λ k h i b. multiplier ((k * 32 + i) * 8) (let e = count (k * 2) (omega arith) .1 in omega arith);
+  upper-positive = λ k h i b. multiplier ((k * 32 + 16 + i) * 8) (let e = count (k * 2 + 1) (omega arith) .1 in omega arith);
+}
+
+extent : (j : ℕ) → getD (extentsIn smallest) j 0 ≤ 1
+extent zero = omega arith
+extent (suc zero) = omega arith
+extent (suc (suc zero)) = omega arith
+extent (suc (suc (suc zero))) = omega arith
+extent (suc (suc (suc (suc j)))) = omega arith
+
+owner : (k : ℕ) → k < 1 → getD (ownersIn smallest) k 0 < 1
+owner zero h = omega arith
+owner (suc k) h = absurd (omega arith)
+
+accesses-ok : AccessesOk (wordsIn smallest) (ownersIn smallest) (extentsIn smallest) 1
+accesses-ok = record {
+  words = refl;
+  many = omega arith;
+  few = omega arith;
+  shallow = omega arith;
+  small = within-zeros 24;
+  dimensions = λ i h. let e = extent (i * 4) in omega arith;
+  extents = λ j. let e = extent j in omega arith;
+  there = owner;
+}
+
+sheet-in : SheetIn smallest
+unfolding arraysOf arraysFrom extentsAt total elements sum
+sheet-in = record {
+  nest = nest-ok;
+  some = omega arith;
+  accesses-ok = accesses-ok;
+  fits = omega arith;
+  all-accesses = refl;
+  each = all-cons (λ m. 1 ≤ m) (omega arith) (all-nil (λ m. 1 ≤ m));
+  few-arrays = omega arith;
+  few-statements = omega arith;
+  few-accesses = omega arith;
+  extents-length = refl;
+  sizes-length = refl;
+  owners-length = refl;
+  words-length = length-replicate 480 (pos 0);
+  rules-length = refl;
+  constants-length = refl;
+}
+
+-- ---- ranges
+
+limit-ranges : (j : ℕ) → j < 192 → LimitRanges (limitAt (smallest .limits) 0 j)
+unfolding limitAt
+limit-ranges j h =
+    let m = ap natAbs (getD-replicate 1536 (j * 8) (pos 1) (pos 0) (omega arith)) in
+    let c = ap natAbs (getD-replicate 1536 (j * 8 + 1) (pos 1) (pos 0) (omega arith)) in
+    record { multiplier = record { low = omega arith; high = omega arith }; constant = omega arith; coefficients = all-nil Small }
+
+loop-ranges : LoopRanges 16 (loopAt (smallest .limits) (smallest .counts) 0)
+unfolding loopAt limitsAt
+loop-ranges = record {
+  few-lower = record { low = omega arith; high = omega arith };
+  few-upper = record { low = omega arith; high = omega arith };
+  lower = all-cons LimitRanges (limit-ranges 0 (omega arith)) (all-nil LimitRanges);
+  upper = all-cons LimitRanges (limit-ranges 16 (omega arith)) (all-nil LimitRanges);
+}
+
+access-ranges : AccessRanges (accessAt (wordsIn smallest) (ownersIn smallest) (extentsIn smallest) 1 0)
+unfolding accessAt formsFrom formAt
+access-ranges = all-cons SubscriptRanges (record { constant = omega arith; coefficients = all-cons Small (omega arith) (all-nil Small) }) (all-nil SubscriptRanges)
+
+nest-ranges : NestRanges 6 16 (nestOf smallest)
+unfolding nestOf loopsFrom arraysOf arraysFrom extentsAt statementsFrom accessesFrom total elements
+nest-ranges = record {
+  few-loops = record { low = omega arith; high = omega arith };
+  loops = all-cons (LoopRanges 16) loop-ranges (all-nil (LoopRanges 16));
+  few-arrays = record { low = omega arith; high = omega arith };
+  arrays = all-cons ArrayRanges (record { dimensions = record { low = omega arith; high = omega arith }; extents = all-cons (InRange 1 4096) (record { low = omega arith; high = omega arith }) (all-nil (InRange 1 4096)) }) (all-nil ArrayRanges);
+  room = omega arith;
+  few-statements = record { low = omega arith; high = omega arith };
+  statements = all-cons StatementRanges
+      (record {
+        rule = omega arith;
+        constant = omega arith;
+        one-write = refl;
+        few-reads = omega arith;
+        copy-reads = λ e. absurd (omega arith);
+        copy-constant = λ e. refl;
+        writes = all-cons AccessRanges access-ranges (all-nil AccessRanges);
+        reads = all-nil AccessRanges;
+      })
+      (all-nil StatementRanges);
+}
+
+-- ---- the shape
+
+nest-formed : WellFormed (nestOf smallest)
+unfolding nestOf loopsFrom loopAt limitsAt limitAt arraysOf arraysFrom extentsAt statementsFrom accessAt accessesFrom formsFrom formAt extents
+nest-formed = record {
+  shaped = ((all-cons _ refl (all-nil _), all-cons _ refl (all-nil _)), tt);
+  runs = all-cons Runs (record { some-lower = λ e. absurd (omega (arith, ap length e)); some-upper = λ e. absurd (omega (arith, ap length e)); positive-lower = all-cons _ (omega arith) (all-nil _); positive-upper = all-cons _ (omega arith) (all-nil _) }) (all-nil Runs);
+  fits = all-cons (FitsAll _ 1) (record { writes = all-cons (Fits _ 1) (record { there = omega arith; dimensions = refl; wide = all-cons _ refl (all-nil _) }) (all-nil (Fits _ 1)); reads = all-nil (Fits _ 1) }) (all-nil (FitsAll _ 1));
+}
+
+pub encodable : SheetEncodable smallest
+encodable = record { sheet = sheet-in; ranges = nest-ranges; formed = nest-formed }

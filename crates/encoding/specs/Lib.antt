@@ -1,2 +1,3 @@
--- What writing a nest leaves in the buffer.
+-- What writing a nest asks of its slices, and what it leaves in the buffer.
+pub mod Encodable
 pub mod Encoding

@@ -1,20 +1,13 @@
 // A nest as a ticket's bytes in a lent buffer. `at` is a place in the buffer, and a writer answers the place behind what it wrote.
-ghost use mathlib.Core.List.{map};
-ghost use Prim.Native.Nat.{_+_, _≤_, _<_, _/_};
-ghost use lib.ListN.{take};
 ghost use Rattle.model.specs.Encode.{counted, arrayWords, accessWords, statementWords, nestWords};
-ghost use Rattle.arrays.specs.Arrays.{shapeOf, arraysOf, ShapeIn, ArraysIn};
-ghost use Rattle.body.specs.Statements.{subscriptOf, accessOf, statementOf, statementsOf, SubscriptIn, AccessIn, AccessesIn, StatementIn, BodyIn};
+ghost use Rattle.elements.specs.Layout.{arraysOf, accessAt, accessesFrom};
+ghost use Rattle.sheet.specs.Sheets.{nestOf};
 ghost use Rattle.writing.specs.Writing.{Writable, Written};
-ghost use Rattle.writing.specs.Held.{subscriptWords, nestOf, Held, Encodable};
+ghost use Rattle.lengths.specs.Slices.{statementAt, statementsAt, nestAt, SlicesIn};
+ghost use Rattle.lengths.specs.Lengths.{ArraysIn};
+ghost use Rattle.encoding.specs.Encodable.{AccessesIn, StatementIn, StatementsIn, Encodable, SheetEncodable};
 ghost use Rattle.encoding.specs.Encoding.{Encodes};
-use arrays::Arrays;
-use arrays::Shape;
-use body::Access;
-use body::Body;
-use body::Statement;
-use body::Subscript;
-use nest::Nest;
+use sheet::Sheet;
 
 // How many bytes were written, or how many there would be.
 pub enum Encoded {
@@ -22,127 +15,221 @@ pub enum Encoded {
     TooShort(usize),
 }
 
-fn put_shape(out: &mut [u8], at: usize, a: Shape) -> usize
-    requires { ⌜ Writable (now out) at (arrayWords (shapeOf a)) × ShapeIn a ⌝ }
-    ensures { λ r. ⌜ Written (now (out .entry)) (now (out .exit)) at (arrayWords (shapeOf a)) r ⌝ }
+// All arrays behind their count, each as it stands: the number of its dimensions, its extents.
+fn put_arrays(out: &mut [u8], at: usize, extents: &[usize]) -> usize
+    requires { ⌜ Writable (now out) at (counted arrayWords (arraysOf (now extents))) × ArraysIn (now extents) ⌝ }
+    ensures { λ r. ⌜ Written (now (out .entry)) (now (out .exit)) at (counted arrayWords (arraysOf (now (extents .entry)))) r ⌝ }
 {
-    let dimensions = a.dimensions;
-    let extents = a.extents;
-    let mut next = writing::put_natural(out, at, dimensions);
-    let mut k = 0;
-    while k < dimensions {
-        let n = extents[k];
-        next = writing::put_natural(out, next, n);
-        k += 1;
-    }
-    next
-}
-
-fn put_arrays(out: &mut [u8], at: usize, arrays: Arrays) -> usize
-    requires { ⌜ Writable (now out) at (counted arrayWords (arraysOf arrays)) × ArraysIn arrays ⌝ }
-    ensures { λ r. ⌜ Written (now (out .entry)) (now (out .exit)) at (counted arrayWords (arraysOf arrays)) r ⌝ }
-{
-    let count = arrays.count;
-    let shapes = arrays.shapes;
+    let count = extents.len() / 4;
     let mut next = writing::put_natural(out, at, count);
-    let mut k = 0;
-    while k < count {
-        let a = shapes[k];
-        next = put_shape(out, next, a);
-        k += 1;
+    let mut i = 0;
+    while i < count {
+        let n = extents[i * 4];
+        next = writing::put_naturals(out, next, extents, i * 4, n + 1);
+        i += 1;
     }
     next
 }
 
-// Of a nest of n loops.
-fn put_subscript(out: &mut [u8], at: usize, n: usize, s: Subscript) -> usize
-    requires { ⌜ Writable (now out) at (subscriptWords (subscriptOf n s)) × (n ≤ 6) × SubscriptIn s ⌝ }
-    ensures { λ r. ⌜ Written (now (out .entry)) (now (out .exit)) at (subscriptWords (subscriptOf n s)) r ⌝ }
+// Access k of all, in a nest of n loops: its array's number, its subscripts.
+fn put_access(
+    out: &mut [u8],
+    at: usize,
+    words: &[i16],
+    owners: &[usize],
+    extents: &[usize],
+    n: usize,
+    k: usize,
+) -> usize
+    requires { ⌜ Writable (now out) at (accessWords (accessAt (now words) (now owners) (now extents) n k)) × AccessesIn (now words) (now owners) (now extents) n k 1 ⌝ }
+    ensures { λ r. ⌜ Written (now (out .entry)) (now (out .exit)) at (accessWords (accessAt (now (words .entry)) (now (owners .entry)) (now (extents .entry)) n k)) r ⌝ }
 {
-    let coefficients = s.coefficients;
-    let next = writing::put_word(out, at, s.constant);
-    writing::put_row(out, next, n, coefficients)
-}
-
-fn put_access(out: &mut [u8], at: usize, n: usize, a: Access) -> usize
-    requires { ⌜ Writable (now out) at (accessWords (accessOf n a)) × (n ≤ 6) × AccessIn a ⌝ }
-    ensures { λ r. ⌜ Written (now (out .entry)) (now (out .exit)) at (accessWords (accessOf n a)) r ⌝ }
-{
-    let dimensions = a.dimensions;
-    let subscripts = a.subscripts;
-    let mut next = writing::put_natural(out, at, a.array + 1);
-    let mut k = 0;
-    while k < dimensions {
-        let s = subscripts[k];
-        next = put_subscript(out, next, n, s);
-        k += 1;
+    let array = owners[k];
+    let dimensions = extents[array * 4];
+    let mut next = writing::put_natural(out, at, array + 1);
+    let mut d = 0;
+    while d < dimensions {
+        next = writing::put_words(out, next, words, (k * 3 + d) * 8, n + 1);
+        d += 1;
     }
     next
 }
 
-// A count and as many accesses.
-fn put_accesses(out: &mut [u8], at: usize, n: usize, count: usize, accesses: [Access; 4]) -> usize
-    requires { ⌜ Writable (now out) at (counted accessWords (map (accessOf n) (take count accesses))) × (n ≤ 6) × AccessesIn count accesses ⌝ }
-    ensures { λ r. ⌜ Written (now (out .entry)) (now (out .exit)) at (counted accessWords (map (accessOf n) (take count accesses))) r ⌝ }
+// m accesses from access k on behind their count.
+fn put_accesses(
+    out: &mut [u8],
+    at: usize,
+    words: &[i16],
+    owners: &[usize],
+    extents: &[usize],
+    n: usize,
+    k: usize,
+    m: usize,
+) -> usize
+    requires { ⌜ Writable (now out) at (counted accessWords (accessesFrom (now words) (now owners) (now extents) n k m)) × AccessesIn (now words) (now owners) (now extents) n k m ⌝ }
+    ensures { λ r. ⌜ Written (now (out .entry)) (now (out .exit)) at (counted accessWords (accessesFrom (now (words .entry)) (now (owners .entry)) (now (extents .entry)) n k m)) r ⌝ }
 {
-    let mut next = writing::put_natural(out, at, count);
-    let mut k = 0;
-    while k < count {
-        let a = accesses[k];
-        next = put_access(out, next, n, a);
-        k += 1;
+    let mut next = writing::put_natural(out, at, m);
+    let mut i = 0;
+    while i < m {
+        next = put_access(out, next, words, owners, extents, n, k + i);
+        i += 1;
     }
     next
 }
 
-fn put_statement(out: &mut [u8], at: usize, n: usize, s: Statement) -> usize
-    requires { ⌜ Writable (now out) at (statementWords (statementOf n s)) × (n ≤ 6) × StatementIn s ⌝ }
-    ensures { λ r. ⌜ Written (now (out .entry)) (now (out .exit)) at (statementWords (statementOf n s)) r ⌝ }
+// The statement of m accesses from access k on: its rule, its constant, the write, the reads.
+fn put_statement(
+    out: &mut [u8],
+    at: usize,
+    words: &[i16],
+    owners: &[usize],
+    extents: &[usize],
+    n: usize,
+    k: usize,
+    m: usize,
+    rule: usize,
+    constant: usize,
+) -> usize
+    requires { ⌜ Writable (now out) at (statementWords (statementAt (now words) (now owners) (now extents) n k m rule constant)) × StatementIn (now words) (now owners) (now extents) n k m ⌝ }
+    ensures { λ r. ⌜ Written (now (out .entry)) (now (out .exit)) at (statementWords (statementAt (now (words .entry)) (now (owners .entry)) (now (extents .entry)) n k m rule constant)) r ⌝ }
 {
-    let write = s.write;
-    let read = s.read;
-    let second = writing::put_natural(out, at, s.rule);
-    let third = writing::put_natural(out, second, s.constant);
-    let fourth = put_access(out, third, n, write);
-    put_accesses(out, fourth, n, s.reads, read)
+    let second = writing::put_natural(out, at, rule);
+    let third = writing::put_natural(out, second, constant);
+    let fourth = put_access(out, third, words, owners, extents, n, k);
+    put_accesses(out, fourth, words, owners, extents, n, k + 1, m - 1)
 }
 
-fn put_statements(out: &mut [u8], at: usize, n: usize, body: Body) -> usize
-    requires { ⌜ Writable (now out) at (counted statementWords (statementsOf n body)) × (n ≤ 6) × BodyIn body ⌝ }
-    ensures { λ r. ⌜ Written (now (out .entry)) (now (out .exit)) at (counted statementWords (statementsOf n body)) r ⌝ }
+// All statements behind their count. k is the first access of statement i.
+fn put_statements(
+    out: &mut [u8],
+    at: usize,
+    words: &[i16],
+    owners: &[usize],
+    extents: &[usize],
+    n: usize,
+    sizes: &[usize],
+    rules: &[usize],
+    constants: &[usize],
+) -> usize
+    requires { ⌜ Writable (now out) at (counted statementWords (statementsAt (now words) (now owners) (now extents) n (now rules) (now constants) 0 0 (now sizes))) × StatementsIn (now words) (now owners) (now extents) n (now sizes) (now rules) (now constants) ⌝ }
+    ensures { λ r. ⌜ Written (now (out .entry)) (now (out .exit)) at (counted statementWords (statementsAt (now (words .entry)) (now (owners .entry)) (now (extents .entry)) n (now (rules .entry)) (now (constants .entry)) 0 0 (now (sizes .entry)))) r ⌝ }
 {
-    let count = body.count;
-    let statements = body.statements;
-    let mut next = writing::put_natural(out, at, count);
+    let mut next = writing::put_natural(out, at, sizes.len());
     let mut k = 0;
-    while k < count {
-        let s = statements[k];
-        next = put_statement(out, next, n, s);
-        k += 1;
+    let mut i = 0;
+    while i < sizes.len() {
+        let m = sizes[i];
+        next = put_statement(
+            out,
+            next,
+            words,
+            owners,
+            extents,
+            n,
+            k,
+            m,
+            rules[i],
+            constants[i],
+        );
+        k += m;
+        i += 1;
     }
     next
 }
 
-// The sections, and no steps.
-fn put_nest(out: &mut [u8], nest: Nest, arrays: Arrays, body: Body) -> usize
-    requires { ⌜ Writable (now out) 0 (nestWords (nestOf nest arrays body)) × Held nest arrays body ⌝ }
-    ensures { λ r. ⌜ Written (now (out .entry)) (now (out .exit)) 0 (nestWords (nestOf nest arrays body)) r ⌝ }
+// The sections of a nest of n loops, and no steps.
+fn put_nest(
+    out: &mut [u8],
+    limits: &[i16],
+    counts: &[usize],
+    n: usize,
+    extents: &[usize],
+    sizes: &[usize],
+    rules: &[usize],
+    constants: &[usize],
+    owners: &[usize],
+    words: &[i16],
+) -> usize
+    requires { ⌜ Writable (now out) 0 (nestWords (nestAt (now limits) (now counts) n (now extents) (now sizes) (now rules) (now constants) (now owners) (now words))) × SlicesIn (now limits) (now counts) n (now extents) (now sizes) (now rules) (now constants) (now owners) (now words) ⌝ }
+    ensures { λ r. ⌜ Written (now (out .entry)) (now (out .exit)) 0 (nestWords (nestAt (now (limits .entry)) (now (counts .entry)) n (now (extents .entry)) (now (sizes .entry)) (now (rules .entry)) (now (constants .entry)) (now (owners .entry)) (now (words .entry)))) r ⌝ }
 {
-    let second = writing::put_loops(out, 0, nest);
-    let third = put_arrays(out, second, arrays);
-    let fourth = put_statements(out, third, nest.depth, body);
+    let second = writing::put_loops(out, 0, limits, counts, n);
+    let third = put_arrays(out, second, extents);
+    let fourth = put_statements(
+        out,
+        third,
+        words,
+        owners,
+        extents,
+        n,
+        sizes,
+        rules,
+        constants,
+    );
     writing::put_natural(out, fourth, 0)
 }
 
-// The nest's bytes from the buffer's start on; where they do not fit, nothing is written.
-pub fn encode_nest(nest: Nest, arrays: Arrays, body: Body, out: &mut [u8]) -> Encoded
-    requires { ⌜ Encodable nest arrays body ⌝ }
-    ensures { λ r. ⌜ Encodes (nestOf nest arrays body) (now (out .entry)) (now (out .exit)) r ⌝ }
+// The bytes of a nest of n loops from the buffer's start on; where they do not fit, nothing is written.
+pub fn encode_slices(
+    limits: &[i16],
+    counts: &[usize],
+    n: usize,
+    extents: &[usize],
+    sizes: &[usize],
+    rules: &[usize],
+    constants: &[usize],
+    owners: &[usize],
+    words: &[i16],
+    out: &mut [u8],
+) -> Encoded
+    requires { ⌜ Encodable (now limits) (now counts) n (now extents) (now sizes) (now rules) (now constants) (now owners) (now words) ⌝ }
+    ensures { λ r. ⌜ Encodes (nestAt (now (limits .entry)) (now (counts .entry)) n (now (extents .entry)) (now (sizes .entry)) (now (rules .entry)) (now (constants .entry)) (now (owners .entry)) (now (words .entry))) (now (out .entry)) (now (out .exit)) r ⌝ }
 {
-    let n = lengths::encoded_length(nest, arrays, body);
-    if out.len() < n {
-        return Encoded::TooShort(n);
+    let length = lengths::encoded_length(counts, n, extents, owners, sizes.len());
+    if out.len() < length {
+        return Encoded::TooShort(length);
     }
-    let end = put_nest(out, nest, arrays, body);
+    let end = put_nest(
+        out,
+        limits,
+        counts,
+        n,
+        extents,
+        sizes,
+        rules,
+        constants,
+        owners,
+        words,
+    );
     Encoded::Complete(end)
+}
+
+// The bytes of the nest on a sheet.
+pub fn encode_sheet(sheet: Sheet, out: &mut [u8]) -> Encoded
+    requires { ⌜ SheetEncodable sheet ⌝ }
+    ensures { λ r. ⌜ Encodes (nestOf sheet) (now (out .entry)) (now (out .exit)) r ⌝ }
+{
+    let limits = sheet.limits;
+    let counts = sheet.counts;
+    let depth = sheet.depth;
+    let extents = sheet.extents;
+    let sizes = sheet.sizes;
+    let rules = sheet.rules;
+    let constants = sheet.constants;
+    let owners = sheet.owners;
+    let words = sheet.words;
+    let accesses = sheet.accesses;
+    encode_slices(
+        &limits,
+        &counts,
+        depth,
+        &extents[..sheet.arrays * 4],
+        &sizes[..sheet.statements],
+        &rules,
+        &constants,
+        &owners[..accesses],
+        &words[..accesses * 24],
+        out,
+    )
 }

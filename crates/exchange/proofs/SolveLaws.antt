@@ -22,7 +22,7 @@ use Rattle.limits.specs.Makes.{mixed, RowIs, LimitIs}
 use Rattle.limits.proofs.NumberLaws.{size-fits}
 use Rattle.limits.proofs.RowLaws.{front-shorter, front-longer, mixed-negates}
 use Rattle.limits.proofs.LimitLaws.{same-limit}
-use Rattle.exchange.specs.Filling.{solved, takenOf}
+use Rattle.exchange.specs.Pair.{solved, takenOf}
 
 pub coefficient-at : (a : ℕ) (l : Limit) → outerCoefficient a (limitOf (a + 1) l) ≡ getD (l .coefficients) a (pos 0)
 unfolding outerCoefficient limitOf

@@ -1,2 +1,2 @@
--- What the contracts on sides under way, and on the two loops of an exchange, speak of.
-pub mod Filling
+-- What the contracts on the sides of two loops, and on the pair, speak of.
+pub mod Pair

@@ -1,21 +1,21 @@
-// The limits of the two loops that an exchange makes of loop I at place a and loop J inside it. Repeats are dropped as limits are added to a side.
+// The two loops that an exchange makes of loop I at place a and loop J inside it, put in their places among the words of the nest. Each side is filled
+// first, in wide numbers and with no limit twice.
 ghost use mathlib.Core.Path.{_≡_};
-ghost use mathlib.Core.Bool.{_||_};
-ghost use mathlib.Core.List.{[], _∷_, map, flatMap};
-ghost use Prim.Native.Nat.{ℕ, _+_, _<_, _≤_};
+ghost use mathlib.Core.Bool.{not, _&&_};
+ghost use mathlib.Core.List.{_++_, map, flatMap};
+ghost use Prim.Native.Nat.{_+_, _<_, _≤_};
+ghost use lib.Dec.{leb};
 ghost use lib.IntN.{pos};
-ghost use lib.ListN.{take};
+ghost use lib.ListN.{length};
 ghost use Rattle.integers.specs.Difference.{size};
-ghost use Rattle.integers.specs.Sign.{eqZ};
-ghost use Rattle.lists.specs.Tests.{any, sameBy};
-ghost use Rattle.model.specs.Limits.{combined, widened, sameLimit, outerCoefficient, outerPart, newOuter, newInner};
-ghost use Rattle.nest.specs.Nested.{limitOf, sideOf, loopOf, SideIn};
+ghost use Rattle.model.specs.Limits.{combined, widened, outerCoefficient, outerPart, newOuter, newInner};
+ghost use Rattle.nest.specs.Nested.{limitOf};
+ghost use Rattle.bounds.specs.Flat.{loopAt};
 ghost use Rattle.limits.specs.Small.{SmallLimit};
 ghost use Rattle.limits.specs.Makes.{LimitIs};
-ghost use Rattle.exchange.specs.Filling.{Holds, Adds, solved, takenOf, PushIn, CombineIn, PartIn, SolveIn, OuterIn, PairIn, Tidied};
+ghost use Rattle.sides.specs.Filling.{Filled, Holds, Adds};
+ghost use Rattle.exchange.specs.Pair.{solved, takenOf, limitsOf, SpanIn, CombineIn, PartIn, TakeIn, SolveIn, ThreeIn, lowerSpan, upperSpan, FillIn, LoopHeld, loopIn, PutLoopIn, LoopPut, PairIn, Exchanges};
 use nest::Limit;
-use nest::Loop;
-use nest::Side;
 
 // ---- limits
 
@@ -81,268 +81,296 @@ fn widened(l: Limit, n: usize) -> Limit
     }
 }
 
-// ---- equal limits
-
-fn equal(x: i32, y: i32) -> bool
-    ensures { λ r. ⌜ r ≡ eqZ x y ⌝ }
-{
-    x == y
-}
-
-fn same_row(xs: [i32; 6], ys: [i32; 6], n: usize) -> bool
-    requires { ⌜ n ≤ 6 ⌝ }
-    ensures { λ r. ⌜ r ≡ sameBy eqZ (take n xs) (take n ys) ⌝ }
-{
-    let mut k = 0;
-    while k < n {
-        let x = xs[k];
-        let y = ys[k];
-        if !equal(x, y) {
-            return false;
-        }
-        k += 1;
-    }
-    true
-}
-
-fn same_limit(l: Limit, m: Limit, n: usize) -> bool
-    requires { ⌜ n ≤ 6 ⌝ }
-    ensures { λ r. ⌜ r ≡ sameLimit (limitOf n l) (limitOf n m) ⌝ }
-{
-    if l.multiplier != m.multiplier {
-        return false;
-    }
-    let c = l.constant;
-    let d = m.constant;
-    if !equal(c, d) {
-        return false;
-    }
-    let xs = l.coefficients;
-    let ys = m.coefficients;
-    same_row(xs, ys, n)
-}
-
-fn has(side: Side, x: Limit, n: usize) -> bool
-    requires { ⌜ (n ≤ 6) × SideIn side ⌝ }
-    ensures { λ r. ⌜ r ≡ any (sameLimit (limitOf n x)) (sideOf n side) ⌝ }
-{
-    let count = side.count;
-    let limits = side.limits;
-    let mut k = 0;
-    while k < count {
-        let l = limits[k];
-        if same_limit(x, l, n) {
-            return true;
-        }
-        k += 1;
-    }
-    false
-}
-
-// ---- sides that are filled limit by limit
-
-pub struct Filling {
-    pub full: bool,
-    pub side: Side,
-}
-
-fn empty() -> Filling
-    ensures { λ r. ⌜ ((n : ℕ) → Holds n r []) × SideIn (r .side) ⌝ }
-{
-    let blank = Limit {
-        multiplier: 0,
-        constant: 0,
-        coefficients: [0i32; 6],
-    };
-    Filling {
-        full: false,
-        side: Side {
-            count: 0,
-            limits: [blank; 16],
-        },
-    }
-}
-
-// A limit more, unless it is there; full where a seventeenth comes.
-fn push(f: Filling, x: Limit, n: usize) -> Filling
-    requires { ⌜ PushIn n f x ⌝ }
-    ensures { λ r. ⌜ Adds n f (limitOf n x ∷ []) r ⌝ }
-{
-    let side = f.side;
-    if has(side, x, n) {
-        return f;
-    }
-    let count = side.count;
-    if count < 16 {
-        let mut limits = side.limits;
-        limits[count] = x;
-        Filling {
-            full: f.full,
-            side: Side {
-                count: count + 1,
-                limits: limits,
-            },
-        }
-    } else {
-        Filling {
-            full: true,
-            side: side,
-        }
-    }
-}
-
 // ---- the loop that J becomes, outside
 
+// A side of a loop: limits from limit `from` on.
+pub struct Span {
+    pub from: usize,
+    pub count: usize,
+}
+
 // A limit of J with coefficient c, combined with each of a side of I.
-fn push_combined(f: Filling, a: usize, c: i32, l: Limit, side: Side) -> Filling
-    requires { ⌜ (size c ≤ 32767) × CombineIn a f l side ⌝ }
-    ensures { λ r. ⌜ Adds a f (map (combined a c (limitOf (a + 1) l)) (sideOf a side)) r ⌝ }
+fn push_combined(
+    filling: &mut [i32],
+    count: usize,
+    a: usize,
+    c: i32,
+    l: Limit,
+    words: &[i16],
+    side: Span,
+) -> usize
+    requires { ⌜ (size c ≤ 32767) × CombineIn a (now filling) count l (now words) side ⌝ }
+    ensures { λ r. ⌜ Adds a (now (filling .entry)) count (map (combined a c (limitOf (a + 1) l)) (limitsOf (now (words .entry)) a side)) (now (filling .exit)) r ⌝ }
 {
-    let count = side.count;
-    let limits = side.limits;
-    let mut g = f;
+    let from = side.from;
+    let many = side.count;
+    let mut held = count;
     let mut k = 0;
-    while k < count {
-        let m = limits[k];
+    while k < many {
+        let m = limits::limit_at(words, from + k, a);
         let x = combined(a, c, l, m);
-        g = push(g, x, a);
+        held = sides::push(filling, held, x, a);
         k += 1;
     }
-    g
+    held
 }
 
 // A limit of J: itself where it does not name I, else a limit for each of a side of I.
-fn push_part(f: Filling, a: usize, l: Limit, same: Side, other: Side) -> Filling
-    requires { ⌜ PartIn a f l same other ⌝ }
-    ensures { λ r. ⌜ Adds a f (outerPart a (sideOf a same) (sideOf a other) (outerCoefficient a (limitOf (a + 1) l)) (limitOf (a + 1) l)) r ⌝ }
+fn push_part(
+    filling: &mut [i32],
+    count: usize,
+    a: usize,
+    l: Limit,
+    words: &[i16],
+    same: Span,
+    other: Span,
+) -> usize
+    requires { ⌜ PartIn a (now filling) count l (now words) same other ⌝ }
+    ensures { λ r. ⌜ Adds a (now (filling .entry)) count (outerPart a (limitsOf (now (words .entry)) a same) (limitsOf (now (words .entry)) a other) (outerCoefficient a (limitOf (a + 1) l)) (limitOf (a + 1) l)) (now (filling .exit)) r ⌝ }
 {
     let cs = l.coefficients;
     let c = cs[a];
     if c == 0 {
-        return push(f, l, a);
+        return sides::push(filling, count, l, a);
     }
     if 0 < c {
-        return push_combined(f, a, c, l, same);
+        return push_combined(filling, count, a, c, l, words, same);
     }
-    push_combined(f, a, c, l, other)
+    push_combined(filling, count, a, c, l, words, other)
 }
 
-fn push_outer(a: usize, js: Side, same: Side, other: Side) -> Filling
-    requires { ⌜ OuterIn a js same other ⌝ }
-    ensures { λ r. ⌜ Holds a r (flatMap (λ l. outerPart a (sideOf a same) (sideOf a other) (outerCoefficient a l) l) (sideOf (a + 1) js)) × SideIn (r .side) ⌝ }
+fn push_outer(
+    filling: &mut [i32],
+    words: &[i16],
+    a: usize,
+    js: Span,
+    same: Span,
+    other: Span,
+) -> usize
+    requires { ⌜ ThreeIn a (now filling) (now words) js same other ⌝ }
+    ensures { λ r. ⌜ Holds a (now (filling .exit)) r (flatMap (λ l. outerPart a (limitsOf (now (words .entry)) a same) (limitsOf (now (words .entry)) a other) (outerCoefficient a l) l) (limitsOf (now (words .entry)) (a + 1) js)) × Filled (now (filling .exit)) r ⌝ }
 {
-    let count = js.count;
-    let limits = js.limits;
-    let mut g = empty();
+    let from = js.from;
+    let many = js.count;
+    let n = a + 1;
+    let mut held = 0;
     let mut k = 0;
-    while k < count {
-        let l = limits[k];
-        g = push_part(g, a, l, same, other);
+    while k < many {
+        let l = limits::limit_at(words, from + k, n);
+        held = push_part(filling, held, a, l, words, same, other);
         k += 1;
     }
-    g
+    held
 }
 
 // ---- the loop that I becomes, inside
 
-fn push_widened(side: Side, n: usize) -> Filling
-    requires { ⌜ (n < 6) × SideIn side ⌝ }
-    ensures { λ r. ⌜ Holds (n + 1) r (map widened (sideOf n side)) × SideIn (r .side) ⌝ }
+fn push_widened(filling: &mut [i32], words: &[i16], a: usize, side: Span) -> usize
+    requires { ⌜ (a < 6) × (length (now filling) ≡ 128) × SpanIn (now words) side ⌝ }
+    ensures { λ r. ⌜ Holds (a + 1) (now (filling .exit)) r (map widened (limitsOf (now (words .entry)) a side)) × Filled (now (filling .exit)) r ⌝ }
 {
-    let count = side.count;
-    let limits = side.limits;
-    let mut g = empty();
+    let from = side.from;
+    let many = side.count;
+    let n = a + 1;
+    let mut held = 0;
     let mut k = 0;
-    while k < count {
-        let l = limits[k];
-        let x = widened(l, n);
-        g = push(g, x, n + 1);
+    while k < many {
+        let l = limits::limit_at(words, from + k, a);
+        let x = widened(l, a);
+        held = sides::push(filling, held, x, n);
         k += 1;
     }
-    g
+    held
 }
 
 // What a limit of J gives, on the side that takes those with c > 0 or on the other.
-fn push_taken(f: Filling, a: usize, l: Limit, positive: bool) -> Filling
-    requires { ⌜ (a < 6) × SmallLimit (limitOf (a + 1) l) × SideIn (f .side) ⌝ }
-    ensures { λ r. ⌜ Adds (a + 1) f (takenOf positive a (limitOf (a + 1) l)) r ⌝ }
+fn push_taken(filling: &mut [i32], count: usize, a: usize, l: Limit, positive: bool) -> usize
+    requires { ⌜ TakeIn a (now filling) count l ⌝ }
+    ensures { λ r. ⌜ Adds (a + 1) (now (filling .entry)) count (takenOf positive a (limitOf (a + 1) l)) (now (filling .exit)) r ⌝ }
 {
     let cs = l.coefficients;
     let c = cs[a];
     if c == 0 {
-        return f;
+        return count;
     }
     let rises = 0 < c;
     if rises == positive {
         let x = solved(a, l);
-        return push(f, x, a + 1);
+        return sides::push(filling, count, x, a + 1);
     }
-    f
+    count
 }
 
-fn push_solved(f: Filling, a: usize, js: Side, positive: bool) -> Filling
-    requires { ⌜ SolveIn a f js ⌝ }
-    ensures { λ r. ⌜ Adds (a + 1) f (flatMap (takenOf positive a) (sideOf (a + 1) js)) r ⌝ }
+fn push_solved(
+    filling: &mut [i32],
+    count: usize,
+    a: usize,
+    words: &[i16],
+    js: Span,
+    positive: bool,
+) -> usize
+    requires { ⌜ SolveIn a (now filling) count (now words) js ⌝ }
+    ensures { λ r. ⌜ Adds (a + 1) (now (filling .entry)) count (flatMap (takenOf positive a) (limitsOf (now (words .entry)) (a + 1) js)) (now (filling .exit)) r ⌝ }
 {
-    let count = js.count;
-    let limits = js.limits;
-    let mut g = f;
+    let from = js.from;
+    let many = js.count;
+    let n = a + 1;
+    let mut held = count;
     let mut k = 0;
-    while k < count {
-        let l = limits[k];
-        g = push_taken(g, a, l, positive);
+    while k < many {
+        let l = limits::limit_at(words, from + k, n);
+        held = push_taken(filling, held, a, l, positive);
         k += 1;
     }
-    g
+    held
 }
 
-// ---- the two loops
-
-pub struct Made {
-    pub full: bool,
-    pub body: Loop,
-}
-
-fn paired(low: Filling, up: Filling) -> Made
-    ensures { λ r. ⌜ (r .full ≡ low .full || up .full) × (r .body ≡ record { lower = low .side; upper = up .side }) ⌝ }
+// I's own side, then what the lower and the upper limits of J give to it.
+fn push_inner(
+    filling: &mut [i32],
+    words: &[i16],
+    a: usize,
+    own: Span,
+    lower: Span,
+    upper: Span,
+    positive: bool,
+) -> usize
+    requires { ⌜ ThreeIn a (now filling) (now words) own lower upper ⌝ }
+    ensures { λ r. ⌜ Holds (a + 1) (now (filling .exit)) r (map widened (limitsOf (now (words .entry)) a own) ++ (flatMap (takenOf positive a) (limitsOf (now (words .entry)) (a + 1) lower) ++ flatMap (takenOf (not positive) a) (limitsOf (now (words .entry)) (a + 1) upper))) × Filled (now (filling .exit)) r ⌝ }
 {
-    let lower = low.side;
-    let upper = up.side;
-    Made {
-        full: low.full || up.full,
-        body: Loop {
-            lower: lower,
-            upper: upper,
-        },
+    let kept = push_widened(filling, words, a, own);
+    let part = push_solved(filling, kept, a, words, lower, positive);
+    push_solved(filling, part, a, words, upper, !positive)
+}
+
+// ---- the pair
+
+fn lower(counts: &[usize], k: usize) -> Span
+    requires { ⌜ (k < 6) × (length (now counts) ≡ 12) ⌝ }
+    ensures { λ r. ⌜ r ≡ lowerSpan (now (counts .entry)) k ⌝ }
+{
+    Span {
+        from: k * 32,
+        count: counts[k * 2],
     }
 }
 
-pub fn new_outer(a: usize, i: Loop, j: Loop) -> Made
-    requires { ⌜ PairIn a i j ⌝ }
-    ensures { λ r. ⌜ Tidied a r (newOuter a (loopOf a i) (loopOf (a + 1) j)) ⌝ }
+fn upper(counts: &[usize], k: usize) -> Span
+    requires { ⌜ (k < 6) × (length (now counts) ≡ 12) ⌝ }
+    ensures { λ r. ⌜ r ≡ upperSpan (now (counts .entry)) k ⌝ }
 {
-    let il = i.lower;
-    let iu = i.upper;
-    let jl = j.lower;
-    let ju = j.upper;
-    let low = push_outer(a, jl, il, iu);
-    let up = push_outer(a, ju, iu, il);
-    paired(low, up)
+    Span {
+        from: k * 32 + 16,
+        count: counts[k * 2 + 1],
+    }
 }
 
-pub fn new_inner(a: usize, i: Loop, j: Loop) -> Made
-    requires { ⌜ PairIn a i j ⌝ }
-    ensures { λ r. ⌜ Tidied (a + 1) r (newInner a (loopOf a i) (loopOf (a + 1) j)) ⌝ }
+// How many limits the two sides of a loop have; 17 for a side that is full.
+pub struct Held {
+    pub lower: usize,
+    pub upper: usize,
+}
+
+fn fill_outer(words: &[i16], counts: &[usize], a: usize, low: &mut [i32], up: &mut [i32]) -> Held
+    requires { ⌜ FillIn (now words) (now counts) a (now low) (now up) ⌝ }
+    ensures { λ r. ⌜ LoopHeld a (newOuter a (loopAt (now (words .entry)) (now (counts .entry)) a) (loopAt (now (words .entry)) (now (counts .entry)) (a + 1))) (now (low .exit)) (now (up .exit)) r ⌝ }
 {
-    let il = i.lower;
-    let iu = i.upper;
-    let jl = j.lower;
-    let ju = j.upper;
-    let own_low = push_widened(il, a);
-    let part_low = push_solved(own_low, a, jl, false);
-    let low = push_solved(part_low, a, ju, true);
-    let own_up = push_widened(iu, a);
-    let part_up = push_solved(own_up, a, jl, true);
-    let up = push_solved(part_up, a, ju, false);
-    paired(low, up)
+    let b = a + 1;
+    let il = lower(counts, a);
+    let iu = upper(counts, a);
+    let jl = lower(counts, b);
+    let ju = upper(counts, b);
+    let l = push_outer(low, words, a, jl, il, iu);
+    let u = push_outer(up, words, a, ju, iu, il);
+    Held { lower: l, upper: u }
+}
+
+fn fill_inner(words: &[i16], counts: &[usize], a: usize, low: &mut [i32], up: &mut [i32]) -> Held
+    requires { ⌜ FillIn (now words) (now counts) a (now low) (now up) ⌝ }
+    ensures { λ r. ⌜ LoopHeld (a + 1) (newInner a (loopAt (now (words .entry)) (now (counts .entry)) a) (loopAt (now (words .entry)) (now (counts .entry)) (a + 1))) (now (low .exit)) (now (up .exit)) r ⌝ }
+{
+    let b = a + 1;
+    let il = lower(counts, a);
+    let iu = upper(counts, a);
+    let jl = lower(counts, b);
+    let ju = upper(counts, b);
+    let l = push_inner(low, words, a, il, jl, ju, false);
+    let u = push_inner(up, words, a, iu, jl, ju, true);
+    Held { lower: l, upper: u }
+}
+
+fn full(held: Held) -> bool
+    ensures { λ r. ⌜ r ≡ not (leb (held .lower) 16 && leb (held .upper) 16) ⌝ }
+{
+    if 16 < held.lower {
+        return true;
+    }
+    16 < held.upper
+}
+
+// Loop k, of two sides that are not full, unless a number is not within ±32767.
+fn put_loop(
+    words: &mut [i16],
+    counts: &mut [usize],
+    k: usize,
+    low: &[i32],
+    up: &[i32],
+    held: Held,
+) -> bool
+    requires { ⌜ PutLoopIn (length (now words)) (length (now counts)) k (now low) (now up) held ⌝ }
+    ensures { λ r. ⌜ LoopPut (now (words .entry)) (now (counts .entry)) k (loopIn k (now (low .entry)) (now (up .entry)) held) r (now (words .exit)) (now (counts .exit)) ⌝ }
+{
+    let l = held.lower;
+    let u = held.upper;
+    if !sides::put_side(words, k * 32, low, l, k) {
+        return false;
+    }
+    if !sides::put_side(words, k * 32 + 16, up, u, k) {
+        return false;
+    }
+    counts[k * 2] = l;
+    counts[k * 2 + 1] = u;
+    true
+}
+
+// `full` where a side has more than 16 limits; else `small` where every number is within ±32767, and then the two loops are in their places.
+pub struct Exchanged {
+    pub full: bool,
+    pub small: bool,
+}
+
+// Loops a and a + 1. Both are known before one is put, since each is made of both.
+pub fn exchange_pair(limits: &mut [i16], counts: &mut [usize], a: usize) -> Exchanged
+    requires { ⌜ PairIn (now limits) (now counts) a ⌝ }
+    ensures { λ r. ⌜ Exchanges (now (limits .entry)) (now (counts .entry)) a r (now (limits .exit)) (now (counts .exit)) ⌝ }
+{
+    let mut outer_low = [0i32; 128];
+    let mut outer_up = [0i32; 128];
+    let outer = fill_outer(limits, counts, a, &mut outer_low, &mut outer_up);
+    if full(outer) {
+        return Exchanged {
+            full: true,
+            small: false,
+        };
+    }
+    let mut inner_low = [0i32; 128];
+    let mut inner_up = [0i32; 128];
+    let inner = fill_inner(limits, counts, a, &mut inner_low, &mut inner_up);
+    if full(inner) {
+        return Exchanged {
+            full: true,
+            small: false,
+        };
+    }
+    if !put_loop(limits, counts, a, &outer_low, &outer_up, outer) {
+        return Exchanged {
+            full: false,
+            small: false,
+        };
+    }
+    let small = put_loop(limits, counts, a + 1, &inner_low, &inner_up, inner);
+    Exchanged {
+        full: false,
+        small: small,
+    }
 }

@@ -92,6 +92,14 @@ module _ (T : Ticket) (ranges : TicketRanges T) (formed : WellFormed (T .nest)) 
   new-is : j .new ≡ nestAfterAll (T .steps) N
   new-is = ap (λ (x : Judged). x .new) (judgeTicket-accepted T judges .0)
 
+  -- its new nest has as many iterations
+  pub new-count : length (iterations (j .new .loops)) ≡ length (iterations (N .loops))
+  new-count = ap (λ (X : Nest). length (iterations (X .loops))) new-is ∙ same-count (T .steps) proper N formed
+
+  -- and the same arrays
+  pub new-arrays : j .new .arrays ≡ N .arrays
+  new-arrays = ap (λ (X : Nest). X .arrays) new-is ∙ arrays-kept (T .steps) N
+
   -- its new nest may be run
   pub new-executable : Executable (j .new)
   new-executable = subst Executable (sym new-is) (record {
@@ -103,9 +111,10 @@ module _ (T : Ticket) (ranges : TicketRanges T) (formed : WellFormed (T .nest)) 
   })
 
   -- on whatever sheet it stands
-  pub accepted-executes : (P : Sheet) (room : ℕ) → SheetIn P → nestOf P ≡ j .new → room ≡ total (N .arrays) → ExecuteIn P room
-  accepted-executes P room s e w = record {
+  pub accepted-executes : (P : Sheet) (count room : ℕ) → SheetIn P → nestOf P ≡ j .new → count ≡ length (iterations (N .loops)) → room ≡ total (N .arrays) → ExecuteIn P count room
+  accepted-executes P count room s e c w = record {
     sheet = s;
     nest = subst Executable (sym e) new-executable;
+    counted = c ∙ sym (ap (λ (X : Nest). length (iterations (X .loops))) e ∙ new-count);
     whole = w ∙ sym (ap (λ (X : Nest). total (X .arrays)) (e ∙ new-is) ∙ ap total (arrays-kept (T .steps) N));
   }

@@ -2,7 +2,7 @@
 use mathlib.Core.Path.{_≡_}
 use mathlib.Core.Bool.{not}
 use mathlib.Core.List.{List}
-use Prim.Native.Nat.{ℕ, zero, suc, _*_, _≤_, _<_}
+use Prim.Native.Nat.{ℕ, zero, suc, _≤_}
 use lib.Dec.{eqb}
 use lib.ListN.{length, getD}
 use Rattle.lists.specs.Membership.{All}
@@ -12,7 +12,6 @@ use Rattle.model.specs.Grammar.{total}
 use Rattle.model.specs.Points.{iterations}
 use Rattle.model.specs.Bounds.{sprawl, inArrays}
 use Rattle.model.specs.Shape.{WellFormed}
-use Rattle.elements.specs.Layout.{arraysOf, ArrayIn}
 use Rattle.sheet.specs.declared.Sheet.{Sheet}
 use Rattle.sheet.specs.Sheets.{nestOf, SheetIn}
 
@@ -28,14 +27,6 @@ unfoldable pub clearFrom : List ℕ → ℕ → ℕ → Answer (Unit {0})
 clearFrom rules i zero = accepted tt
 clearFrom rules i (suc n) = require (not (eqb (getD rules i 0) 0)) 15 (suc i) >> clearFrom rules (suc i) n
 
--- ---- refusal 16
-
--- all n arrays of a slice
-pub record TotalIn (a : List ℕ) (n : ℕ) : Type 0 where
-  pub all : length a ≡ n * 4
-  pub each : (i : ℕ) → i < n → ArrayIn a i
-  pub fits : total (arraysOf a) ≤ 16384
-
 -- ---- the run
 
 -- an accepted ticket's new nest
@@ -46,8 +37,9 @@ pub record Executable (N : Nest) : Type 0 where
   pub inside : inArrays (N .arrays) (iterations (N .loops)) 1 (N .statements) ≡ accepted tt
   pub constants : All (λ (s : Statement). s .constant ≤ 32767) (N .statements)
 
--- on its sheet, and a store of `room` words
-pub record ExecuteIn (P : Sheet) (room : ℕ) : Type 0 where
+-- on its sheet, with the number of its iterations, and a store of `room` words
+pub record ExecuteIn (P : Sheet) (count room : ℕ) : Type 0 where
   pub sheet : SheetIn P
   pub nest : Executable (nestOf P)
+  pub counted : count ≡ length (iterations (nestOf P .loops))
   pub whole : room ≡ total (nestOf P .arrays)

@@ -1,12 +1,12 @@
-// The run of an accepted nest on its sheet, and the two tests before it: refusals 15 and 16.
+// The run of an accepted nest on its sheet, and the test of its rules before it: refusal 15.
 ghost use mathlib.Core.Path.{_≡_};
+ghost use Prim.Native.Nat.{_*_, _≤_};
 ghost use lib.ListN.{length};
-ghost use Rattle.model.specs.Grammar.{elements, total};
 ghost use Rattle.model.specs.Store.{runNest};
 ghost use Rattle.model.specs.Entries.{transparent};
-ghost use Rattle.elements.specs.Layout.{extentsAt, arraysOf, ArrayIn};
 ghost use Rattle.sheet.specs.Sheets.{nestOf, SheetIn};
-ghost use Rattle.execution.specs.Execution.{opaqueAt, TotalIn, ExecuteIn};
+ghost use Rattle.sheet.specs.Stages.{PointsAre};
+ghost use Rattle.execution.specs.Execution.{opaqueAt, ExecuteIn};
 use sheet::Sheet;
 
 // The number of the first statement with rule 0, or 0.
@@ -26,52 +26,47 @@ pub fn first_opaque(sheet: Sheet) -> usize
     0
 }
 
-// The number of elements of array i.
-fn elements_of(arrays: &[usize], i: usize) -> usize
-    requires { ⌜ ArrayIn (now arrays) i ⌝ }
-    ensures { λ r. ⌜ r ≡ elements (extentsAt (now (arrays .entry)) i) ⌝ }
-{
-    let at = i * 4;
-    let mut d = arrays[at];
-    let mut r = 1;
-    while 0 < d {
-        d -= 1;
-        r = arrays[at + 1 + d] * r;
-    }
-    r
-}
-
-// The number of elements of all n arrays.
-fn elements_of_all(arrays: &[usize], n: usize) -> usize
-    requires { ⌜ TotalIn (now arrays) n ⌝ }
-    ensures { λ r. ⌜ r ≡ total (arraysOf (now (arrays .entry))) ⌝ }
-{
-    let mut r = 0;
-    let mut i = 0;
-    while i < n {
-        r += elements_of(arrays, i);
-        i += 1;
-    }
-    r
-}
-
-pub fn elements_in(sheet: Sheet) -> usize
-    requires { ⌜ SheetIn sheet ⌝ }
-    ensures { λ r. ⌜ r ≡ total (nestOf sheet .arrays) ⌝ }
-{
-    let extents = sheet.extents;
-    let arrays = sheet.arrays;
-    elements_of_all(&extents[..arrays * 4], arrays)
-}
-
-// Runs the nest of a sheet. Six loops of 4096 points are 24576 indices, and 20 accesses 81920 places.
-pub fn execute(sheet: Sheet, store: &mut [u32])
-    requires { ⌜ ExecuteIn sheet (length (now store)) ⌝ }
+// Runs the nest of a sheet at its points. Lent is room for a number of each access at each point.
+fn run_by(sheet: Sheet, points: &[i64], count: usize, numbers: &mut [u16], store: &mut [u32])
+    requires { ⌜ ExecuteIn sheet count (length (now store)) × PointsAre sheet (now points) count × (sheet .accesses * count ≤ length (now numbers)) ⌝ }
     ensures { λ _. ⌜ now (store .exit) ≡ runNest (nestOf sheet) (now (store .entry)) ⌝ }
 {
-    let mut points = [0i64; 24576];
-    let count = sheet::list_points(sheet, &mut points);
+    sheet::number_accesses(sheet, points, count, numbers);
+    store::run(sheet, count, numbers, store);
+}
+
+// Few accesses at few points have fewer numbers to clear.
+fn run_at(sheet: Sheet, points: &[i64], count: usize, store: &mut [u32])
+    requires { ⌜ ExecuteIn sheet count (length (now store)) × PointsAre sheet (now points) count ⌝ }
+    ensures { λ _. ⌜ now (store .exit) ≡ runNest (nestOf sheet) (now (store .entry)) ⌝ }
+{
+    let needed = sheet.accesses * count;
+    if needed <= 1024 {
+        let mut few = [0u16; 1024];
+        run_by(sheet, points, count, &mut few, store);
+        return;
+    }
+    if needed <= 16384 {
+        let mut more = [0u16; 16384];
+        run_by(sheet, points, count, &mut more, store);
+        return;
+    }
     let mut numbers = [0u16; 81920];
-    sheet::number_accesses(sheet, &points, count, &mut numbers);
-    store::run(sheet, count, &numbers, store);
+    run_by(sheet, points, count, &mut numbers, store);
+}
+
+// Runs the nest of a sheet, which has `count` points, of at most six indices each. Few points have fewer indices to clear.
+pub fn execute(sheet: Sheet, count: usize, store: &mut [u32])
+    requires { ⌜ ExecuteIn sheet count (length (now store)) ⌝ }
+    ensures { λ _. ⌜ now (store .exit) ≡ runNest (nestOf sheet) (now (store .entry)) ⌝ }
+{
+    if count <= 256 {
+        let mut few = [0i64; 1536];
+        sheet::list_points(sheet, &mut few);
+        run_at(sheet, &few, count, store);
+        return;
+    }
+    let mut points = [0i64; 24576];
+    sheet::list_points(sheet, &mut points);
+    run_at(sheet, &points, count, store);
 }

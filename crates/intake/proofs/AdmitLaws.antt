@@ -17,15 +17,14 @@ use Rattle.reading.specs.declared.Refusal.{Refusal}
 use Rattle.reading.specs.declared.Status.{Status}
 use Rattle.reading.specs.declared.Status.the-variants.{Fine, Refused}
 use Rattle.reading.specs.Refusals.{refusal}
-use Rattle.ticket.specs.declared.Ticket.{Ticket}
-use Rattle.ticket.specs.Ticket.{nestOf, ticketOf, decoded}
+use Rattle.ticket.specs.Ticket.{ticketOn, decoded}
 use Rattle.sheet.specs.Sheets as Sheet
 use Rattle.sheet.specs.Stages.{PointsAre}
 use Rattle.sheet.proofs.StageLaws.{depth-is}
 use Rattle.admission.specs.Admission.{passed, EnumerateIn, Enumerates}
 use Rattle.intake.specs.declared.Intake.{Intake}
 use Rattle.intake.specs.Intake.{received, Laid, Receives, Waits, withStatus, Admits}
-use Rattle.intake.proofs.IntakeLaws.{not-fine}
+use Rattle.reading.proofs.ReaderLaws.{not-fine}
 
 -- what is left after 1 to 8
 abbrev rest : Model.Ticket → Answer Model.Ticket
@@ -44,15 +43,15 @@ admit-goes-on b = go (decode b)
     go (refused n p) = refl
 
 module _ (b : List ℕ) (q : Intake) (h : Receives b q) where
-  by-status : (s : Status) → q .status ≡ s → admit b ≡ (decoded s (ticketOf (q .ticket)) >>= rest)
-  by-status s e = admit-goes-on b ∙ ap (_>>= rest) (sym (h .same) ∙ ap (λ (x : Status). decoded x (ticketOf (q .ticket))) e)
+  by-status : (s : Status) → q .status ≡ s → admit b ≡ (decoded s (ticketOn (q .sheet) (q .steps)) >>= rest)
+  by-status s e = admit-goes-on b ∙ ap (_>>= rest) (sym (h .same) ∙ ap (λ (x : Status). decoded x (ticketOn (q .sheet) (q .steps))) e)
 
   -- refused before its points are asked for
   pub not-received : (r : Refusal) → q .status ≡ Refused r → Admits b [] [] q
   unfolding _>>=_
   not-received r s = record {
-    same = ap (λ (x : Status). decoded x (ticketOf (q .ticket))) s ∙ sym (by-status (Refused r) s);
-    taken = λ f. not-fine r (sym s ∙ f);
+    same = ap (λ (x : Status). decoded x (ticketOn (q .sheet) (q .steps))) s ∙ sym (by-status (Refused r) s);
+    taken = λ f. not-fine (q .status) s f;
     room = refl;
   }
 
@@ -65,48 +64,44 @@ module _ (b : List ℕ) (q : Intake) (h : Receives b q) where
     pub waits : Waits b q 16384
     waits =
         let l = h .laid f in let s = l .sheet .some in let d = depth-is (q .sheet) in
-        let n = admitted-few (Sheet.nestOf (q .sheet) .loops) (omega arith) (ap (λ (N : Model.Nest). space (N .loops)) (l .same) ∙ l .spacious) in
+        let n = admitted-few (Sheet.nestOf (q .sheet) .loops) (omega arith) (l .spacious) in
         let c = l .count in record { receives = h; fine = f; fits = omega arith }
 
 -- ---- with its points
 
 module _ (b : List ℕ) (q : Intake) (o : List ℤ) (h : Waits b q (length o)) where
-  abbrev t : Ticket
-  t = q .ticket
+  abbrev T : Model.Ticket
+  T = ticketOn (q .sheet) (q .steps)
 
-  laid : Laid t (q .sheet) (q .count)
+  laid : Laid (q .sheet) (q .steps) (q .count)
   laid = h .receives .laid (h .fine)
 
   pub enumerate-in : EnumerateIn (q .sheet) (length o)
   enumerate-in = record {
     sheet = laid .sheet;
-    spacious = ap (λ (N : Model.Nest). space (N .loops)) (laid .same) ∙ laid .spacious;
+    spacious = laid .spacious;
     fits = let a = mul-le-mul-left (q .count) (laid .shallow) in let f = h .fits in subst (λ (n : ℕ). n * q .sheet .depth ≤ length o) (laid .count) (omega arith);
   }
 
-  admits : admit b ≡ (admitted (nestOf t) >> accepted (ticketOf t))
-  unfolding admitted ticketOf _>>_ _>>=_
+  admits : admit b ≡ (admitted (Sheet.nestOf (q .sheet)) >> accepted T)
+  unfolding admitted ticketOn _>>_ _>>=_
   admits = by-status b q (h .receives) Fine (h .fine)
-      ∙ sym (ap (λ (m : Answer (Unit {0})). (m >> inArrays (nestOf t .arrays) (iterations (nestOf t .loops)) 1 (nestOf t .statements)) >> accepted (ticketOf t)) (laid .spacious))
+      ∙ sym (ap (λ (m : Answer (Unit {0})). (m >> inArrays (T .nest .arrays) (iterations (T .nest .loops)) 1 (T .nest .statements)) >> accepted T) (laid .spacious))
 
   module _ (e : List ℤ) (s : Status) (g : Enumerates (q .sheet) o e s) where
-    same-answer : passed s ≡ admitted (nestOf t)
-    same-answer = g .same ∙ ap admitted (laid .same)
-
-    with-ticket : (z : Status) → (passed z >> accepted (ticketOf t)) ≡ decoded z (ticketOf t)
+    with-ticket : (z : Status) → (passed z >> accepted T) ≡ decoded z T
     unfolding _>>_ _>>=_
     with-ticket Fine = refl
     with-ticket (Refused r) = refl
 
     pub admitted-out : Admits b o e (withStatus s q)
     admitted-out = record {
-      same = sym (with-ticket s) ∙ ap (_>> accepted (ticketOf t)) same-answer ∙ sym admits;
+      same = sym (with-ticket s) ∙ ap (_>> accepted T) (g .same) ∙ sym admits;
       taken = λ f. record {
-        within = laid .within;
+        steps = laid .steps;
         ranges = laid .ranges;
         formed = laid .formed;
-        admitted-is = sym same-answer ∙ ap passed f;
-        same = laid .same;
+        admitted-is = sym (g .same) ∙ ap passed f;
         sheet = laid .sheet;
         points-are = subst (PointsAre (q .sheet) e) (sym (laid .count)) (g .points);
       };

@@ -15,8 +15,9 @@ use Rattle.model.specs.Ranges.{TicketRanges}
 use Rattle.model.specs.Shape.{WellFormed}
 use Rattle.reading.specs.declared.Status.{Status}
 use Rattle.reading.specs.declared.Status.the-variants.{Fine}
-use Rattle.ticket.specs.declared.Ticket.{Ticket}
-use Rattle.ticket.specs.Ticket.{nestOf, ticketOf, decoded, TicketIn}
+use Rattle.steps.specs.Steps.{StepsIn}
+use Rattle.steps.specs.declared.Steps.{Steps}
+use Rattle.ticket.specs.Ticket.{ticketOn, decoded}
 use Rattle.sheet.specs.declared.Sheet.{Sheet}
 use Rattle.sheet.specs.Sheets as Sheet
 use Rattle.sheet.specs.Sheets.{SheetIn}
@@ -27,20 +28,19 @@ use Rattle.intake.specs.declared.Intake.{Intake}
 unfoldable pub received : List ℕ → Answer Model.Ticket
 received b = decode b >>= (λ T. space (T .nest .loops) >> accepted T)
 
--- a ticket that passes 1 to 8, the sheet that it is laid out on, and the count of its points
-pub record Laid (t : Ticket) (P : Sheet) (n : ℕ) : Type 0 where
-  pub within : TicketIn t
-  pub ranges : TicketRanges (ticketOf t)
-  pub formed : WellFormed (nestOf t)
-  pub spacious : space (nestOf t .loops) ≡ accepted tt
-  pub same : Sheet.nestOf P ≡ nestOf t
+-- a ticket that passes 1 to 8 on its sheet, and the count of its points
+pub record Laid (P : Sheet) (S : Steps) (n : ℕ) : Type 0 where
+  pub steps : StepsIn S
+  pub ranges : TicketRanges (ticketOn P S)
+  pub formed : WellFormed (Sheet.nestOf P)
+  pub spacious : space (Sheet.nestOf P .loops) ≡ accepted tt
   pub sheet : SheetIn P
   pub shallow : P .depth ≤ 4
   pub count : n ≡ length (iterations (Sheet.nestOf P .loops))
 
 pub record Receives (b : List ℕ) (r : Intake) : Type 0 where
-  pub same : decoded (r .status) (ticketOf (r .ticket)) ≡ received b
-  pub laid : r .status ≡ Fine → Laid (r .ticket) (r .sheet) (r .count)
+  pub same : decoded (r .status) (ticketOn (r .sheet) (r .steps)) ≡ received b
+  pub laid : r .status ≡ Fine → Laid (r .sheet) (r .steps) (r .count)
 
 -- what was received of the bytes waits for its points, for which there is room
 pub record Waits (b : List ℕ) (r : Intake) (room : ℕ) : Type 0 where
@@ -49,20 +49,19 @@ pub record Waits (b : List ℕ) (r : Intake) (room : ℕ) : Type 0 where
   pub fits : r .count * 4 ≤ room
 
 abbrev pub withStatus : Status → Intake → Intake
-withStatus s r = record { status = s; ticket = r .ticket; sheet = r .sheet; count = r .count }
+withStatus s r = record { status = s; steps = r .steps; sheet = r .sheet; count = r .count }
 
--- an admitted ticket, the sheet that it is laid out on, and its n points
-pub record Taken (t : Ticket) (P : Sheet) (points : List ℤ) (n : ℕ) : Type 0 where
-  pub within : TicketIn t
-  pub ranges : TicketRanges (ticketOf t)
-  pub formed : WellFormed (nestOf t)
-  pub admitted-is : admitted (nestOf t) ≡ accepted tt
-  pub same : Sheet.nestOf P ≡ nestOf t
+-- an admitted ticket on its sheet, and its n points
+pub record Taken (P : Sheet) (S : Steps) (points : List ℤ) (n : ℕ) : Type 0 where
+  pub steps : StepsIn S
+  pub ranges : TicketRanges (ticketOn P S)
+  pub formed : WellFormed (Sheet.nestOf P)
+  pub admitted-is : admitted (Sheet.nestOf P) ≡ accepted tt
   pub sheet : SheetIn P
   pub points-are : PointsAre P points n
 
 -- the slice o became e
 pub record Admits (b : List ℕ) (o e : List ℤ) (r : Intake) : Type 0 where
-  pub same : decoded (r .status) (ticketOf (r .ticket)) ≡ admit b
-  pub taken : r .status ≡ Fine → Taken (r .ticket) (r .sheet) e (r .count)
+  pub same : decoded (r .status) (ticketOn (r .sheet) (r .steps)) ≡ admit b
+  pub taken : r .status ≡ Fine → Taken (r .sheet) (r .steps) e (r .count)
   pub room : length e ≡ length o

@@ -8,40 +8,22 @@ use admission::Counted;
 use reading::Refusal;
 use reading::Status;
 use sheet::Sheet;
-use ticket::Ticket;
+use steps::Steps;
 
-// The ticket, its sheet and the number of its points where the status is Fine.
+// The ticket's nest on its sheet, its steps and the number of its points where the status is Fine.
 pub struct Intake {
     pub status: Status,
-    pub ticket: Ticket,
+    pub steps: Steps,
     pub sheet: Sheet,
     pub count: usize,
 }
 
-fn blank() -> Sheet {
-    Sheet {
-        depth: 0,
-        limits: [0i16; 1536],
-        counts: [0usize; 12],
-        arrays: 0,
-        extents: [0usize; 16],
-        statements: 0,
-        sizes: [0usize; 4],
-        rules: [0usize; 4],
-        constants: [0usize; 4],
-        accesses: 0,
-        owners: [0usize; 20],
-        words: [0i16; 480],
-    }
-}
-
-fn refused(r: Refusal, ticket: Ticket) -> Intake
+fn refused(r: Refusal, steps: Steps, sheet: Sheet) -> Intake
     ensures { λ q. ⌜ q .status ≡ Refused r ⌝ }
 {
-    let sheet = blank();
     Intake {
         status: Status::Refused(r),
-        ticket: ticket,
+        steps: steps,
         sheet: sheet,
         count: 0,
     }
@@ -51,24 +33,21 @@ pub fn receive(bytes: &[u8]) -> Intake
     ensures { λ r. ⌜ Receives (now (bytes .entry)) r ⌝ }
 {
     let d = ticket::decode(bytes);
-    let t = d.ticket;
+    let steps = d.steps;
+    let sheet = d.sheet;
     let status = d.status;
     match status {
         Status::Fine => {}
-        Status::Refused(r) => return refused(r, t),
+        Status::Refused(r) => return refused(r, steps, sheet),
     }
-    let nest = t.nest;
-    let arrays = t.arrays;
-    let body = t.body;
-    let sheet = layout::lay(nest, arrays, body);
     match admission::count_points(sheet) {
         Counted::Points(n) => Intake {
             status: Status::Fine,
-            ticket: t,
+            steps: steps,
             sheet: sheet,
             count: n,
         },
-        Counted::Refused(r) => refused(r, t),
+        Counted::Refused(r) => refused(r, steps, sheet),
     }
 }
 

@@ -53,5 +53,5 @@ module _ (N M : Nest) (w : List ℕ) where
       executed g c q e r = subst (λ (a : Answer (Unit {0})). Hands (outcome a N M w) (Accepted c) e)
           (sym (clear ∙ ap (λ (b : Bool). require b 16 0) (eq-eqb (length w) (total (N .arrays)) (g ∙ f)))) (record { answer = ap accepted q; memory = r })
 
-pub execute-in : (old new : Sheet) (count : ℕ) → RunIn old new count → (room t : ℕ) → t ≡ total (nestOf old .arrays) → room ≡ t → ExecuteIn new room
-execute-in old new count h room t f g = record { sheet = h .other; nest = h .executable; whole = g ∙ f ∙ sym (ap total (h .arrays)) }
+pub execute-in : (old new : Sheet) (count : ℕ) → RunIn old new count → (room t : ℕ) → t ≡ total (nestOf old .arrays) → room ≡ t → ExecuteIn new count room
+execute-in old new count h room t f g = record { sheet = h .other; nest = h .executable; counted = h .counted ∙ sym (h .as-many); whole = g ∙ f ∙ sym (ap total (h .arrays)) }

@@ -29,4 +29,5 @@ pub record RunIn (old new : Sheet) (count : ℕ) : Type 0 where
   pub other : SheetIn new
   pub executable : Executable (nestOf new)
   pub arrays : nestOf new .arrays ≡ nestOf old .arrays
+  pub as-many : length (iterations (nestOf new .loops)) ≡ length (iterations (nestOf old .loops))
   pub counted : count ≡ length (iterations (nestOf old .loops))

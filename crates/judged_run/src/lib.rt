@@ -12,13 +12,13 @@ pub fn run_judged(old: Sheet, new: Sheet, count: usize, store: &mut [u32]) -> An
     ensures { λ r. ⌜ Hands (outcome (tested (nestOf old) (now (store .entry))) (nestOf old) (nestOf new) (now (store .entry))) r (now (store .exit)) ⌝ }
 {
     let opaque = execution::first_opaque(old);
-    let elements = execution::elements_in(old);
+    let elements = sheet::elements_in(old);
     if 0 < opaque {
         return Answer::Refused(Refusal::OpaqueRule(opaque));
     }
     if store.len() != elements {
         return Answer::Refused(Refusal::WrongStoreLength);
     }
-    execution::execute(new, store);
+    execution::execute(new, count, store);
     Answer::Accepted(count)
 }

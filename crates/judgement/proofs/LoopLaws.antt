@@ -1,35 +1,35 @@
 -- The steps of a ticket one after another: what has been judged so far, and what is left.
 use mathlib.Core.Path.{_≡_, refl, sym, _∙_, ap, ap₂, subst}
-use mathlib.Core.List.{List, [], _∷_, map}
-use Prim.Native.Nat.{ℕ, zero, suc, _+_, _≤_, _<_}
+use mathlib.Core.Bool.{Bool, true, false}
+use mathlib.Core.List.{List, [], _∷_, _++_, map}
+use Prim.Native.Nat.{ℕ, zero, suc, _+_, _*_, _≤_, _<_}
 use native.Mathlib.Omega.{arith}
 use native.Mathlib.Numerals.{add-one}
+use lib.IntN.{ℤ}
 use lib.ListN.{length, getD, take, drop}
 use Rattle.model.specs.Answer.{accepted}
 use Rattle.model.specs.Ticket as Model
-use Rattle.model.specs.Ranges.{StepsThere}
-use Rattle.model.specs.Judge.{smallNumbers, judgeSteps, directionsOf}
+use Rattle.model.specs.Grammar.{depthAfter}
+use Rattle.model.specs.Ranges.{StepThere, StepsThere}
+use Rattle.model.specs.Steps.{somePointsBack}
+use Rattle.model.specs.Judge.{judgeSteps, directionsOf}
 use Rattle.model.proofs.Verdict.SameVectorsLaws.{judgeSteps-same}
 use Rattle.reading.specs.declared.Refusal.{Refusal}
+use Rattle.reading.specs.declared.Refusal.the-variants.{DependenceReversed}
 use Rattle.reading.specs.declared.Status.{Status}
 use Rattle.reading.specs.declared.Status.the-variants.{Fine, Refused}
-use Rattle.nest.specs.declared.Nest.{Nest}
-use Rattle.body.specs.declared.Body.{Body}
 use Rattle.steps.specs.Steps.{stepOf, stepsOf, NumberedFrom, StepsIn}
 use Rattle.steps.specs.declared.Numbered.{Numbered}
 use Rattle.steps.specs.declared.Steps.{Steps}
-use Rattle.ticket.specs.declared.Ticket.{Ticket}
-use Rattle.ticket.specs.Ticket as Ticket
-use Rattle.ticket.specs.Ticket.{ticketOf}
-use Rattle.small_numbers.proofs.SmallLaws.{nest-length}
-use Rattle.directions.specs.Sets.{vectorsOf}
+use Rattle.sheet.specs.declared.Sheet.{Sheet}
+use Rattle.sheet.specs.Sheets.{extentsIn, ownersIn, wordsIn, nestOf, SheetIn}
+use Rattle.sheet.proofs.StageLaws.{depth-is}
+use Rattle.directions.specs.Sets.{vectorsOf, After}
 use Rattle.directions.specs.declared.DirectionSet.{DirectionSet}
-use Rattle.stepping.specs.Taking.{nestOf}
-use Rattle.stepping.proofs.TakingLaws.{ranges-pass}
-use Rattle.layout.specs.Sheets.{modelOf}
-use Rattle.judgement.specs.Judgement.{unless, judgedAs, Ready, JudgeStepIn, JudgesStep, JudgeIn, JudgesSteps}
-use Rattle.judgement.specs.declared.Stepped.{Stepped}
-use Rattle.judgement.proofs.StepLaws.{not-fine}
+use Rattle.ticket.specs.Ticket.{ticketOn}
+use Rattle.judgement.specs.Judgement.{unless, judgedAs, StepJudged, JudgeIn, JudgesSteps}
+use Rattle.judgement.specs.declared.Judged.{Judged}
+use Rattle.judgement.proofs.StepLaws.{not-fine, moved, judged-back, judged-step, sheet-goes-on, level-goes-on}
 
 -- ---- the step at a place
 
@@ -53,14 +53,15 @@ steps-end (suc n) (x ∷ l) = steps-end n l
 
 -- ---- the first k steps of S are judged
 
--- on the nest N₀ with B₀ and s₀ they made N, B and s, whatever the arrays
-pub record SoFar (S : Steps) (N₀ : Nest) (B₀ : Body) (s₀ : DirectionSet) (N : Nest) (B : Body) (s : DirectionSet) (k : ℕ) : Type 0 where
+-- on the sheet P with the vectors s₀ they made Q and s
+pub record SoFar (S : Steps) (P : Sheet) (s₀ : DirectionSet) (Q : Sheet) (s : DirectionSet) (k : ℕ) : Type 0 where
   pub few : k ≤ S .count
-  pub so : (as′ : List (List ℕ)) → judgeSteps 1 (stepsOf S) (vectorsOf s₀) (nestOf as′ N₀ B₀) ≡ judgeSteps (suc k) (drop k (stepsOf S)) (vectorsOf s) (nestOf as′ N B)
-  pub ready : Ready N B s
-  pub there : StepsThere (N .depth) (drop k (stepsOf S))
+  pub so : judgeSteps 1 (stepsOf S) (vectorsOf s₀) (nestOf P) ≡ judgeSteps (suc k) (drop k (stepsOf S)) (vectorsOf s) (nestOf Q)
+  pub sheet : SheetIn Q
+  pub level : s .depth ≡ Q .depth
+  pub there : StepsThere (Q .depth) (drop k (stepsOf S))
 
-module _ (S : Steps) (j : StepsIn S) (N₀ : Nest) (B₀ : Body) (s₀ : DirectionSet) (N : Nest) (B : Body) (s : DirectionSet) (k : ℕ) (v : SoFar S N₀ B₀ s₀ N B s k) (d : Numbered) (h : k < S .count) where
+module _ (S : Steps) (j : StepsIn S) (P : Sheet) (s₀ : DirectionSet) (Q : Sheet) (s : DirectionSet) (k : ℕ) (v : SoFar S P s₀ Q s k) (d : Numbered) (h : k < S .count) where
   abbrev x : Numbered
   x = getD (S .steps) k d
 
@@ -71,71 +72,73 @@ module _ (S : Steps) (j : StepsIn S) (N₀ : Nest) (B₀ : Body) (s₀ : Directi
   number-is : x .number ≡ suc k
   number-is = let f = j .few in let r = j .room in let e = number-from 1 (S .count) (S .steps) k d h (omega arith) (j .numbered) in omega arith
 
-  next-there : StepsThere (N .depth) (stepOf (x .step) ∷ drop (suc k) (stepsOf S))
-  next-there = subst (StepsThere (N .depth)) next-is (v .there)
+  next-there : StepsThere (Q .depth) (stepOf (x .step) ∷ drop (suc k) (stepsOf S))
+  next-there = subst (StepsThere (Q .depth)) next-is (v .there)
 
-  pub step-in : JudgeStepIn N B s (x .step)
-  step-in = record { ready = v .ready; there = next-there .0 }
+  pub step-there : StepThere (Q .depth) (stepOf (x .step))
+  step-there = next-there .0
 
-  module _ (r : Stepped) (g : JudgesStep N B s (x .step) (x .number) r) where
-    goes-on : (as′ : List (List ℕ)) → judgeSteps 1 (stepsOf S) (vectorsOf s₀) (nestOf as′ N₀ B₀)
-        ≡ unless (r .status) (judgeSteps (suc (suc k)) (drop (suc k) (stepsOf S)) (vectorsOf (r .set)) (nestOf as′ (r .nest) (r .body)))
-    goes-on as′ = v .so as′
-        ∙ ap₂ (λ n ts. judgeSteps n ts (vectorsOf s) (nestOf as′ N B)) (sym number-is) next-is
-        ∙ sym (g .same as′ (drop (suc k) (stepsOf S)))
-        ∙ ap (λ n. unless (r .status) (judgeSteps (suc n) (drop (suc k) (stepsOf S)) (vectorsOf (r .set)) (nestOf as′ (r .nest) (r .body)))) number-is
+  so-next : judgeSteps 1 (stepsOf S) (vectorsOf s₀) (nestOf P) ≡ judgeSteps (x .number) (stepOf (x .step) ∷ drop (suc k) (stepsOf S)) (vectorsOf s) (nestOf Q)
+  so-next = v .so ∙ ap₂ (λ n ts. judgeSteps n ts (vectorsOf s) (nestOf Q)) (sym number-is) next-is
 
-    pub stops : (q : Refusal) → r .status ≡ Refused q → (as′ : List (List ℕ)) (M : Model.Nest) → judgedAs (r .status) M ≡ judgeSteps 1 (stepsOf S) (vectorsOf s₀) (nestOf as′ N₀ B₀)
-    stops q e as′ M =
-        let R = judgeSteps (suc (suc k)) (drop (suc k) (stepsOf S)) (vectorsOf (r .set)) (nestOf as′ (r .nest) (r .body)) in
-        ap (λ (z : Status). judgedAs z M) e ∙ sym (goes-on as′ ∙ ap (λ (z : Status). unless z R) e)
+  module _ (q : DirectionSet) (a : After (stepOf (x .step)) s q) (b : Bool) (p : b ≡ somePointsBack (vectorsOf q)) where
+    pub stops-back : b ≡ true → (z : Status) → z ≡ Refused (DependenceReversed (x .number)) → (M : Model.Nest) → judgedAs z M ≡ judgeSteps 1 (stepsOf S) (vectorsOf s₀) (nestOf P)
+    stops-back e z y M =
+        ap (λ (u : Status). judgedAs u M) y
+        ∙ sym (so-next ∙ judged-back Q (v .sheet) s (v .level) (x .step) step-there q a b p (x .number) (drop (suc k) (stepsOf S)) e)
 
-    pub one-more : r .status ≡ Fine → SoFar S N₀ B₀ s₀ (r .nest) (r .body) (r .set) (k + 1)
-    one-more e = rw (add-one k) (record {
-      few = omega arith;
-      so = λ as′. goes-on as′ ∙ ap (λ (z : Status). unless z (judgeSteps (suc (suc k)) (drop (suc k) (stepsOf S)) (vectorsOf (r .set)) (nestOf as′ (r .nest) (r .body)))) e;
-      ready = g .ready e;
-      there = subst (λ m. StepsThere m (drop (suc k) (stepsOf S))) (sym (g .depth e)) (next-there .1);
-    })
+    module _ (e : b ≡ false) (z : Status) (l : List ℤ) (c : List ℕ) (w : List ℤ) (g : StepJudged (x .step) (x .number) (Q .limits) (Q .counts) (wordsIn Q) (ownersIn Q) (extentsIn Q) (Q .depth) z l c w) where
+      abbrev R : ℕ → Sheet
+      R m = moved Q m l c (w ++ drop (Q .accesses * 24) (Q .words))
 
-all-judged : (S : Steps) (N₀ : Nest) (B₀ : Body) (s₀ : DirectionSet) (N : Nest) (B : Body) (s : DirectionSet) (k : ℕ) → SoFar S N₀ B₀ s₀ N B s k → S .count ≤ k
-    → (as′ : List (List ℕ)) → judgeSteps 1 (stepsOf S) (vectorsOf s₀) (nestOf as′ N₀ B₀) ≡ accepted (nestOf as′ N B)
+      abbrev depth : ℕ
+      depth = depthAfter (stepOf (x .step)) (Q .depth)
+
+      goes-on : judgeSteps 1 (stepsOf S) (vectorsOf s₀) (nestOf P) ≡ unless z (judgeSteps (suc (suc k)) (drop (suc k) (stepsOf S)) (vectorsOf q) (nestOf (R depth)))
+      goes-on = so-next
+          ∙ judged-step Q (v .sheet) s (v .level) (x .step) step-there q a b p (x .number) (drop (suc k) (stepsOf S)) e z l c w g
+          ∙ ap (λ n. unless z (judgeSteps (suc n) (drop (suc k) (stepsOf S)) (vectorsOf q) (nestOf (R depth)))) number-is
+
+      pub stops : (y : Refusal) → z ≡ Refused y → (u : Status) → u ≡ Refused y → (M : Model.Nest) → judgedAs u M ≡ judgeSteps 1 (stepsOf S) (vectorsOf s₀) (nestOf P)
+      stops y f u i M =
+          ap (λ (t : Status). judgedAs t M) i
+          ∙ sym (goes-on ∙ ap (λ (t : Status). unless t (judgeSteps (suc (suc k)) (drop (suc k) (stepsOf S)) (vectorsOf q) (nestOf (R depth)))) f)
+
+      pub one-more : z ≡ Fine → (m : ℕ) → m ≡ depth → SoFar S P s₀ (R m) q (k + 1)
+      one-more f m y = subst (λ n. SoFar S P s₀ (R n) q (k + 1)) (sym y) (rw (add-one k) (record {
+        few = omega arith;
+        so = goes-on ∙ ap (λ (t : Status). unless t (judgeSteps (suc (suc k)) (drop (suc k) (stepsOf S)) (vectorsOf q) (nestOf (R depth)))) f;
+        sheet = sheet-goes-on Q (v .sheet) s (v .level) (x .step) step-there q a b p (x .number) (drop (suc k) (stepsOf S)) e z l c w g f;
+        level = level-goes-on Q (v .sheet) s (v .level) (x .step) step-there q a;
+        there = next-there .1;
+      }))
+
+all-judged : (S : Steps) (P : Sheet) (s₀ : DirectionSet) (Q : Sheet) (s : DirectionSet) (k : ℕ) → SoFar S P s₀ Q s k → S .count ≤ k
+    → judgeSteps 1 (stepsOf S) (vectorsOf s₀) (nestOf P) ≡ accepted (nestOf Q)
 unfolding judgeSteps stepsOf
-all-judged S N₀ B₀ s₀ N B s k v h as′ =
+all-judged S P s₀ Q s k v h =
     let z : k ≡ S .count = let f = v .few in omega arith in
     let e : drop k (stepsOf S) ≡ [] = ap (λ n. drop n (stepsOf S)) z ∙ steps-end (S .count) (S .steps) in
-    v .so as′ ∙ ap (λ ts. judgeSteps (suc k) ts (vectorsOf s) (nestOf as′ N B)) e
+    v .so ∙ ap (λ ts. judgeSteps (suc k) ts (vectorsOf s) (nestOf Q)) e
 
 -- ---- of a ticket
 
-module _ (t : Ticket) (s₀ : DirectionSet) (i : JudgeIn t s₀) where
-  pub none-judged : SoFar (t .steps) (t .nest) (t .body) s₀ (t .nest) (t .body) s₀ 0
-  unfolding ticketOf Ticket.nestOf smallNumbers
+module _ (P : Sheet) (S : Steps) (s₀ : DirectionSet) (i : JudgeIn P S s₀) where
+  pub none-judged : SoFar S P s₀ P s₀ 0
+  unfolding ticketOn
   none-judged = record {
     few = omega arith;
-    so = λ as′. refl;
-    ready = record { nest = i .within .nest; body = i .within .body; small = ranges-pass 4 4 (Ticket.nestOf t) (i .ranges .nest); level = i .level };
-    there = subst (λ m. StepsThere m (stepsOf (t .steps))) (nest-length (t .nest) (i .within .nest)) (i .ranges .steps);
+    so = refl;
+    sheet = i .sheet;
+    level = i .level;
+    there = subst (λ m. StepsThere m (stepsOf S)) (depth-is P) (i .ranges .steps);
   }
 
-  by-directions : judgeSteps 1 (stepsOf (t .steps)) (vectorsOf s₀) (Ticket.nestOf t) ≡ judgeSteps 1 (ticketOf t .steps) (directionsOf (Ticket.nestOf t)) (Ticket.nestOf t)
-  unfolding ticketOf
-  by-directions = judgeSteps-same 1 (stepsOf (t .steps)) (Ticket.nestOf t) (i .vectors)
+  by-directions : judgeSteps 1 (stepsOf S) (vectorsOf s₀) (nestOf P) ≡ judgeSteps 1 (stepsOf S) (directionsOf (nestOf P)) (nestOf P)
+  by-directions = judgeSteps-same 1 (stepsOf S) (nestOf P) (i .vectors)
 
-  module _ (N : Nest) (B : Body) (s : DirectionSet) (k : ℕ) (v : SoFar (t .steps) (t .nest) (t .body) s₀ N B s k) where
-    pub steps-stop : (d : Numbered) → k < t .steps .count → (r : Stepped) → JudgesStep N B s (getD (t .steps .steps) k d .step) (getD (t .steps .steps) k d .number) r
-        → (q : Refusal) → r .status ≡ Refused q → JudgesSteps t r
-    unfolding Ticket.nestOf
-    steps-stop d h r g q e = record {
-      same = stops (t .steps) (i .within .steps) (t .nest) (t .body) s₀ N B s k v d h r g q e (Ticket.nestOf t .arrays) _ ∙ by-directions;
-      nest = λ f. not-fine q (sym e ∙ f);
-      body = λ f. not-fine q (sym e ∙ f);
-    }
+  pub steps-stop : (r : Judged) (y : Refusal) → r .status ≡ Refused y → judgedAs (r .status) (nestOf (r .sheet)) ≡ judgeSteps 1 (stepsOf S) (vectorsOf s₀) (nestOf P) → JudgesSteps P S r
+  steps-stop r y e h = record { same = h ∙ by-directions; sheet = λ f. not-fine y (sym e ∙ f) }
 
-  pub steps-pass : (r : Stepped) → r .status ≡ Fine → (k : ℕ) → SoFar (t .steps) (t .nest) (t .body) s₀ (r .nest) (r .body) (r .set) k → t .steps .count ≤ k → JudgesSteps t r
-  unfolding Ticket.nestOf modelOf
-  steps-pass r e k v h = record {
-    same = ap (λ (z : Status). judgedAs z (modelOf (r .nest) (t .arrays) (r .body))) e ∙ sym (all-judged (t .steps) (t .nest) (t .body) s₀ (r .nest) (r .body) (r .set) k v h (Ticket.nestOf t .arrays)) ∙ by-directions;
-    nest = λ _. v .ready .nest;
-    body = λ _. v .ready .body;
-  }
+  pub steps-pass : (Q : Sheet) (s : DirectionSet) (k : ℕ) → SoFar S P s₀ Q s k → S .count ≤ k → JudgesSteps P S (record { status = Fine; sheet = Q })
+  steps-pass Q s k v h = record { same = sym (all-judged S P s₀ Q s k v h) ∙ by-directions; sheet = λ _. v .sheet }

@@ -1,4 +1,4 @@
--- Every decoded ticket meets `JudgeIn`, with a set of marks that stands for its directions.
+-- Every received ticket meets `JudgeIn`, with a set of marks that stands for its directions.
 use mathlib.Core.Path.{_≡_, refl, sym, _∙_, ap, subst}
 use mathlib.Core.Bool.{Bool, true, false}
 use mathlib.Core.List.{List, [], _∷_, List·Memᴰ·head, List·Memᴰ·tail, List·Memᴰ·cases-cons}
@@ -11,23 +11,20 @@ use Rattle.integers.specs.Sign.{Sign}
 use Rattle.lists.specs.Membership.{All, SameMembers}
 use Rattle.lists.proofs.MembershipLaws.{members-refl, members-trans}
 use Rattle.lists.proofs.OrderLaws.{precedes-mem}
-use Rattle.model.specs.Answer.{accepted}
 use Rattle.model.specs.Ticket as Model
-use Rattle.model.specs.Grammar.{decode}
 use Rattle.model.specs.Points.{iterations}
 use Rattle.model.specs.Machine.{accesses, order}
 use Rattle.model.specs.Directions.{signs}
 use Rattle.model.specs.Judge.{directionsOf}
-use Rattle.model.proofs.Grammar.GrammarLaws.{decode-ranges, decode-formed}
 use Rattle.model.proofs.Machine.DirectionLaws.{mem-directions}
 use Rattle.model.proofs.Machine.InstanceLaws.{instances-mem}
 use Rattle.model.proofs.Points.PointLaws.{iterations-length}
 use Rattle.model.proofs.Promise.TradeLaws.{pair-lengths}
-use Rattle.reading.specs.declared.Status.{Status}
 use Rattle.reading.specs.declared.Status.the-variants.{Fine}
-use Rattle.ticket.specs.declared.Decoded.{Decoded}
-use Rattle.ticket.specs.Ticket.{nestOf, ticketOf, decoded, Decodes}
-use Rattle.small_numbers.proofs.SmallLaws.{nest-length}
+use Rattle.sheet.specs.Sheets.{nestOf}
+use Rattle.sheet.proofs.StageLaws.{depth-is}
+use Rattle.intake.specs.declared.Intake.{Intake}
+use Rattle.intake.specs.Intake.{Receives}
 use Rattle.preimages.specs.Numbers.{number}
 use Rattle.directions.specs.Sets.{vectorsIn}
 use Rattle.directions.specs.declared.DirectionSet.{DirectionSet}
@@ -75,13 +72,11 @@ marks-of d f (v ∷ vs) a =
       from = λ u i. ⊎-elim List·Memᴰ·head (λ j. List·Memᴰ·tail (s .from u j)) (List·Memᴰ·cases-cons i);
     }
 
--- ---- a decoded ticket
+-- ---- a received ticket
 
-pub decoded-met : (b : List ℕ) (d : Decoded) → Decodes b d → d .status ≡ Fine → (s : DirectionSet) × JudgeIn (d .ticket) s
-unfolding ticketOf nestOf
-decoded-met b d h e =
-    let t = d .ticket in
-    let z : decode b ≡ accepted (ticketOf t) = sym (h .same) ∙ ap (λ (x : Status). decoded x (ticketOf t)) e in
-    let n = nest-length (t .nest) (h .within .nest) in
-    let m = marks-of (t .nest .depth) (h .within .nest .few) (directionsOf (nestOf t)) (λ v i. directions-length (nestOf t) v i ∙ n) in
-    (record { marks = m .marks; depth = t .nest .depth }, record { within = h .within; ranges = decode-ranges b z; formed = decode-formed b z; level = refl; vectors = m .stand })
+pub received-met : (b : List ℕ) (q : Intake) → Receives b q → q .status ≡ Fine → (s : DirectionSet) × JudgeIn (q .sheet) (q .steps) s
+received-met b q h e =
+    let P = q .sheet in
+    let l = h .laid e in
+    let m = marks-of (P .depth) (l .sheet .nest .shallow) (directionsOf (nestOf P)) (λ v i. directions-length (nestOf P) v i ∙ depth-is P) in
+    (record { marks = m .marks; depth = P .depth }, record { sheet = l .sheet; steps = l .steps; ranges = l .ranges; formed = l .formed; level = refl; vectors = m .stand })

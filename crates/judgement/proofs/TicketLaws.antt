@@ -19,22 +19,21 @@ use Rattle.reading.specs.declared.Status.the-variants.{Fine, Refused}
 use Rattle.space.specs.Surveys as Space
 use Rattle.space.specs.declared.Verdict.{Verdict}
 use Rattle.space.specs.declared.Verdict.the-variants.{Admitted, FarIndex, Crowded}
-use Rattle.ticket.specs.declared.Ticket.{Ticket}
-use Rattle.ticket.specs.Ticket.{nestOf, ticketOf}
+use Rattle.steps.specs.Steps.{stepsOf}
+use Rattle.steps.specs.declared.Steps.{Steps}
 use Rattle.sheet.specs.declared.Sheet.{Sheet}
-use Rattle.sheet.specs.Sheets as Sheet
+use Rattle.sheet.specs.Sheets.{nestOf}
 use Rattle.sheet.specs.Stages.{Surveyed}
 use Rattle.directions.specs.declared.DirectionSet.{DirectionSet}
-use Rattle.layout.specs.Sheets.{modelOf, LayIn, Laid}
+use Rattle.ticket.specs.Ticket.{ticketOn}
 use Rattle.judgement.specs.Judgement.{judgedAs, SurveyedNew, JudgeIn, JudgesSteps, Judges}
-use Rattle.judgement.specs.declared.Stepped.{Stepped}
 use Rattle.judgement.specs.declared.Judged.{Judged}
 use Rattle.judgement.proofs.StepLaws.{not-fine}
 
 -- ---- refusal 13
 
 module _ (P : Sheet) (v : Verdict) (g : Surveyed P 100000 65536 v) where
-  surveyed : Space.answerOf 13 13 v ≡ sprawl (Sheet.nestOf P .loops)
+  surveyed : Space.answerOf 13 13 v ≡ sprawl (nestOf P .loops)
   unfolding sprawl
   surveyed = g .same 13 13
 
@@ -55,52 +54,43 @@ unfolding _>>_ _>>=_
 passed-with Fine m j e = ap (_>> accepted j) e
 passed-with (Refused r) m j e = ap (_>> accepted j) e
 
-module _ (t : Ticket) (s : DirectionSet) (i : JudgeIn t s) (r : Stepped) (g : JudgesSteps t r) where
-  abbrev verdict : Model.Nest → Answer Judge.Judged
-  verdict N = sprawl (N .loops) >> accepted (record { ticket = ticketOf t; new = N })
-
+module _ (P : Sheet) (S : Steps) (s : DirectionSet) (i : JudgeIn P S s) (r : Judged) (g : JudgesSteps P S r) where
   abbrev new : Model.Nest
-  new = modelOf (r .nest) (t .arrays) (r .body)
+  new = nestOf (r .sheet)
 
-  pub steps-refused : (x : Refusal) (q : Judged) → r .status ≡ Refused x → q .status ≡ Refused x → Judges t q
-  unfolding judgeTicket ticketOf
+  abbrev verdict : Model.Nest → Answer Judge.Judged
+  verdict N = sprawl (N .loops) >> accepted (record { ticket = ticketOn P S; new = N })
+
+  pub steps-refused : (x : Refusal) (q : Judged) → r .status ≡ Refused x → q .status ≡ Refused x → Judges P S q
+  unfolding judgeTicket ticketOn
   steps-refused x q e f = record {
-    same = ap (λ (z : Status). judgedAs {A = Judge.Judged} z (record { ticket = ticketOf t; new = modelOf (q .nest) (t .arrays) (q .body) })) f ∙ sym (bind-stop verdict (sym (g .same) ∙ ap (λ (z : Status). judgedAs z new) e));
+    same = ap (λ (z : Status). judgedAs z (record { ticket = ticketOn P S; new = nestOf (q .sheet) })) f ∙ sym (bind-stop verdict (sym (g .same) ∙ ap (λ (z : Status). judgedAs z new) e));
     fine = λ h. not-fine x (sym f ∙ h);
   }
 
   module _ (e : r .status ≡ Fine) where
-    steps-accepted : judgeSteps 1 (ticketOf t .steps) (directionsOf (nestOf t)) (nestOf t) ≡ accepted new
+    steps-accepted : judgeSteps 1 (stepsOf S) (directionsOf (nestOf P)) (nestOf P) ≡ accepted new
     steps-accepted = sym (g .same) ∙ ap (λ (z : Status). judgedAs z new) e
 
-    made : (new ≡ nestAfterAll (ticketOf t .steps) (nestOf t)) × StepsPass (ticketOf t .steps) (directionsOf (nestOf t)) (nestOf t)
-    made = judgeSteps-accepted 1 (ticketOf t .steps) (directionsOf (nestOf t)) (nestOf t) steps-accepted
+    made : (new ≡ nestAfterAll (stepsOf S) (nestOf P)) × StepsPass (stepsOf S) (directionsOf (nestOf P)) (nestOf P)
+    made = judgeSteps-accepted 1 (stepsOf S) (directionsOf (nestOf P)) (nestOf P) steps-accepted
 
     ranges : NestRanges 6 16 new
-    unfolding ticketOf
-    ranges = subst (NestRanges 6 16) (sym (made .0)) (new-ranges (ticketOf t) (i .ranges) (i .formed) (directionsOf (nestOf t)) (made .1))
+    unfolding ticketOn
+    ranges = subst (NestRanges 6 16) (sym (made .0)) (new-ranges (ticketOn P S) (i .ranges) (i .formed) (directionsOf (nestOf P)) (made .1))
 
     formed : WellFormed new
-    unfolding ticketOf
-    formed = subst WellFormed (sym (made .0)) (new-formed (ticketOf t) (i .ranges) (i .formed))
+    unfolding ticketOn
+    formed = subst WellFormed (sym (made .0)) (new-formed (ticketOn P S) (i .ranges) (i .formed))
 
-    pub lay-in : LayIn (r .nest) (t .arrays) (r .body)
-    lay-in = record { nest = g .nest e; arrays = i .within .arrays; body = g .body e; ranges = ranges; formed = formed }
-
-    module _ (P : Sheet) (l : Laid (r .nest) (t .arrays) (r .body) P) (z : Status) (h : SurveyedNew P z) where
-      surveyed-new : judgedAs z tt ≡ sprawl (new .loops)
-      surveyed-new = h ∙ ap (λ (N : Model.Nest). sprawl (N .loops)) (l .same)
-
-      pub ticket-judged : Judges t (record { status = z; nest = r .nest; body = r .body; sheet = P })
-      unfolding judgeTicket ticketOf
-      ticket-judged = record {
-        same = passed-with z (sprawl (new .loops)) (record { ticket = ticketOf t; new = new }) surveyed-new ∙ sym (bind-pass verdict steps-accepted);
-        fine = λ f. record {
-          nest = g .nest e;
-          body = g .body e;
-          ranges = ranges;
-          formed = formed;
-          laid = l;
-          sprawls = sym surveyed-new ∙ ap (λ (x : Status). judgedAs x tt) f;
-        };
-      }
+    pub ticket-judged : (z : Status) → SurveyedNew (r .sheet) z → Judges P S (record { status = z; sheet = r .sheet })
+    unfolding judgeTicket ticketOn
+    ticket-judged z h = record {
+      same = passed-with z (sprawl (new .loops)) (record { ticket = ticketOn P S; new = new }) h ∙ sym (bind-pass verdict steps-accepted);
+      fine = λ f. record {
+        sheet = g .sheet e;
+        ranges = ranges;
+        formed = formed;
+        sprawls = sym h ∙ ap (λ (x : Status). judgedAs x tt) f;
+      };
+    }

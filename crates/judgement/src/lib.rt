@@ -1,42 +1,41 @@
-// From an admitted ticket and its directions to the new nest on its sheet; or the first refusal of 10 to 13. Loops are counted from 0.
+// From an admitted nest on its sheet, its steps and its directions to the new nest on its sheet; or the first refusal of 10 to 13. Loops are counted
+// from 0.
 ghost use mathlib.Core.Path.{_≡_};
-ghost use Rattle.reading.specs.declared.Refusal.the-variants.{DependenceReversed};
+ghost use Prim.Native.Nat.{_≤_};
 ghost use Rattle.reading.specs.declared.Status.the-variants.{Refused};
 ghost use Rattle.steps.specs.Steps.{stepOf};
 ghost use Rattle.directions.specs.Sets.{After};
 ghost use Rattle.sheet.specs.Sheets.{SheetIn};
-ghost use Rattle.judgement.specs.Judgement.{DirectionIn, stepStatus, JudgeStepIn, JudgesStep, SurveyedNew, JudgeIn, JudgesSteps, Judges};
-use body::Body;
+ghost use Rattle.stepping.specs.Taking.{TakingIn};
+ghost use Rattle.judgement.specs.Judgement.{DirectionIn, stepStatus, StepJudged, SurveyedNew, JudgeIn, JudgesSteps, Judges};
 use directions::DirectionSet;
-use nest::Nest;
 use reading::Refusal;
 use reading::Status;
 use sheet::Sheet;
 use space::Verdict;
 use steps::Step;
-use ticket::Ticket;
+use steps::Steps;
 
-// What the steps so far have made, where the status is Fine. It goes from step to step as one value: taken apart, the nest is copied for each part.
-struct Stepped {
-    status: Status,
-    nest: Nest,
-    body: Body,
-    set: DirectionSet,
-}
-
-// The new nest with its statements, and both on one sheet, where the status is Fine.
+// The new nest on its sheet where the status is Fine.
 pub struct Judged {
     pub status: Status,
-    pub nest: Nest,
-    pub body: Body,
     pub sheet: Sheet,
+}
+
+fn refused(r: Refusal, sheet: Sheet) -> Judged
+    ensures { λ q. ⌜ q .status ≡ Refused r ⌝ }
+{
+    Judged {
+        status: Status::Refused(r),
+        sheet: sheet,
+    }
 }
 
 // ---- one step
 
 fn direction_after(set: DirectionSet, step: Step) -> DirectionSet
     requires { ⌜ DirectionIn set step ⌝ }
-    ensures { λ r. ⌜ After (stepOf step) set r ⌝ }
+    ensures { λ r. ⌜ After (stepOf step) set r × (r .depth ≤ 6) ⌝ }
 {
     match step {
         Step::Swap(e) => {
@@ -60,21 +59,6 @@ fn direction_after(set: DirectionSet, step: Step) -> DirectionSet
     }
 }
 
-// Refusal 10, for which the step need not be taken.
-fn turned_back(before: Stepped, number: usize) -> Stepped
-    ensures { λ r. ⌜ r .status ≡ Refused (DependenceReversed number) ⌝ }
-{
-    let nest = before.nest;
-    let body = before.body;
-    let set = before.set;
-    Stepped {
-        status: Status::Refused(Refusal::DependenceReversed(number)),
-        nest: nest,
-        body: body,
-        set: set,
-    }
-}
-
 // Refusals 11 and 12 in this order.
 fn step_status(full: bool, small: bool, number: usize) -> Status
     ensures { λ r. ⌜ r ≡ stepStatus full small number ⌝ }
@@ -88,57 +72,89 @@ fn step_status(full: bool, small: bool, number: usize) -> Status
     Status::Refused(Refusal::NumberOutOfRange(number))
 }
 
-fn judge_step(before: Stepped, step: Step, number: usize) -> Stepped
-    requires { ⌜ JudgeStepIn (before .nest) (before .body) (before .set) step ⌝ }
-    ensures { λ r. ⌜ JudgesStep (before .nest) (before .body) (before .set) step number r ⌝ }
+// Takes step `number` on the slices of a sheet, for refusals 11 and 12.
+fn take(
+    limits: &mut [i16],
+    counts: &mut [usize],
+    words: &mut [i16],
+    owners: &[usize],
+    extents: &[usize],
+    depth: usize,
+    step: Step,
+    number: usize,
+) -> Status
+    requires { ⌜ TakingIn (now limits) (now counts) (now words) (now owners) (now extents) depth step ⌝ }
+    ensures { λ r. ⌜ StepJudged step number (now (limits .entry)) (now (counts .entry)) (now (words .entry)) (now (owners .entry)) (now (extents .entry)) depth r (now (limits .exit)) (now (counts .exit)) (now (words .exit)) ⌝ }
 {
-    let after = direction_after(before.set, step);
-    if directions::points_back(after) {
-        return turned_back(before, number);
-    }
-    let taken = stepping::take_step(before.nest, before.body, step);
-    let status = step_status(taken.full, taken.small, number);
-    let loops = taken.nest;
-    let statements = taken.body;
-    Stepped {
-        status: status,
-        nest: loops,
-        body: statements,
-        set: after,
-    }
+    let taken = stepping::take_step(limits, counts, words, owners, extents, depth, step);
+    step_status(taken.full, taken.small, number)
 }
 
 // ---- all steps
 
-fn judge_steps(ticket: Ticket, set: DirectionSet) -> Stepped
-    requires { ⌜ JudgeIn ticket set ⌝ }
-    ensures { λ r. ⌜ JudgesSteps ticket r ⌝ }
+// Refusal 10 is tested before a step is taken, since it needs the vectors alone.
+fn judge_steps(sheet: Sheet, steps: Steps, set: DirectionSet) -> Judged
+    requires { ⌜ JudgeIn sheet steps set ⌝ }
+    ensures { λ r. ⌜ JudgesSteps sheet steps r ⌝ }
 {
-    let steps = ticket.steps;
     let count = steps.count;
     let all = steps.steps;
-    let nest = ticket.nest;
-    let body = ticket.body;
-    let mut stepped = Stepped {
-        status: Status::Fine,
-        nest: nest,
-        body: body,
-        set: set,
-    };
+    let owners = sheet.owners;
+    let extents = sheet.extents;
+    let accesses = sheet.accesses;
+    let arrays = sheet.arrays;
+    let mut limits = sheet.limits;
+    let mut counts = sheet.counts;
+    let mut words = sheet.words;
+    let mut depth = sheet.depth;
+    let mut vectors = set;
     let mut k = 0;
     while k < count {
         let numbered = all[k];
         let number = numbered.number;
         let step = numbered.step;
-        stepped = judge_step(stepped, step, number);
-        let status = stepped.status;
+        let after = direction_after(vectors, step);
+        if directions::points_back(after) {
+            return refused(Refusal::DependenceReversed(number), sheet);
+        }
+        let status = take(
+            &mut limits,
+            &mut counts,
+            &mut words[..accesses * 24],
+            &owners[..accesses],
+            &extents[..arrays * 4],
+            depth,
+            step,
+            number,
+        );
         match status {
             Status::Fine => {}
-            Status::Refused(_) => return stepped,
+            Status::Refused(r) => return refused(r, sheet),
         }
+        depth = steps::depth_after(step, depth);
+        vectors = after;
         k += 1;
     }
-    stepped
+    let sizes = sheet.sizes;
+    let rules = sheet.rules;
+    let constants = sheet.constants;
+    Judged {
+        status: Status::Fine,
+        sheet: Sheet {
+            depth,
+            limits,
+            counts,
+            arrays,
+            extents,
+            statements: sheet.statements,
+            sizes,
+            rules,
+            constants,
+            accesses,
+            owners,
+            words,
+        },
+    }
 }
 
 // ---- the new nest
@@ -155,55 +171,21 @@ fn survey_new(sheet: Sheet) -> Status
     }
 }
 
-fn blank() -> Sheet {
-    Sheet {
-        depth: 0,
-        limits: [0i16; 1536],
-        counts: [0usize; 12],
-        arrays: 0,
-        extents: [0usize; 16],
-        statements: 0,
-        sizes: [0usize; 4],
-        rules: [0usize; 4],
-        constants: [0usize; 4],
-        accesses: 0,
-        owners: [0usize; 20],
-        words: [0i16; 480],
-    }
-}
-
-fn refused(r: Refusal, nest: Nest, body: Body) -> Judged
-    ensures { λ q. ⌜ q .status ≡ Refused r ⌝ }
+// The set has the vectors of the nest's directions.
+pub fn judge_ticket(sheet: Sheet, steps: Steps, set: DirectionSet) -> Judged
+    requires { ⌜ JudgeIn sheet steps set ⌝ }
+    ensures { λ r. ⌜ Judges sheet steps r ⌝ }
 {
-    let sheet = blank();
-    Judged {
-        status: Status::Refused(r),
-        nest: nest,
-        body: body,
-        sheet: sheet,
-    }
-}
-
-// The set has the vectors of the ticket's directions.
-pub fn judge_ticket(ticket: Ticket, set: DirectionSet) -> Judged
-    requires { ⌜ JudgeIn ticket set ⌝ }
-    ensures { λ r. ⌜ Judges ticket r ⌝ }
-{
-    let stepped = judge_steps(ticket, set);
-    let nest = stepped.nest;
-    let body = stepped.body;
+    let stepped = judge_steps(sheet, steps, set);
+    let new = stepped.sheet;
     let status = stepped.status;
     match status {
         Status::Fine => {}
-        Status::Refused(r) => return refused(r, nest, body),
+        Status::Refused(r) => return refused(r, new),
     }
-    let arrays = ticket.arrays;
-    let sheet = layout::lay(nest, arrays, body);
-    let verdict = survey_new(sheet);
+    let verdict = survey_new(new);
     Judged {
         status: verdict,
-        nest: nest,
-        body: body,
-        sheet: sheet,
+        sheet: new,
     }
 }

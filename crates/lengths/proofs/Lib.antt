@@ -1,2 +1,4 @@
--- Laws of lengths.
+-- Sums, the loops that make them, and that they are the lengths of the words.
+pub mod SumLaws
+pub mod SliceLaws
 pub mod LengthLaws

@@ -1,128 +1,79 @@
-// How many words a nest has when it is written.
+// How many words a nest has when it is written: sums over counts and numbers of dimensions.
 ghost use mathlib.Core.Path.{_≡_};
-ghost use mathlib.Core.List.{map};
-ghost use Prim.Native.Nat.{_+_, _≤_, _<_, _/_};
-ghost use lib.ListN.{length, take};
-ghost use Rattle.model.specs.Encode.{counted, limitWords, loopWords, arrayWords, accessWords, statementWords, encode};
-ghost use Rattle.nest.specs.Nested.{sideOf, loopOf, loopsOf, SideIn, LoopIn, NestIn};
-ghost use Rattle.arrays.specs.Arrays.{shapeOf, arraysOf, ShapeIn, ArraysIn};
-ghost use Rattle.body.specs.Statements.{accessOf, statementOf, statementsOf, AccessIn, AccessesIn, StatementIn, BodyIn};
-ghost use Rattle.writing.specs.Held.{nestOf, Held};
-use arrays::Arrays;
-use arrays::Shape;
-use body::Access;
-use body::Body;
-use body::Statement;
-use nest::Loop;
-use nest::Nest;
-use nest::Side;
+ghost use Prim.Native.Nat.{_+_, _*_, _≤_, _<_, _/_};
+ghost use lib.ListN.{length};
+ghost use Rattle.lengths.specs.Lengths.{sums, loopLength, arrayLength, accessLength, nestLength, CountsIn, ArraysIn, OwnersIn, LengthIn};
 
-// How many words a side has.
-fn side_words(outer: usize, s: Side) -> usize
-    requires { ⌜ (outer ≤ 6) × SideIn s ⌝ }
-    ensures { λ r. ⌜ (r ≡ length (counted limitWords (sideOf outer s))) × (r ≤ 129) ⌝ }
+// Loop k.
+fn loop_words(counts: &[usize], k: usize) -> usize
+    requires { ⌜ CountsIn (now counts) (k + 1) ⌝ }
+    ensures { λ r. ⌜ (r ≡ loopLength (now (counts .entry)) k) × (r ≤ 258) ⌝ }
 {
-    1 + s.count * (2 + outer)
+    (counts[k * 2] + counts[k * 2 + 1]) * (k + 2) + 2
 }
 
-fn loop_words(outer: usize, l: Loop) -> usize
-    requires { ⌜ (outer ≤ 6) × LoopIn l ⌝ }
-    ensures { λ r. ⌜ (r ≡ length (loopWords (loopOf outer l))) × (r ≤ 258) ⌝ }
+fn loops_words(counts: &[usize], depth: usize) -> usize
+    requires { ⌜ CountsIn (now counts) depth ⌝ }
+    ensures { λ r. ⌜ (r ≡ sums (loopLength (now (counts .entry))) 0 depth) × (r ≤ 1548) ⌝ }
 {
-    let lower = l.lower;
-    let upper = l.upper;
-    side_words(outer, lower) + side_words(outer, upper)
-}
-
-fn loops_words(nest: Nest) -> usize
-    requires { ⌜ NestIn nest ⌝ }
-    ensures { λ r. ⌜ (r ≡ length (counted loopWords (loopsOf nest))) × (r ≤ 6000) ⌝ }
-{
-    let depth = nest.depth;
-    let loops = nest.loops;
-    let mut total = 1;
+    let mut total = 0;
     let mut k = 0;
     while k < depth {
-        let l = loops[k];
-        total += loop_words(k, l);
+        total += loop_words(counts, k);
         k += 1;
     }
     total
 }
 
-fn shape_words(a: Shape) -> usize
-    requires { ⌜ ShapeIn a ⌝ }
-    ensures { λ r. ⌜ (r ≡ length (arrayWords (shapeOf a))) × (r ≤ 258) ⌝ }
+fn arrays_words(extents: &[usize]) -> usize
+    requires { ⌜ ArraysIn (now extents) ⌝ }
+    ensures { λ r. ⌜ (r ≡ sums (arrayLength (now (extents .entry))) 0 (length (now (extents .entry)) / 4)) × (r ≤ 16) ⌝ }
 {
-    1 + a.dimensions
+    let count = extents.len() / 4;
+    let mut total = 0;
+    let mut i = 0;
+    while i < count {
+        total += extents[i * 4] + 1;
+        i += 1;
+    }
+    total
 }
 
-fn arrays_words(arrays: Arrays) -> usize
-    requires { ⌜ ArraysIn arrays ⌝ }
-    ensures { λ r. ⌜ (r ≡ length (counted arrayWords (arraysOf arrays))) × (r ≤ 6000) ⌝ }
+// Access k of all, in a nest of n loops.
+fn access_words(owners: &[usize], extents: &[usize], n: usize, k: usize) -> usize
+    requires { ⌜ OwnersIn (now owners) (now extents) n × (k < length (now owners)) ⌝ }
+    ensures { λ r. ⌜ (r ≡ accessLength (now (owners .entry)) (now (extents .entry)) n k) × (r ≤ 22) ⌝ }
 {
-    let count = arrays.count;
-    let shapes = arrays.shapes;
-    let mut total = 1;
+    let array = owners[k];
+    extents[array * 4] * (n + 1) + 1
+}
+
+fn accesses_words(owners: &[usize], extents: &[usize], n: usize) -> usize
+    requires { ⌜ OwnersIn (now owners) (now extents) n ⌝ }
+    ensures { λ r. ⌜ (r ≡ sums (accessLength (now (owners .entry)) (now (extents .entry)) n) 0 (length (now (owners .entry)))) × (r ≤ 440) ⌝ }
+{
+    let mut total = 0;
     let mut k = 0;
-    while k < count {
-        let a = shapes[k];
-        total += shape_words(a);
+    while k < owners.len() {
+        total += access_words(owners, extents, n, k);
         k += 1;
     }
     total
 }
 
-fn access_words(n: usize, a: Access) -> usize
-    requires { ⌜ (n ≤ 6) × AccessIn a ⌝ }
-    ensures { λ r. ⌜ (r ≡ length (accessWords (accessOf n a))) × (r ≤ 22) ⌝ }
+// How many bytes a nest has. These are the bytes of its encoding (proofs/LengthLaws: nest-length).
+pub fn encoded_length(
+    counts: &[usize],
+    depth: usize,
+    extents: &[usize],
+    owners: &[usize],
+    statements: usize,
+) -> usize
+    requires { ⌜ LengthIn (now counts) depth (now extents) (now owners) statements ⌝ }
+    ensures { λ r. ⌜ r ≡ nestLength (now (counts .entry)) depth (now (extents .entry)) (now (owners .entry)) statements * 2 ⌝ }
 {
-    1 + a.dimensions * (1 + n)
-}
-
-fn accesses_words(n: usize, count: usize, accesses: [Access; 4]) -> usize
-    requires { ⌜ (n ≤ 6) × AccessesIn count accesses ⌝ }
-    ensures { λ r. ⌜ (r ≡ length (counted accessWords (map (accessOf n) (take count accesses)))) × (r ≤ 89) ⌝ }
-{
-    let mut total = 1;
-    let mut k = 0;
-    while k < count {
-        let a = accesses[k];
-        total += access_words(n, a);
-        k += 1;
-    }
-    total
-}
-
-fn statement_words(n: usize, s: Statement) -> usize
-    requires { ⌜ (n ≤ 6) × StatementIn s ⌝ }
-    ensures { λ r. ⌜ (r ≡ length (statementWords (statementOf n s))) × (r ≤ 258) ⌝ }
-{
-    let write = s.write;
-    let read = s.read;
-    2 + access_words(n, write) + accesses_words(n, s.reads, read)
-}
-
-fn statements_words(n: usize, body: Body) -> usize
-    requires { ⌜ (n ≤ 6) × BodyIn body ⌝ }
-    ensures { λ r. ⌜ (r ≡ length (counted statementWords (statementsOf n body))) × (r ≤ 6000) ⌝ }
-{
-    let count = body.count;
-    let statements = body.statements;
-    let mut total = 1;
-    let mut k = 0;
-    while k < count {
-        let s = statements[k];
-        total += statement_words(n, s);
-        k += 1;
-    }
-    total
-}
-
-// How many bytes a nest has.
-pub fn encoded_length(nest: Nest, arrays: Arrays, body: Body) -> usize
-    requires { ⌜ Held nest arrays body ⌝ }
-    ensures { λ r. ⌜ r ≡ length (encode (nestOf nest arrays body)) ⌝ }
-{
-    (loops_words(nest) + arrays_words(arrays) + statements_words(nest.depth, body) + 1) * 2
+    let loops = loops_words(counts, depth);
+    let arrays = arrays_words(extents);
+    let accesses = accesses_words(owners, extents, depth);
+    (loops + arrays + accesses + (statements * 3 + 4)) * 2
 }

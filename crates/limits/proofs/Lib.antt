@@ -2,4 +2,5 @@
 pub mod NumberLaws
 pub mod RowLaws
 pub mod LimitLaws
-pub mod SideLaws
+pub mod WordLaws
+pub mod FlatLaws

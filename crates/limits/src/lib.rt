@@ -1,21 +1,23 @@
-// What a step makes of rows of coefficients, of limits, and of every limit of a side, a loop and the loops inside. n is the number of loops outside.
+// Limits on the flat words of a nest, and what a step makes of rows of coefficients and of limits. n is the number of loops outside.
 ghost use mathlib.Core.Path.{_≡_};
-ghost use mathlib.Core.List.{map};
-ghost use Prim.Native.Nat.{_+_, _<_, _≤_};
+ghost use Prim.Native.Nat.{_+_, _*_, _<_, _≤_};
 ghost use lib.IntN.{pos, negℤ, _+ℤ_, _*ℤ_};
 ghost use lib.ListN.{take};
 ghost use Rattle.integers.specs.Affine.{Within};
 ghost use Rattle.integers.specs.Difference.{size};
 ghost use Rattle.lists.specs.Place.{under, onHead, swapped};
+ghost use Rattle.model.specs.Encode.{limitWords};
+ghost use Rattle.model.specs.Judge.{smallLimit};
 ghost use Rattle.model.specs.Steps.{signed};
-ghost use Rattle.model.specs.Limits.{onLimits, negated, skewLimit, skewCoefficients, sectionLower, sectionUpper, elementLimit, splitCoefficients};
-ghost use Rattle.nest.specs.Nested.{limitOf, sideOf, loopOf};
+ghost use Rattle.model.specs.Limits.{negated, skewLimit, skewCoefficients, sectionLower, sectionUpper, elementLimit, splitCoefficients};
+ghost use Rattle.nest.specs.Nested.{limitOf};
+ghost use Rattle.bounds.specs.Flat.{limitAt};
+ghost use Rattle.rows.specs.Rows.{RowIs, Tried};
 ghost use Rattle.limits.specs.Small.{SmallLimit};
-ghost use Rattle.limits.specs.Makes.{mixed, RowIs, LimitIs, SideIs, LoopIs};
-ghost use Rattle.limits.specs.Change.{changeOf, outerAfter, Allowed, SideChange, LoopChange, LoopsChange, LoopsAre};
+ghost use Rattle.limits.specs.Makes.{mixed, LimitIs};
+ghost use Rattle.limits.specs.Words.{LimitThere, LimitRoom};
+ghost use Rattle.limits.specs.Change.{changeOf, outerAfter, Allowed};
 use nest::Limit;
-use nest::Loop;
-use nest::Side;
 
 // ---- numbers
 
@@ -210,7 +212,48 @@ fn with_row(l: Limit, cs: [i32; 6]) -> Limit
     }
 }
 
-// ---- every limit of a side, of a loop, and of the loops inside
+// ---- a limit among the words of a nest
+
+// Limit j of all, of a loop with n loops outside.
+pub fn limit_at(words: &[i16], j: usize, n: usize) -> Limit
+    requires { ⌜ LimitThere (now words) j n ⌝ }
+    ensures { λ r. ⌜ LimitIs n r (limitAt (now (words .entry)) n j) ⌝ }
+{
+    let at = j * 8;
+    let p = rows::word_at(words, at);
+    let c = rows::word_at(words, at + 1);
+    let cs = rows::row_at(words, at + 2, n);
+    Limit {
+        multiplier: p as u32,
+        constant: c,
+        coefficients: cs,
+    }
+}
+
+// The words stay as they are if a number is too large for them.
+pub fn put_limit(words: &mut [i16], j: usize, l: Limit, n: usize) -> bool
+    requires { ⌜ LimitRoom (now words) j n ⌝ }
+    ensures { λ r. ⌜ Tried (smallLimit (limitOf n l)) (now (words .entry)) (j * 8) (limitWords (limitOf n l)) r (now (words .exit)) ⌝ }
+{
+    let at = j * 8;
+    let c = l.constant;
+    let cs = l.coefficients;
+    if 32767 < l.multiplier {
+        return false;
+    }
+    if !rows::small_number(c) {
+        return false;
+    }
+    if !rows::small_row(cs, n) {
+        return false;
+    }
+    words[at] = l.multiplier as i16;
+    words[at + 1] = rows::narrow(c);
+    rows::lay_row(words, at + 2, &cs[..n]);
+    true
+}
+
+// ---- the changes that a step makes to every limit of a side
 
 // Of the skew of the loop `between` + 1 places inside loop `outer`, by 1 or −1.
 pub struct Slant {
@@ -240,7 +283,7 @@ pub enum Change {
     Split(Cut),
 }
 
-fn changed(l: Limit, n: usize, change: Change) -> Limit
+pub fn changed(l: Limit, n: usize, change: Change) -> Limit
     requires { ⌜ Allowed change n × SmallLimit (limitOf n l) ⌝ }
     ensures { λ r. ⌜ LimitIs (outerAfter change n) r (changeOf change (limitOf n l)) ⌝ }
 {
@@ -269,58 +312,4 @@ fn changed(l: Limit, n: usize, change: Change) -> Limit
             with_row(l, split(cs, n, a, w))
         }
     }
-}
-
-pub fn changed_side(side: Side, n: usize, change: Change) -> Side
-    requires { ⌜ SideChange change n side ⌝ }
-    ensures { λ r. ⌜ SideIs (outerAfter change n) r (map (changeOf change) (sideOf n side)) × (r .count ≡ side .count) ⌝ }
-{
-    let count = side.count;
-    let mut limits = side.limits;
-    let mut k = 0;
-    while k < count {
-        let l = limits[k];
-        let m = changed(l, n, change);
-        limits[k] = m;
-        k += 1;
-    }
-    Side {
-        count: count,
-        limits: limits,
-    }
-}
-
-pub fn changed_loop(body: Loop, n: usize, change: Change) -> Loop
-    requires { ⌜ LoopChange change n body ⌝ }
-    ensures { λ r. ⌜ LoopIs (outerAfter change n) r (onLimits (changeOf change) (loopOf n body)) ⌝ }
-{
-    let lower = changed_side(body.lower, n, change);
-    let upper = changed_side(body.upper, n, change);
-    Loop {
-        lower: lower,
-        upper: upper,
-    }
-}
-
-// The loops from place `start` on, changed in place, `by` places further in: the innermost first, so that each is read before another is put there.
-pub fn changed_from(
-    loops: [Loop; 6],
-    start: usize,
-    many: usize,
-    by: usize,
-    change: Change,
-) -> [Loop; 6]
-    requires { ⌜ LoopsChange change loops start many by ⌝ }
-    ensures { λ r. ⌜ LoopsAre change loops loops start many by r ⌝ }
-{
-    let mut out = loops;
-    let mut left = many;
-    while 0 < left {
-        left -= 1;
-        let k = start + left;
-        let l = out[k];
-        let m = changed_loop(l, k, change);
-        out[k + by] = m;
-    }
-    out
 }

@@ -17,6 +17,7 @@ use Rattle.lists.specs.Tests.{select}
 use Rattle.lists.proofs.MembershipLaws.{getD-mem}
 use Rattle.lists.proofs.PartLaws.{rows-getD}
 use Rattle.lists.proofs.TestLaws.{T-same, equal-test}
+use Rattle.model.specs.Grammar.{total}
 use Rattle.model.specs.Ticket.{Access, Statement}
 use Rattle.model.specs.Points.{iterations}
 use Rattle.model.specs.Answer.{accepted}
@@ -34,7 +35,7 @@ use Rattle.model.proofs.Verdict.VerdictLaws.{admitted-accepted}
 use Rattle.model.proofs.Store.PlaceLaws.{Valid, place-injective}
 use Rattle.vectors.specs.Candidates.{row}
 use Rattle.vectors.specs.Numbers.{place}
-use Rattle.dependence.specs.Flat.{Flat, flat, statementOf, pointAt, Use, use·of, usesFrom, uses, noUse, useAt, Describes, Ready, Searched}
+use Rattle.dependence.specs.Flat.{Flat, flat, statementOf, pointAt, Use, use·of, usesFrom, uses, noUse, useAt, Describes, Ready, NumbersBelow, Searched}
 use Rattle.dependence.proofs.UseLaws.{uses-of}
 use Rattle.listing_text.specs.Text.{marked, shown, text}
 use Rattle.listing_text.proofs.IndexLaws.{count-small}
@@ -120,7 +121,11 @@ lines-in P points n h k l m e = record {
 
 -- ---- what the search is lent
 
-module _ (P : Sheet) (points : List ℤ) (n : ℕ) (marks : List Bool) (h : LinesIn P points n marks) (room : ℕ) (fits : P .accesses * 4096 ≤ room) where
+-- numbers of 20 accesses at 4096 points are the most
+pub few-numbers : (P : Sheet) (points : List ℤ) (n : ℕ) (marks : List Bool) → LinesIn P points n marks → P .accesses * n ≤ 81920
+few-numbers P points n marks h = mul-le-mul {n₁ = P .accesses} {m₁ = n} {n₂ = 20} {m₂ = 4096} (h .stray .sheet .few-accesses) (h .stray .points-are .stored .bound)
+
+module _ (P : Sheet) (points : List ℤ) (n : ℕ) (marks : List Bool) (h : LinesIn P points n marks) (room : ℕ) (fits : P .accesses * n ≤ room) where
   abbrev sheet-in : SheetIn P
   sheet-in = h .stray .sheet
 
@@ -130,7 +135,7 @@ module _ (P : Sheet) (points : List ℤ) (n : ℕ) (marks : List Bool) (h : Line
   abbrev flatOf : List ℕ → Uses → Flat
   flatOf e r = flat points (P .depth) n e (take (P .accesses) (r .statements)) (take (P .accesses) (r .writes)) (P .statements)
 
-  module _ (e : List ℕ) (g : NumbersAre P e) (r : Uses) (u : UsesAre P r) where
+  module _ (e : List ℕ) (g : NumbersAre P n e) (r : Uses) (u : UsesAre P r) where
     abbrev F : Flat
     F = flatOf e r
 
@@ -171,10 +176,13 @@ module _ (P : Sheet) (points : List ℤ) (n : ℕ) (marks : List Bool) (h : Line
       rising = subst (Ordered Earlier) (sym (h .stray .points-are .are)) (iterations-rise (nestOf P .loops));
       both = w ∙ sym c;
       inBody = in-body;
-      table = omega arith;
-      small = λ a x la lx. g .small a x (omega arith) (omega arith);
+      table = omega (arith, ap (λ (m : ℕ). m * n) c);
       room = h .room;
     }
+
+    pub numbers-below : (m : ℕ) → m ≡ total (nestOf P .arrays) → NumbersBelow m F
+    unfolding nestOf
+    numbers-below m k = let f = sheet-in .fits in let c = statements-count P sheet-in r u in record { few = omega arith; below = λ a x la lx. let q = g .small a x (omega arith) lx in omega arith }
 
     occurs-marked : (m : List Bool) → Searched F marks m → (l : Line) → Mem l (allLines (P .statements) (P .depth))
         → marked m (P .statements) l ≡ occurs (accesses (nestOf P .statements)) (iterations (nestOf P .loops)) l

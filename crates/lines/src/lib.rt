@@ -51,9 +51,9 @@ fn uses_of(sheet: Sheet) -> Uses
     }
 }
 
-// Marks every line of the nest's listing, where the dependence search lays its mark. Lent is room for 4096 numbers of each access.
+// Marks every line of the nest's listing, where the dependence search lays its mark. Lent is room for a number of each access at each point.
 fn mark_by(sheet: Sheet, points: &[i64], count: usize, numbers: &mut [u16], marks: &mut [bool])
-    requires { ⌜ LinesIn sheet (now points) count (now marks) × (sheet .accesses * 4096 ≤ length (now numbers)) ⌝ }
+    requires { ⌜ LinesIn sheet (now points) count (now marks) × (sheet .accesses * count ≤ length (now numbers)) ⌝ }
     ensures { λ _. ⌜ LinesAre sheet (now (marks .exit)) × (length (now (marks .exit)) ≡ length (now (marks .entry))) ⌝ }
 {
     sheet::number_accesses(sheet, points, count, numbers);
@@ -61,11 +61,13 @@ fn mark_by(sheet: Sheet, points: &[i64], count: usize, numbers: &mut [u16], mark
     let statements = uses.statements;
     let writes = uses.writes;
     let accesses = sheet.accesses;
+    let elements = sheet::elements_in(sheet);
     dependence::dependences(
         points,
         sheet.depth,
         count,
         numbers,
+        elements,
         &statements[..accesses],
         &writes[..accesses],
         sheet.statements,
@@ -73,14 +75,20 @@ fn mark_by(sheet: Sheet, points: &[i64], count: usize, numbers: &mut [u16], mark
     );
 }
 
-// Few accesses have fewer numbers to clear.
+// Few accesses at few points have fewer numbers to clear.
 pub fn mark_lines(sheet: Sheet, points: &[i64], count: usize, marks: &mut [bool])
     requires { ⌜ LinesIn sheet (now points) count (now marks) ⌝ }
     ensures { λ _. ⌜ LinesAre sheet (now (marks .exit)) × (length (now (marks .exit)) ≡ length (now (marks .entry))) ⌝ }
 {
-    if sheet.accesses <= 4 {
-        let mut few = [0u16; 16384];
+    let needed = sheet.accesses * count;
+    if needed <= 1024 {
+        let mut few = [0u16; 1024];
         mark_by(sheet, points, count, &mut few, marks);
+        return;
+    }
+    if needed <= 16384 {
+        let mut more = [0u16; 16384];
+        mark_by(sheet, points, count, &mut more, marks);
         return;
     }
     let mut numbers = [0u16; 81920];
@@ -115,9 +123,13 @@ pub fn directions_in(sheet: Sheet, points: &[i64], count: usize) -> DirectionSet
     requires { ⌜ Admitted sheet (now points) count ⌝ }
     ensures { λ r. ⌜ DirectionsAre sheet r ⌝ }
 {
-    if sheet.statements <= 2 {
-        let mut few = [false; 8748];
+    if sheet.statements <= 1 {
+        let mut few = [false; 2187];
         return directions_by(sheet, points, count, &mut few);
+    }
+    if sheet.statements <= 2 {
+        let mut more = [false; 8748];
+        return directions_by(sheet, points, count, &mut more);
     }
     let mut marks = [false; 34992];
     directions_by(sheet, points, count, &mut marks)

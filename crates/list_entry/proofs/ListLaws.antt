@@ -13,8 +13,6 @@ use Rattle.model.specs.Answer as Model
 use Rattle.model.specs.Answer.{accepted, _>>=_}
 use Rattle.model.specs.Ticket.{Nest, Ticket}
 use Rattle.model.specs.Points.{iterations}
-use Rattle.model.specs.Bounds.{admitted}
-use Rattle.model.specs.Shape.{WellFormed}
 use Rattle.model.specs.Judge.{admit}
 use Rattle.model.specs.Listing.{decimal, headText, lineText, linesOf, listing}
 use Rattle.model.specs.Entries.{handOut, list}
@@ -22,7 +20,7 @@ use Rattle.reading.specs.declared.Refusal.{Refusal}
 use Rattle.reading.specs.declared.Refusal.the-variants.{BufferTooShort}
 use Rattle.reading.specs.declared.Status.{Status}
 use Rattle.reading.specs.declared.Status.the-variants as Status
-use Rattle.ticket.specs.Ticket.{ticketOf, decoded}
+use Rattle.ticket.specs.Ticket.{ticketOn, decoded}
 use Rattle.sheet.specs.declared.Sheet.{Sheet}
 use Rattle.sheet.specs.Sheets.{nestOf}
 use Rattle.sheet.specs.Stages.{PointsAre}
@@ -87,8 +85,8 @@ module _ (b : List ℕ) (o e : List ℤ) (q : Intake) (h : Admits b o e q) where
   abbrev listed : Model.Answer Ticket → Model.Answer (List ℕ)
   listed m = m >>= (λ T. accepted (listing (T .nest)))
 
-  by-status : (s : Status) → q .status ≡ s → listed (decoded s (ticketOf (q .ticket))) ≡ listed (admit b)
-  by-status s z = ap (λ (x : Status). listed (decoded x (ticketOf (q .ticket)))) (sym z) ∙ ap listed (h .same)
+  by-status : (s : Status) → q .status ≡ s → listed (decoded s (ticketOn (q .sheet) (q .steps))) ≡ listed (admit b)
+  by-status s z = ap (λ (x : Status). listed (decoded x (ticketOn (q .sheet) (q .steps)))) (sym z) ∙ ap listed (h .same)
 
   pub not-admitted : (r : Refusal) → q .status ≡ Status.Refused r → (m : List ℕ) → Hands (list b m) (Refused r) m
   unfolding list _>>=_
@@ -99,13 +97,13 @@ module _ (b : List ℕ) (o e : List ℤ) (q : Intake) (h : Admits b o e q) where
     admitted-in = let t = h .taken z in record {
       sheet = t .sheet;
       points-are = t .points-are;
-      formed = subst WellFormed (sym (t .same)) (t .formed);
-      admitted-is = ap admitted (t .same) ∙ t .admitted-is;
+      formed = t .formed;
+      admitted-is = t .admitted-is;
     }
 
     pub handed : (m m′ : List ℕ) (a : Answer) → Hands (handOut (accepted (listing (nestOf (q .sheet)))) m) a m′ → Hands (list b m) a m′
-    unfolding list _>>=_ ticketOf
-    handed m m′ a = subst (λ (x : Model.Answer (List ℕ)). Hands (handOut x m) a m′) (ap (λ (N : Nest). accepted (listing N)) (h .taken z .same) ∙ by-status Status.Fine z)
+    unfolding list _>>=_ ticketOn
+    handed m m′ a = subst (λ (x : Model.Answer (List ℕ)). Hands (handOut x m) a m′) (by-status Status.Fine z)
 
 -- ---- for those who read what was written
 

@@ -1,3 +1,8 @@
--- Laws that the proofs of more than one function share, or that stand on their own.
-pub mod RoomLaws
+-- Loops that are laid and read back, then what reading lays.
+pub mod PutLaws
+pub mod LimitLaws
 pub mod LoopLaws
+pub mod NestLaws
+pub mod WriteLaws
+pub mod SideLaws
+pub mod ReadLaws

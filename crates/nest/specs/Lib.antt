@@ -1,2 +1,3 @@
--- The model's lists that this crate's structs stand for.
+-- Flat slices with the loops of a nest laid over them, and what reading gives.
+pub mod Laid
 pub mod Nested

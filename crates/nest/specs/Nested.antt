@@ -1,71 +1,78 @@
--- The limits, sides and loops that a nest holds. What stands beyond a count is not looked at.
+-- What reading limits, sides and loops gives: the model's answer, and slices that it is laid over. Of a refused section the parts before
+-- the refusal are laid.
 use mathlib.Core.Path.{_≡_}
-use mathlib.Core.List.{List, [], _∷_, map}
-use Prim.Native.Nat.{ℕ, suc, _≤_}
+use mathlib.Core.List.{List}
+use Prim.Native.Nat.{ℕ, _+_, _*_, _≤_}
+use lib.IntN.{ℤ}
 use lib.ListN.{length, take}
 use Rattle.lists.specs.Membership.{All}
+use Rattle.integers.specs.Affine.{Within}
 use Rattle.model.specs.Ticket as Model
 use Rattle.model.specs.Grammar.{limit, side, loop, loops}
-use Rattle.reading.specs.Refusals.{Reads}
+use Rattle.model.specs.Shape.{Sized}
+use Rattle.model.specs.Ranges.{LimitRanges}
+use Rattle.bounds.specs.Flat.{loopsFrom, NestOk}
+use Rattle.reading.specs.Refusals.{Reached, Reads}
+use Rattle.reading.specs.declared.Status.the-variants.{Fine}
 use Rattle.nest.specs.declared.Limit.{Limit}
-use Rattle.nest.specs.declared.Side.{Side}
-use Rattle.nest.specs.declared.Loop.{Loop}
-use Rattle.nest.specs.declared.Nest.{Nest}
 use Rattle.nest.specs.declared.LimitRead.{LimitRead}
 use Rattle.nest.specs.declared.SideRead.{SideRead}
 use Rattle.nest.specs.declared.LoopRead.{LoopRead}
 use Rattle.nest.specs.declared.NestRead.{NestRead}
+use Rattle.nest.specs.Laid.{layLimits, layLoop, layCount}
 
--- n loops stand outside
+-- ---- one limit; n loops stand outside
+
 unfoldable pub limitOf : ℕ → Limit → Model.Limit
 limitOf n l = record { multiplier = l .multiplier; constant = l .constant; coefficients = take n (l .coefficients) }
 
-unfoldable pub sideOf : ℕ → Side → List Model.Limit
-sideOf n s = map (limitOf n) (take (s .count) (s .limits))
-
-unfoldable pub loopOf : ℕ → Loop → Model.Loop
-loopOf n l = record { lower = sideOf n (l .lower); upper = sideOf n (l .upper) }
-
-unfoldable pub loopsFrom : ℕ → List Loop → List Model.Loop
-loopsFrom n [] = []
-loopsFrom n (l ∷ ls) = loopOf n l ∷ loopsFrom (suc n) ls
-
-unfoldable pub loopsOf : Nest → List Model.Loop
-loopsOf N = loopsFrom 0 (take (N .depth) (N .loops))
-
--- ---- counts within the arrays
-
+-- counts within the arrays
 pub record LimitIn (l : Limit) : Type 0 where
   pub room : length (l .coefficients) ≡ 6
-
-pub record SideIn (s : Side) : Type 0 where
-  pub few : s .count ≤ 16
-  pub room : length (s .limits) ≡ 16
-  pub each : All LimitIn (take (s .count) (s .limits))
-
-pub record LoopIn (l : Loop) : Type 0 where
-  pub lower : SideIn (l .lower)
-  pub upper : SideIn (l .upper)
-
-pub record NestIn (N : Nest) : Type 0 where
-  pub few : N .depth ≤ 6
-  pub room : length (N .loops) ≡ 6
-  pub each : All LoopIn (take (N .depth) (N .loops))
-
--- ---- what reading gives: the model's answer, in arrays that hold it
 
 pub record ReadsLimit (b : List ℕ) (k outer : ℕ) (r : LimitRead) : Type 0 where
   pub reads : Reads (limit outer b k) b (r .status) (limitOf outer (r .limit)) (r .next)
   pub within : LimitIn (r .limit)
 
-pub record ReadsSide (b : List ℕ) (k outer : ℕ) (r : SideRead) : Type 0 where
-  pub reads : Reads (side 4 outer b k) b (r .status) (sideOf outer (r .side)) (r .next)
-  pub within : SideIn (r .side)
+-- a limit can be laid; `room` is the number of words
+pub record LayLimitIn (room j outer : ℕ) (l : Limit) : Type 0 where
+  pub fits : j * 8 + 8 ≤ room
+  pub shallow : outer ≤ 6
+  pub within : LimitIn l
+  pub ranges : LimitRanges (limitOf outer l)
 
-pub record ReadsLoop (b : List ℕ) (k outer : ℕ) (r : LoopRead) : Type 0 where
-  pub reads : Reads (loop 4 outer b k) b (r .status) (loopOf outer (r .body)) (r .next)
-  pub within : LoopIn (r .body)
+-- ---- sides and loops
 
-pub record ReadsNest (b : List ℕ) (k : ℕ) (r : NestRead) : Type 0 where
-  pub reads : Reads (loops 4 4 b k) b (r .status) (loopsOf (r .nest)) (r .next)
-  pub within : NestIn (r .nest)
+-- at most four limits are to be laid from limit j on
+pub record SideIn (b : List ℕ) (k outer j room : ℕ) : Type 0 where
+  pub reached : Reached b k
+  pub shallow : outer ≤ 6
+  pub fits : (j + 4) * 8 ≤ room
+
+pub record ReadsSide (b : List ℕ) (k outer j : ℕ) (w w′ : List ℤ) (r : SideRead) : Type 0 where
+  pub limits : List Model.Limit
+  pub reads : Reads (side 4 outer b k) b (r .status) limits (r .next)
+  pub laid : w′ ≡ layLimits w j limits
+  pub count : r .count ≡ length limits
+  pub few : length limits ≤ 4
+  pub sized : Sized outer limits
+  pub ranges : All LimitRanges limits
+
+-- slices that hold a nest
+pub record Room (w : List ℤ) (c : List ℕ) : Type 0 where
+  pub words : length w ≡ 1536
+  pub counts : length c ≡ 12
+  pub small : Within 32767 w
+
+pub record ReadsLoop (b : List ℕ) (at k : ℕ) (w w′ : List ℤ) (c c′ : List ℕ) (r : LoopRead) : Type 0 where
+  pub body : Model.Loop
+  pub reads : Reads (loop 4 k b at) b (r .status) body (r .next)
+  pub laid : w′ ≡ layLoop w k body
+  pub counted : c′ ≡ layCount c k body
+  pub room : Room w′ c′
+
+pub record ReadsNest (b : List ℕ) (at : ℕ) (w′ : List ℤ) (c′ : List ℕ) (r : NestRead) : Type 0 where
+  pub reads : Reads (loops 4 4 b at) b (r .status) (loopsFrom w′ c′ 0 (r .depth)) (r .next)
+  pub ok : r .status ≡ Fine → NestOk w′ c′ (r .depth)
+  pub room : Room w′ c′
+  pub shallow : r .depth ≤ 4

@@ -1,10 +1,14 @@
-// The loops section of a ticket: limits, sides, loops, outermost first. `at` is the number of a word, from 1.
+// The loops section of a ticket, read onto flat slices (`bounds`, specs/Flat). `at` is the number of a word, from 1.
 ghost use mathlib.Core.Path.{_≡_};
-ghost use Prim.Native.Nat.{_<_, _≤_};
+ghost use Prim.Native.Nat.{_+_, _*_, _<_, _≤_};
 ghost use lib.ListN.{length};
+ghost use Rattle.lists.specs.Parts.{put};
+ghost use Rattle.integers.specs.Difference.{size};
+ghost use Rattle.integers.specs.Affine.{Within};
+ghost use Rattle.model.specs.Encode.{limitWords};
 ghost use Rattle.reading.specs.Refusals.{Reached};
 ghost use Rattle.reading.specs.declared.Status.the-variants.{Refused};
-ghost use Rattle.nest.specs.Nested.{LimitIn, SideIn, LoopIn, NestIn, ReadsLimit, ReadsSide, ReadsLoop, ReadsNest};
+ghost use Rattle.nest.specs.Nested.{limitOf, LimitIn, LayLimitIn, SideIn, Room, ReadsLimit, ReadsSide, ReadsLoop, ReadsNest};
 use reading::Natural;
 use reading::Number;
 use reading::Refusal;
@@ -18,44 +22,27 @@ pub struct Limit {
     pub coefficients: [i32; 6],
 }
 
-// The first `count` limits.
-pub struct Side {
-    pub count: usize,
-    pub limits: [Limit; 16],
-}
-
-pub struct Loop {
-    pub lower: Side,
-    pub upper: Side,
-}
-
-// The first `depth` loops, outermost first.
-pub struct Nest {
-    pub depth: usize,
-    pub loops: [Loop; 6],
-}
-
 pub struct LimitRead {
     pub status: Status,
     pub limit: Limit,
     pub next: usize,
 }
 
+// The first `count` limits are laid.
 pub struct SideRead {
     pub status: Status,
-    pub side: Side,
+    pub count: usize,
     pub next: usize,
 }
 
 pub struct LoopRead {
     pub status: Status,
-    pub body: Loop,
     pub next: usize,
 }
 
 pub struct NestRead {
     pub status: Status,
-    pub nest: Nest,
+    pub depth: usize,
     pub next: usize,
 }
 
@@ -106,41 +93,53 @@ pub fn read_limit(s: &[u8], at: usize, outer: usize) -> LimitRead
     }
 }
 
-fn no_limits() -> [Limit; 16]
-    ensures { λ r. ⌜ length r ≡ 16 ⌝ }
+fn narrow(x: i32) -> i16
+    requires { ⌜ size x ≤ 32767 ⌝ }
+    ensures { λ r. ⌜ r ≡ x ⌝ }
 {
-    let blank = Limit {
-        multiplier: 0,
-        constant: 0,
-        coefficients: [0i32; 6],
-    };
-    [blank; 16]
+    x as i16
 }
 
-fn no_side(r: Refusal, at: usize) -> SideRead
-    ensures { λ q. ⌜ (q .status ≡ Refused r) × (q .next ≡ at) × SideIn (q .side) ⌝ }
+// Writes a row of small numbers into out from place at on.
+pub fn lay_row(out: &mut [i16], at: usize, row: &[i32])
+    requires { ⌜ (at + length (now row) ≤ length (now out)) × Within 32767 (now row) ⌝ }
+    ensures { λ _. ⌜ now (out .exit) ≡ put (now (out .entry)) at (now (row .entry)) ⌝ }
 {
-    let limits = no_limits();
-    SideRead {
-        status: Status::Refused(r),
-        side: Side {
-            count: 0,
-            limits: limits,
-        },
-        next: at,
+    let mut j = 0;
+    while j < row.len() {
+        out[at + j] = narrow(row[j]);
+        j += 1;
     }
 }
 
-// A count from 1 to 4 and as many limits.
-pub fn read_side(s: &[u8], at: usize, outer: usize) -> SideRead
-    requires { ⌜ Reached (now s) at × (outer ≤ 6) ⌝ }
-    ensures { λ r. ⌜ ReadsSide (now (s .entry)) at outer r ⌝ }
+// Limit j of all, of a loop with `outer` loops outside.
+fn lay_limit(words: &mut [i16], j: usize, limit: Limit, outer: usize)
+    requires { ⌜ LayLimitIn (length (now words)) j outer limit ⌝ }
+    ensures { λ _. ⌜ now (words .exit) ≡ put (now (words .entry)) (j * 8) (limitWords (limitOf outer limit)) ⌝ }
+{
+    let at = j * 8;
+    let constant = limit.constant;
+    let coefficients = limit.coefficients;
+    words[at] = limit.multiplier as i16;
+    words[at + 1] = constant as i16;
+    lay_row(words, at + 2, &coefficients[..outer]);
+}
+
+// A count from 1 to 4 and as many limits, laid from limit j on.
+fn read_side(s: &[u8], at: usize, outer: usize, words: &mut [i16], j: usize) -> SideRead
+    requires { ⌜ SideIn (now s) at outer j (length (now words)) ⌝ }
+    ensures { λ r. ⌜ ReadsSide (now (s .entry)) at outer j (now (words .entry)) (now (words .exit)) r ⌝ }
 {
     let count = match reading::read_count(s, at, 1, 4) {
         Natural::Value(v) => v,
-        Natural::Refused(r) => return no_side(r, at),
+        Natural::Refused(r) => {
+            return SideRead {
+                status: Status::Refused(r),
+                count: 0,
+                next: at,
+            };
+        }
     };
-    let mut limits = no_limits();
     let mut next = at + 1;
     let mut k = 0;
     while k < count {
@@ -149,134 +148,81 @@ pub fn read_side(s: &[u8], at: usize, outer: usize) -> SideRead
         match status {
             Status::Fine => {
                 let limit = one.limit;
-                limits[k] = limit;
+                lay_limit(words, j + k, limit, outer);
                 next = one.next;
                 k += 1;
             }
-            Status::Refused(r) => return no_side(r, at),
+            Status::Refused(r) => {
+                return SideRead {
+                    status: Status::Refused(r),
+                    count: k,
+                    next: next,
+                };
+            }
         }
     }
     SideRead {
         status: Status::Fine,
-        side: Side {
-            count: count,
-            limits: limits,
-        },
+        count: k,
         next: next,
     }
 }
 
-fn no_body() -> Loop
-    ensures { λ r. ⌜ LoopIn r ⌝ }
+// Loop k: lower limits, then upper limits. They are read from where the lower ones were refused too, and not looked at.
+fn read_loop(s: &[u8], at: usize, k: usize, words: &mut [i16], counts: &mut [usize]) -> LoopRead
+    requires { ⌜ Reached (now s) at × (k < 6) × Room (now words) (now counts) ⌝ }
+    ensures { λ r. ⌜ ReadsLoop (now (s .entry)) at k (now (words .entry)) (now (words .exit)) (now (counts .entry)) (now (counts .exit)) r ⌝ }
 {
-    let limits = no_limits();
-    Loop {
-        lower: Side {
-            count: 0,
-            limits: limits,
-        },
-        upper: Side {
-            count: 0,
-            limits: limits,
-        },
-    }
-}
-
-fn no_loop(r: Refusal, at: usize) -> LoopRead
-    ensures { λ q. ⌜ (q .status ≡ Refused r) × (q .next ≡ at) × LoopIn (q .body) ⌝ }
-{
-    let body = no_body();
+    let low = read_side(s, at, k, words, k * 32);
+    let high = read_side(s, low.next, k, words, k * 32 + 16);
+    counts[k * 2] = low.count;
+    counts[k * 2 + 1] = high.count;
+    let a = low.status;
+    let b = high.status;
+    let status = reading::first_of(a, b);
     LoopRead {
-        status: Status::Refused(r),
-        body: body,
-        next: at,
-    }
-}
-
-// Lower limits, then upper limits.
-pub fn read_loop(s: &[u8], at: usize, outer: usize) -> LoopRead
-    requires { ⌜ Reached (now s) at × (outer ≤ 6) ⌝ }
-    ensures { λ r. ⌜ ReadsLoop (now (s .entry)) at outer r ⌝ }
-{
-    let low = read_side(s, at, outer);
-    let status = low.status;
-    match status {
-        Status::Fine => {}
-        Status::Refused(r) => return no_loop(r, at),
-    }
-    let middle = low.next;
-    let high = read_side(s, middle, outer);
-    let status = high.status;
-    match status {
-        Status::Fine => {
-            let lower = low.side;
-            let upper = high.side;
-            let next = high.next;
-            LoopRead {
-                status: Status::Fine,
-                body: Loop {
-                    lower: lower,
-                    upper: upper,
-                },
-                next: next,
-            }
-        }
-        Status::Refused(r) => no_loop(r, at),
-    }
-}
-
-fn no_loops() -> [Loop; 6]
-    ensures { λ r. ⌜ length r ≡ 6 ⌝ }
-{
-    let blank = no_body();
-    [blank; 6]
-}
-
-fn no_nest(r: Refusal, at: usize) -> NestRead
-    ensures { λ q. ⌜ (q .status ≡ Refused r) × (q .next ≡ at) × NestIn (q .nest) ⌝ }
-{
-    let blank = no_loops();
-    NestRead {
-        status: Status::Refused(r),
-        nest: Nest {
-            depth: 0,
-            loops: blank,
-        },
-        next: at,
+        status: status,
+        next: high.next,
     }
 }
 
 // The section: a count from 1 to 4 and as many loops, each with those before it outside.
-pub fn read_nest(s: &[u8], at: usize) -> NestRead
-    requires { ⌜ Reached (now s) at ⌝ }
-    ensures { λ r. ⌜ ReadsNest (now (s .entry)) at r ⌝ }
+pub fn read_nest(s: &[u8], at: usize, limits: &mut [i16], counts: &mut [usize]) -> NestRead
+    requires { ⌜ Reached (now s) at × Room (now limits) (now counts) ⌝ }
+    ensures { λ r. ⌜ ReadsNest (now (s .entry)) at (now (limits .exit)) (now (counts .exit)) r ⌝ }
 {
     let depth = match reading::read_count(s, at, 1, 4) {
         Natural::Value(v) => v,
-        Natural::Refused(r) => return no_nest(r, at),
+        Natural::Refused(r) => {
+            return NestRead {
+                status: Status::Refused(r),
+                depth: 0,
+                next: at,
+            };
+        }
     };
-    let mut all = no_loops();
     let mut next = at + 1;
     let mut k = 0;
     while k < depth {
-        let one = read_loop(s, next, k);
+        let one = read_loop(s, next, k, limits, counts);
         let status = one.status;
         match status {
             Status::Fine => {
-                let body = one.body;
-                all[k] = body;
                 next = one.next;
                 k += 1;
             }
-            Status::Refused(r) => return no_nest(r, at),
+            Status::Refused(r) => {
+                return NestRead {
+                    status: Status::Refused(r),
+                    depth: k,
+                    next: next,
+                };
+            }
         }
     }
     NestRead {
         status: Status::Fine,
-        nest: Nest {
-            depth: depth,
-            loops: all,
-        },
+        depth: k,
         next: next,
     }
 }

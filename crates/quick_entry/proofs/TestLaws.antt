@@ -8,7 +8,6 @@ use lib.Dec.{T, leb, leb→le, leb·zero, leb·suc-suc}
 use lib.IntN.{ℤ}
 use lib.ListN.{length, getD}
 use Rattle.model.specs.Answer.{accepted, refused, require, _>>_, _>>=_}
-use Rattle.model.specs.Ticket as Model
 use Rattle.model.specs.Ticket.{Access}
 use Rattle.model.specs.Quick.{apart, perhaps, isApart, quickTest}
 use Rattle.model.specs.Entries.{allAccesses, accessNumber, quick}
@@ -17,7 +16,7 @@ use Rattle.reading.specs.declared.Refusal.the-variants.{WordOutOfRange}
 use Rattle.reading.specs.declared.Status.{Status}
 use Rattle.reading.specs.declared.Status.the-variants as Status
 use Rattle.reading.specs.Refusals.{refusal}
-use Rattle.ticket.specs.Ticket.{ticketOf, decoded}
+use Rattle.ticket.specs.Ticket.{ticketOn, decoded}
 use Rattle.sheet.specs.declared.Sheet.{Sheet}
 use Rattle.sheet.specs.Sheets.{nestOf, SheetIn}
 use Rattle.sheet.specs.Stages.{noAccess, accessOf, TestIn}
@@ -109,18 +108,17 @@ module _ (P : Sheet) (h : SheetIn P) (u : ℕ) (s : Bool) (e : s ≡ (leb 1 u &&
 -- ---- the entry
 
 module _ (b : List ℕ) (o e : List ℤ) (q : Intake) (h : Admits b o e q) (u v : ℕ) where
-  whole : (decoded (q .status) (ticketOf (q .ticket)) >>= (λ T. tested (T .nest) u v)) ≡ quick b u v
+  whole : (decoded (q .status) (ticketOn (q .sheet) (q .steps)) >>= (λ T. tested (T .nest) u v)) ≡ quick b u v
   unfolding quick tested
   whole = ap (_>>= (λ T. tested (T .nest) u v)) (h .same)
 
   pub not-admitted : (r : Refusal) → q .status ≡ Status.Refused r → refusal r ≡ quick b u v
   unfolding _>>=_
-  not-admitted r s = sym (ap (λ (x : Status). decoded x (ticketOf (q .ticket)) >>= (λ T. tested (T .nest) u v)) s) ∙ whole
+  not-admitted r s = sym (ap (λ (x : Status). decoded x (ticketOn (q .sheet) (q .steps)) >>= (λ T. tested (T .nest) u v)) s) ∙ whole
 
   pub sheet-in : q .status ≡ Status.Fine → SheetIn (q .sheet)
   sheet-in s = h .taken s .sheet
 
   pub answered : q .status ≡ Status.Fine → (a : Tested) → answerOf a ≡ tested (nestOf (q .sheet)) u v → answerOf a ≡ quick b u v
-  unfolding _>>=_ ticketOf
-  answered s a g = g ∙ ap (λ (N : Model.Nest). tested N u v) (h .taken s .same)
-      ∙ sym (ap (λ (x : Status). decoded x (ticketOf (q .ticket)) >>= (λ T. tested (T .nest) u v)) s) ∙ whole
+  unfolding _>>=_ ticketOn
+  answered s a g = g ∙ sym (ap (λ (x : Status). decoded x (ticketOn (q .sheet) (q .steps)) >>= (λ T. tested (T .nest) u v)) s) ∙ whole

@@ -56,6 +56,11 @@ abbrev pub answer : {A : Type 0} → Status → A → ℕ → Answer (Read A)
 answer Status.Fine a k = accepted (record { value = a; next = k })
 answer (Status.Refused r) a k = refusal r
 
+-- the first that is a refusal
+abbrev pub firstOf : Status → Status → Status
+firstOf Status.Fine b = b
+firstOf (Status.Refused r) b = Status.Refused r
+
 -- the words before word k are there
 pub record Reached (b : List ℕ) (k : ℕ) : Type 0 where
   pub counted : 0 < k

@@ -5,7 +5,7 @@ ghost use lib.IntN.{pos};
 ghost use lib.ListN.{length, take};
 ghost use Rattle.model.specs.Words.{signed};
 ghost use Rattle.model.specs.Grammar.{count, natural, number, loopNumber, times, between};
-ghost use Rattle.reading.specs.Refusals.{numberOf, placeOf, Reached, Reads};
+ghost use Rattle.reading.specs.Refusals.{numberOf, placeOf, firstOf, Reached, Reads};
 ghost use Rattle.reading.specs.Words.{ReadBits, ReadNatural, ReadNumber};
 
 // Document 01's numbers 1 to 16 in their order, with the place: a word, a step, a loop or a statement.
@@ -85,6 +85,16 @@ pub fn place_of(r: Refusal) -> usize
 pub enum Status {
     Fine,
     Refused(Refusal),
+}
+
+// The first that is a refusal.
+pub fn first_of(a: Status, b: Status) -> Status
+    ensures { λ r. ⌜ r ≡ firstOf a b ⌝ }
+{
+    match a {
+        Status::Fine => b,
+        Status::Refused(r) => Status::Refused(r),
+    }
 }
 
 // A word as its 16 bits.

@@ -1,5 +1,9 @@
 -- Laws over plain lists that the proofs of the crate's functions cite.
-pub mod NestLaws
-pub mod ChangeLaws
+pub mod HeldLaws
+pub mod AfterLaws
 pub mod StepLaws
+pub mod ReversalLaws
+pub mod ElementLaws
+pub mod SectionLaws
+pub mod ExchangeLaws
 pub mod Witness

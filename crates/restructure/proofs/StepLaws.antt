@@ -1,286 +1,105 @@
--- Each step on the loops from its place on, and on the whole nest: what the code stores is what the model gives.
-use mathlib.Core.Path.{_≡_, refl, sym, _∙_, ap, subst}
-use mathlib.Core.Bool.{Bool, true, false, not, _||_}
-use mathlib.Core.List.{List, [], _∷_, _++_, map, List·Memᴰ·head, List·Memᴰ·tail, Memᴰ·append-right}
-use Prim.Native.Nat.{ℕ, suc, _<_, _+_, _-_}
+-- What stands in the slices after the loops inside are changed and then one loop, or two, are made: the nest that a step hands out.
+use mathlib.Core.Path.{_≡_, sym, ap, _∙_, subst}
+use mathlib.Core.Bool.{Bool, true, false, not, _&&_, and-true, and-false}
+use mathlib.Core.List.{List, [], _∷_, _++_, map}
+use Prim.Native.Nat.{ℕ, suc, _+_, _*_, _≤_, _<_}
 use native.Mathlib.Omega.{arith}
-use native.Mathlib.Nat.{add-zero}
-use native.Mathlib.Numerals.{add-one}
-use lib.Dec.{T, leb}
-use lib.ListN.{length, getD, take, drop, set}
-use Rattle.lists.specs.Membership.{All}
-use Rattle.lists.specs.Place.{under, swapped}
-use Rattle.lists.proofs.MembershipLaws.{all-nil, all-cons}
-use Rattle.lists.proofs.PlaceLaws.{under-same, under-under}
-use Rattle.model.specs.Ticket as Model
-use Rattle.model.specs.Ticket.{Step, reversal, skew, section, exchange}
-use Rattle.model.specs.Limits.{loopsAfter, onLimits, deeper, reverseAt, skewInner, skewAt, sectionLower, sectionUpper, elementLimit, constantLimit, sectionAt, newOuter, newInner, tidy, exchangeAt}
-use Rattle.model.specs.Judge.{fewLimits}
-use Rattle.nest.specs.Nested.{sideOf, loopOf, loopsFrom, loopsOf, LoopIn, NestIn}
-use Rattle.nest.specs.declared.Loop.{Loop}
-use Rattle.nest.specs.declared.Nest.{Nest}
-use Rattle.limits.specs.Change.{changeOf, LoopsAre}
+use lib.Dec.{T}
+use lib.IntN.{ℤ, pos}
+use lib.ListN.{length, getD}
+use Rattle.lists.specs.Tests.{all}
+use Rattle.lists.proofs.TestLaws.{T-true}
+use Rattle.integers.specs.Affine.{Within}
+use Rattle.model.specs.Ticket.{Loop, Step}
+use Rattle.model.specs.Grammar.{depthAfter}
+use Rattle.model.specs.Limits.{onLimits, loopsAfter}
+use Rattle.model.specs.Judge.{smallLoop}
+use Rattle.bounds.specs.Flat.{loopAt, loopsFrom, NestOk}
+use Rattle.limits.specs.Change.{changeOf}
 use Rattle.limits.specs.declared.Change.{Change}
-use Rattle.limits.specs.declared.Slant.{Slant}
-use Rattle.limits.specs.declared.Cut.{Cut}
-use Rattle.limits.specs.declared.Change.the-variants.{Negate, Turn, Swap, Lean, Skew, Split}
-use Rattle.limits.proofs.SideLaws.{same-loop}
-use Rattle.exchange.specs.Filling.{fewIn}
-use Rattle.exchange.proofs.FillLaws.{both-few}
+use Rattle.loop_changes.specs.Loops.{LoopOk, LoopIs, LoopMade, LoopsAre, LoopsMade}
 use Rattle.restructure.specs.After.{After}
-use Rattle.restructure.proofs.NestLaws.{loops-apart, all-outside, all-joined, under-loops, one-there, one-set, two-there, two-set, held-few, one-many}
+use Rattle.restructure.proofs.HeldLaws.{HeldAll, ok-at, held-there, held-kept, held-append, held-run}
+use Rattle.restructure.proofs.AfterLaws.{few, length-loops, settled}
 
--- ---- the loops from the place on
+-- ---- a loop made after another that stood there for a while
 
-module _ (ch : Change) (i : ℕ) (ns ms : List Loop) (made : loopsFrom i ms ≡ map (onLimits (changeOf ch)) (loopsFrom i ns)) where
-  -- with one loop more outside
-  inside : (a : ℕ) → i ≡ a → loopsFrom a ms ≡ map (onLimits (changeOf ch)) (loopsFrom a ns)
-  inside a e = subst (λ j. loopsFrom j ms ≡ map (onLimits (changeOf ch)) (loopsFrom j ns)) e made
+pub loop-then : (s t t′ : List ℤ) (c d d′ : List ℕ) (k : ℕ) (M L : Loop) (r : Bool) → length t ≡ length s → length d ≡ length c → LoopIs s c k M t d → LoopMade t d k L r t′ d′ → LoopMade s c k L r t′ d′
+loop-then s t t′ c d d′ k M L r e f i m = record {
+  words = m .words ∙ e;
+  counts = m .counts ∙ f;
+  tested = m .tested;
+  whole = λ q. let w = m .whole q in record {
+    made = w .made;
+    ok = w .ok;
+    small = w .small;
+    words-kept = record { before = λ p h. w .words-kept .before p h ∙ i .words-kept .before p h; after = λ p h. w .words-kept .after p h ∙ i .words-kept .after p h };
+    counts-kept = record { before = λ p h. w .counts-kept .before p h ∙ i .counts-kept .before p h; after = λ p h. w .counts-kept .after p h ∙ i .counts-kept .after p h };
+  };
+}
 
-pub reversed-at : (a : ℕ) (old new : Loop) (ns ms : List Loop) → sideOf a (new .lower) ≡ map (changeOf Negate) (sideOf a (old .upper)) → sideOf a (new .upper) ≡ map (changeOf Negate) (sideOf a (old .lower))
-    → loopsFrom (a + 1) ms ≡ map (onLimits (changeOf (Turn a))) (loopsFrom (a + 1) ns) → reverseAt a (loopsFrom a (old ∷ ns)) ≡ loopsFrom a (new ∷ ms)
-unfolding reverseAt deeper changeOf loopsFrom loopOf
-reversed-at a old new ns ms e f m = sym (ap (loopOf a new ∷_) (inside (Turn a) (a + 1) ns ms m (suc a) (add-one a)) ∙ ap (_∷ map (onLimits (changeOf (Turn a))) (loopsFrom (suc a) ns)) (same-loop e f))
+module _ (s : List ℤ) (c : List ℕ) (depth : ℕ) (ok : NestOk s c depth) where
+  -- ---- the loops outside
 
--- the skew of the loop d + 1 places inside loop a
-abbrev slanted : ℕ → ℕ → Bool → Slant
-slanted a d positive = record { outer = a; between = d; positive = positive }
+  pub outside-held : (a : ℕ) (t : List ℤ) (d : List ℕ) → a ≤ depth → length t ≡ length s → ((p : ℕ) → p < a * 256 → getD t p (pos 0) ≡ getD s p (pos 0)) → ((p : ℕ) → p < a * 2 → getD d p 0 ≡ getD c p 0)
+      → HeldAll t d 0 (loopsFrom s c 0 a)
+  outside-held a t d h e f g = let few = ok .shallow in held-run s t c d 0 0 a (λ i l.
+      held-kept s t c d (0 + i) (loopAt s c (0 + i)) (ok .words) e (omega arith) (λ p x y. f p (omega arith)) (λ p x y. g p (omega arith)) (held-there s c (0 + i) (ok-at s c depth (0 + i) ok (omega arith))))
 
-pub skewed-at : (a d : ℕ) (positive : Bool) (b : ℕ) (old new : Loop) (ns ms : List Loop) → loopOf b new ≡ onLimits (changeOf (Lean (slanted a d positive))) (loopOf b old)
-    → loopsFrom (b + 1) ms ≡ map (onLimits (changeOf (Skew (slanted a d positive)))) (loopsFrom (b + 1) ns) → skewInner a d positive (loopsFrom b (old ∷ ns)) ≡ loopsFrom b (new ∷ ms)
-unfolding skewInner deeper changeOf loopsFrom
-skewed-at a d positive b old new ns ms e m =
-    sym (ap (loopOf b new ∷_) (inside (Skew (slanted a d positive)) (b + 1) ns ms m (suc b) (add-one b)) ∙ ap (_∷ map (onLimits (changeOf (Skew (slanted a d positive)))) (loopsFrom (suc b) ns)) e)
+  -- ---- the loops inside, which later changes leave
 
--- it begins at the skewed loop
-skew-inner : (a d : ℕ) (positive : Bool) (N : List Model.Loop) → under a (skewAt a d positive) N ≡ under (a + 1 + d) (skewInner a d positive) N
-skew-inner a d positive N =
-    let e : a + suc d ≡ a + 1 + d = omega arith in
-    under-same (skewAt a d positive) (under (suc d) (skewInner a d positive)) at-outer a N ∙ under-under (skewInner a d positive) a (suc d) N ∙ ap (λ i. under i (skewInner a d positive) N) e
-  where
-    at-outer : (l : List Model.Loop) → skewAt a d positive l ≡ under (suc d) (skewInner a d positive) l
-    at-outer [] = unfold skewAt in unfold under in refl
-    at-outer (L ∷ l) = unfold skewAt in unfold under in refl
+  pub inside-held : (ch : Change) (start many by : ℕ) (t t′ : List ℤ) (d d′ : List ℕ) → start + many + by ≤ 6 → length t ≡ length s → LoopsAre ch s c start many by t d → length t′ ≡ length t
+      → ((p : ℕ) → (start + by) * 256 ≤ p → getD t′ p (pos 0) ≡ getD t p (pos 0)) → ((p : ℕ) → (start + by) * 2 ≤ p → getD d′ p 0 ≡ getD d p 0)
+      → HeldAll t′ d′ (start + by) (map (onLimits (changeOf ch)) (loopsFrom s c start many))
+  inside-held ch start many by t t′ d d′ h e m n f g = subst (HeldAll t′ d′ (start + by)) (m .made) (held-run t t′ d d′ (start + by) (start + by) many (λ i l.
+      let q : start + i + by ≡ start + by + i = omega arith in
+      held-kept t t′ d d′ (start + by + i) (loopAt t d (start + by + i)) (e ∙ ok .words) n (omega arith) (λ p x y. f p (omega arith)) (λ p x y. g p (omega arith))
+      (held-there t d (start + by + i) (subst (LoopOk t d) q (m .ok i l)))))
 
-module _ (a : ℕ) (i j : Loop) where
-  pub exchanged-at : (x y : Loop) (ns ms : List Loop) → loopOf a x ≡ tidy (newOuter a (loopOf a i) (loopOf (a + 1) j)) → loopOf (a + 1) y ≡ tidy (newInner a (loopOf a i) (loopOf (a + 1) j))
-      → loopsFrom (a + 1 + 1) ms ≡ map (onLimits (changeOf (Swap a))) (loopsFrom (a + 1 + 1) ns) → exchangeAt a (loopsFrom a (i ∷ j ∷ ns)) ≡ loopsFrom a (x ∷ y ∷ ms)
-  unfolding exchangeAt deeper changeOf loopsFrom
-  exchanged-at x y ns ms e f m =
-      let p : suc a ≡ a + 1 = omega arith in
-      let q : a + 1 + 1 ≡ suc (suc a) = omega arith in
-      let rest = map (onLimits (changeOf (Swap a))) (loopsFrom (suc (suc a)) ns) in
-      sym (ap (λ (ls : List Model.Loop). loopOf a x ∷ loopOf (suc a) y ∷ ls) (inside (Swap a) (a + 1 + 1) ns ms m (suc (suc a)) q)
-      ∙ ap (λ (k : ℕ). loopOf a x ∷ loopOf k y ∷ rest) p
-      ∙ ap (λ (z : Model.Loop). z ∷ loopOf (a + 1) y ∷ rest) e ∙ ap (λ (z : Model.Loop). tidy (newOuter a (loopOf a i) (loopOf (a + 1) j)) ∷ z ∷ rest) f
-      ∙ ap (λ (k : ℕ). tidy (newOuter a (loopOf a i) (loopOf k j)) ∷ tidy (newInner a (loopOf a i) (loopOf k j)) ∷ rest) (sym p))
+  -- ---- all, from the loops at place a on
 
-abbrev cutAt : ℕ → ℕ → Cut
-cutAt a w = record { place = a; width = w }
+  pub all-held : (a : ℕ) (t : List ℤ) (d : List ℕ) (rest : List Loop) → HeldAll t d 0 (loopsFrom s c 0 a) → HeldAll t d a rest → HeldAll t d 0 (loopsFrom s c 0 a ++ rest)
+  all-held a t d rest f g =
+      let l = length-loops s c 0 a in
+      let e : a ≡ 0 + length (loopsFrom s c 0 a) = omega arith in
+      held-append t d 0 (loopsFrom s c 0 a) rest f (subst (λ (k : ℕ). HeldAll t d k rest) e g)
 
--- the loops S and E of a section
-abbrev pub sections : ℕ → Model.Loop → Model.Loop
-sections w L = record { lower = map (sectionLower w) (L .lower); upper = map (sectionUpper w) (L .upper) }
+  -- ---- one loop: a reversal, a skew
 
-abbrev pub elements : ℕ → ℕ → Model.Loop → Model.Loop
-elements a w L = record { lower = constantLimit a 0 ∷ map (elementLimit w) (L .lower); upper = constantLimit a (w - 1) ∷ map (elementLimit w) (L .upper) }
+  module _ (ch : Change) (a many : ℕ) (deep : depth ≡ a + 1 + many) (t : Step) (X : Loop) (is : loopsAfter t (loopsFrom s c 0 depth) ≡ loopsFrom s c 0 a ++ ((X ∷ []) ++ map (onLimits (changeOf ch)) (loopsFrom s c (a + 1) many)))
+      (same : depthAfter t depth ≡ depth) (few-X : T (few X)) (r₁ : Bool) (t₁ : List ℤ) (d₁ : List ℕ) (m₁ : LoopsMade ch s c (a + 1) many 0 r₁ t₁ d₁) where
+    one-few : all few (X ∷ []) ≡ true
+    unfolding all
+    one-few = ap (_&& true) (T-true (few X) few-X)
 
-pub sectioned-at : (a w : ℕ) (old x y : Loop) (ns ms : List Loop) → loopOf a x ≡ sections w (loopOf a old) → loopOf (a + 1) y ≡ elements a w (loopOf a old)
-    → loopsFrom (a + 1 + 1) ms ≡ map (onLimits (changeOf (Split (cutAt a w)))) (loopsFrom (a + 1) ns) → sectionAt a w (loopsFrom a (old ∷ ns)) ≡ loopsFrom a (x ∷ y ∷ ms)
-unfolding sectionAt deeper changeOf loopsFrom
-sectioned-at a w old x y ns ms e f m =
-    let p : suc a ≡ a + 1 = omega arith in
-    let q : a + 1 + 1 ≡ suc (suc a) = omega arith in
-    let G = onLimits (changeOf (Split (cutAt a w))) in
-    sym (ap (λ (ls : List Model.Loop). loopOf a x ∷ loopOf (suc a) y ∷ ls) (sym (ap (λ (k : ℕ). loopsFrom k ms) q) ∙ m ∙ ap (λ (k : ℕ). map G (loopsFrom k ns)) (sym p))
-    ∙ ap (λ (k : ℕ). loopOf a x ∷ loopOf k y ∷ map G (loopsFrom (suc a) ns)) p
-    ∙ ap (λ (z : Model.Loop). z ∷ loopOf (a + 1) y ∷ map G (loopsFrom (suc a) ns)) e
-    ∙ ap (λ (z : Model.Loop). sections w (loopOf a old) ∷ z ∷ map G (loopsFrom (suc a) ns)) f)
+    one-small : all smallLoop (X ∷ []) ≡ smallLoop X
+    unfolding all
+    one-small = and-true (smallLoop X)
 
--- ---- the whole nest
+    one-settled : (small : Bool) (s′ : List ℤ) (c′ : List ℕ) → length s′ ≡ 1536 → length c′ ≡ 12 → small ≡ smallLoop X && r₁
+        → (small ≡ true → HeldAll s′ c′ 0 (loopsFrom s c 0 a ++ ((X ∷ []) ++ map (onLimits (changeOf ch)) (loopsFrom s c (a + 1) many))) × Within 32767 s′)
+        → After t s c depth (record { full = false; small = small }) s′ c′
+    one-settled small s′ c′ w n g h = let few = ok .shallow in
+        settled ch s c depth ok a (a + 1) many (omega arith) (omega arith) (X ∷ []) t is (omega arith) (omega arith) false small s′ c′ w n
+        (sym (ap not one-few)) (λ _. g ∙ ap (_&& r₁) (sym one-small) ∙ ap (all smallLoop (X ∷ []) &&_) (m₁ .tested)) (λ _. h)
 
-module _ (F : List Model.Loop → List Model.Loop) (a many : ℕ) (l r : List Loop) (d : Loop) where
-  pub step-one : (new : Loop) → a < length l → take (a + 1) r ≡ take a l ++ (new ∷ [])
-      → F (loopsFrom a (getD l a d ∷ take many (drop (a + 1) l))) ≡ loopsFrom a (new ∷ take many (drop (a + 1) r)) → loopsFrom 0 (take (a + 1 + many) r) ≡ under a F (loopsFrom 0 (take (a + 1 + many) l))
-  step-one new h k e =
-      loops-apart a (a + 1) many l r (new ∷ []) k (omega arith) ∙ ap (loopsFrom 0 (take a l) ++_) (sym e)
-      ∙ sym (under-loops a (a + 1) many l l (getD l a d ∷ []) (one-there a l d h) F (omega arith))
+    pub inside-large : r₁ ≡ false → After t s c depth (record { full = false; small = false }) t₁ d₁
+    inside-large e = one-settled false t₁ d₁ (m₁ .words ∙ ok .words) (m₁ .counts ∙ ok .counts) (sym (ap (smallLoop X &&_) e ∙ and-false (smallLoop X))) (λ q. absurd (let z : _≡_ {A = ℕ} 0 1 = cc in omega arith))
 
-  pub step-two : (x y : Loop) → a + 1 < length l → take (a + 1 + 1) r ≡ take a l ++ (x ∷ y ∷ [])
-      → F (loopsFrom a (getD l a d ∷ getD l (a + 1) d ∷ take many (drop (a + 1 + 1) l))) ≡ loopsFrom a (x ∷ y ∷ take many (drop (a + 1 + 1) r))
-      → loopsFrom 0 (take (a + 1 + 1 + many) r) ≡ under a F (loopsFrom 0 (take (a + 1 + 1 + many) l))
-  step-two x y h k e =
-      loops-apart a (a + 1 + 1) many l r (x ∷ y ∷ []) k (omega arith) ∙ ap (loopsFrom 0 (take a l) ++_) (sym e)
-      ∙ sym (under-loops a (a + 1 + 1) many l l (getD l a d ∷ getD l (a + 1) d ∷ []) (two-there a l d h) F (omega arith))
+    module _ (e : r₁ ≡ true) (r : Bool) (t₂ : List ℤ) (d₂ : List ℕ) (m₂ : LoopMade t₁ d₁ a X r t₂ d₂) where
+      one-held : r ≡ true → HeldAll t₂ d₂ 0 (loopsFrom s c 0 a ++ ((X ∷ []) ++ map (onLimits (changeOf ch)) (loopsFrom s c (a + 1) many)))
+      one-held q =
+          let u = m₁ .whole e in
+          let v = m₂ .whole q in
+          let few = ok .shallow in
+          let z : a + 1 + 0 ≡ suc a = omega arith in
+          all-held a t₂ d₂ ((X ∷ []) ++ map (onLimits (changeOf ch)) (loopsFrom s c (a + 1) many))
+          (outside-held a t₂ d₂ (omega arith) (m₂ .words ∙ m₁ .words) (λ p h. v .words-kept .before p h ∙ u .words-kept p (omega arith)) (λ p h. v .counts-kept .before p h ∙ u .counts-kept p (omega arith))) (
+            record { made = v .made; ok = v .ok },
+            subst (λ (k : ℕ). HeldAll t₂ d₂ k (map (onLimits (changeOf ch)) (loopsFrom s c (a + 1) many))) z
+                (inside-held ch (a + 1) many 0 t₁ t₂ d₁ d₂ (omega arith) (m₁ .words) u (m₂ .words) (λ p h. v .words-kept .after p (omega arith)) (λ p h. v .counts-kept .after p (omega arith))),
+          )
 
-  pub step-cut : (x y : Loop) → a < length l → take (a + 1 + 1) r ≡ take a l ++ (x ∷ y ∷ [])
-      → F (loopsFrom a (getD l a d ∷ take many (drop (a + 1) l))) ≡ loopsFrom a (x ∷ y ∷ take many (drop (a + 1 + 1) r))
-      → loopsFrom 0 (take (a + 1 + 1 + many) r) ≡ under a F (loopsFrom 0 (take (a + 1 + many) l))
-  step-cut x y h k e =
-      loops-apart a (a + 1 + 1) many l r (x ∷ y ∷ []) k (omega arith) ∙ ap (loopsFrom 0 (take a l) ++_) (sym e)
-      ∙ sym (under-loops a (a + 1) many l l (getD l a d ∷ []) (one-there a l d h) F (omega arith))
-
--- ---- more than 16 limits on a side
-
-not-yes : (b : Bool) → not b ≡ true → b ≡ false
-not-yes true q = sym q
-not-yes false q = refl
-
-pub either-many : (front : List Model.Loop) (X Y : Model.Loop) (rest : List Model.Loop) → not (fewIn X) || not (fewIn Y) ≡ true → fewLimits (front ++ (X ∷ Y ∷ rest)) ≡ false
-either-many front X Y rest e = go (fewIn X) refl e
-  where
-    go : (b : Bool) → fewIn X ≡ b → not b || not (fewIn Y) ≡ true → fewLimits (front ++ (X ∷ Y ∷ rest)) ≡ false
-    go true q h = one-many (front ++ (X ∷ Y ∷ rest)) Y (Memᴰ·append-right front (List·Memᴰ·tail (List·Memᴰ·head refl))) (not-yes (fewIn Y) h)
-    go false q h = one-many (front ++ (X ∷ Y ∷ rest)) X (Memᴰ·append-right front (List·Memᴰ·head refl)) q
-
--- the flag of two sides
-pub few-counts : (L : Model.Loop) (m n : ℕ) → length (L .lower) ≡ m → length (L .upper) ≡ n → not (leb m 16) || not (leb n 16) ≡ not (fewIn L)
-unfolding fewIn
-few-counts L m n e f = rw (e, f) (both-few (leb m 16) (leb n 16))
-
--- ---- what a step hands out
-
-pub settled : (t : Step) (N r : Nest) (b : Bool) → (b ≡ false → loopsOf r ≡ loopsAfter t (loopsOf N)) → (b ≡ true → fewLimits (loopsAfter t (loopsOf N)) ≡ false) → NestIn r
-    → After t N (record { full = b; nest = r })
-settled t N r b w f i = record { full = flag b w f; whole = w; within = i }
-  where
-    flag : (b : Bool) → (b ≡ false → loopsOf r ≡ loopsAfter t (loopsOf N)) → (b ≡ true → fewLimits (loopsAfter t (loopsOf N)) ≡ false) → b ≡ not (fewLimits (loopsAfter t (loopsOf N)))
-    flag true w f = sym (ap not (f refl))
-    flag false w f = sym (ap not (ap fewLimits (sym (w refl)) ∙ held-few r i))
-
--- a step that never fills a side
-pub settled-few : (t : Step) (N r : Nest) → loopsOf r ≡ loopsAfter t (loopsOf N) → NestIn r → After t N (record { full = false; nest = r })
-settled-few t N r e i = settled t N r false (λ _. e) (λ q. absurd (subst T (sym q) tt)) i
-
--- ---- each step
-
-module _ (a many : ℕ) (N : Nest) (d : Loop) (deep : N .depth ≡ a + 1 + many) (i : NestIn N) (r : List Loop) (n : length r ≡ 6) where
-  long : a < length (N .loops)
-  long = let f = i .few in let q = i .room in omega arith
-
-  module _ (new : Loop) (w : LoopIn new) where
-    front : (ch : Change) → LoopsAre ch (N .loops) (set (N .loops) a new) (a + 1) many 0 r → take (a + 1) r ≡ take a (N .loops) ++ (new ∷ [])
-    front ch o = rw (add-zero (a + 1)) at (o .kept) ∙ one-set a (N .loops) new long
-
-    one-in : (ch : Change) → LoopsAre ch (N .loops) (set (N .loops) a new) (a + 1) many 0 r → NestIn (record { depth = N .depth; loops = r })
-    one-in ch o =
-        let old : All LoopIn (take (a + 1 + many) (N .loops)) = subst (λ k. All LoopIn (take k (N .loops))) deep (i .each) in
-        let t : All LoopIn (take many (drop (a + 1) r)) = rw (add-zero (a + 1)) at (o .within) in
-        record {
-          few = i .few;
-          room = n;
-          each = subst (λ k. All LoopIn (take k r)) (sym deep)
-              (all-joined a (a + 1) many (N .loops) r (new ∷ []) (front ch o) (all-outside a (a + 1) many (N .loops) (N .loops) (getD (N .loops) a d ∷ []) (one-there a (N .loops) d long) old) (all-cons LoopIn w (all-nil LoopIn)) t);
-        }
-
-    one-made : (ch : Change) → LoopsAre ch (N .loops) (set (N .loops) a new) (a + 1) many 0 r
-        → loopsFrom (a + 1) (take many (drop (a + 1) r)) ≡ map (onLimits (changeOf ch)) (loopsFrom (a + 1) (take many (drop (a + 1) (N .loops))))
-    one-made ch o = rw (add-zero (a + 1)) at (o .made)
-
-    one-loops : (F : List Model.Loop → List Model.Loop) (ch : Change) → LoopsAre ch (N .loops) (set (N .loops) a new) (a + 1) many 0 r
-        → F (loopsFrom a (getD (N .loops) a d ∷ take many (drop (a + 1) (N .loops)))) ≡ loopsFrom a (new ∷ take many (drop (a + 1) r))
-        → loopsOf (record { depth = N .depth; loops = r }) ≡ under a F (loopsOf N)
-    unfolding loopsOf
-    one-loops F ch o e = subst (λ k. loopsFrom 0 (take k r) ≡ under a F (loopsFrom 0 (take k (N .loops)))) (sym deep) (step-one F a many (N .loops) r d new long (front ch o) e)
-
-    pub reversed-is : LoopsAre (Turn a) (N .loops) (set (N .loops) a new) (a + 1) many 0 r
-        → sideOf a (new .lower) ≡ map (changeOf Negate) (sideOf a (getD (N .loops) a d .upper)) → sideOf a (new .upper) ≡ map (changeOf Negate) (sideOf a (getD (N .loops) a d .lower))
-        → After (reversal a) N (record { full = false; nest = record { depth = N .depth; loops = r } })
-    unfolding loopsAfter
-    reversed-is o e f = settled-few (reversal a) N (record { depth = N .depth; loops = r })
-        (one-loops (reverseAt a) (Turn a) o (reversed-at a (getD (N .loops) a d) new (take many (drop (a + 1) (N .loops))) (take many (drop (a + 1) r)) e f (one-made (Turn a) o)))
-        (one-in (Turn a) o)
-
-    pub skewed-is : (b c : ℕ) (positive : Bool) → b + 1 + c ≡ a → LoopsAre (Skew (slanted b c positive)) (N .loops) (set (N .loops) a new) (a + 1) many 0 r
-        → loopOf a new ≡ onLimits (changeOf (Lean (slanted b c positive))) (loopOf a (getD (N .loops) a d)) → After (skew b c positive) N (record { full = false; nest = record { depth = N .depth; loops = r } })
-    unfolding loopsAfter
-    skewed-is b c positive q o e = settled-few (skew b c positive) N (record { depth = N .depth; loops = r })
-        (one-loops (skewInner b c positive) (Skew (slanted b c positive)) o
-        (skewed-at b c positive a (getD (N .loops) a d) new (take many (drop (a + 1) (N .loops))) (take many (drop (a + 1) r)) e (one-made (Skew (slanted b c positive)) o))
-        ∙ sym (skew-inner b c positive (loopsOf N) ∙ ap (λ k. under k (skewInner b c positive) (loopsOf N)) q))
-        (one-in (Skew (slanted b c positive)) o)
-
-module _ (a many : ℕ) (N : Nest) (d : Loop) (deep : N .depth ≡ a + 1 + 1 + many) (i : NestIn N) (r : List Loop) (n : length r ≡ 6) where
-  module _ (x y : Loop) (u : LoopIn x) (v : LoopIn y) (o : LoopsAre (Swap a) (N .loops) (set (set (N .loops) a x) (a + 1) y) (a + 1 + 1) many 0 r) where
-    reaches : a + 1 < length (N .loops)
-    reaches = let f = i .few in let q = i .room in omega arith
-
-    abbrev I : Model.Loop
-    I = loopOf a (getD (N .loops) a d)
-
-    abbrev J : Model.Loop
-    J = loopOf (a + 1) (getD (N .loops) (a + 1) d)
-
-    fronted : take (a + 1 + 1) r ≡ take a (N .loops) ++ (x ∷ y ∷ [])
-    fronted = rw (add-zero (a + 1 + 1)) at (o .kept) ∙ two-set a (N .loops) x y reaches
-
-    swapped-in : NestIn (record { depth = N .depth; loops = r })
-    swapped-in =
-        let old : All LoopIn (take (a + 1 + 1 + many) (N .loops)) = subst (λ k. All LoopIn (take k (N .loops))) deep (i .each) in
-        let t : All LoopIn (take many (drop (a + 1 + 1) r)) = rw (add-zero (a + 1 + 1)) at (o .within) in
-        record {
-          few = i .few;
-          room = n;
-          each = subst (λ k. All LoopIn (take k r)) (sym deep)
-              (all-joined a (a + 1 + 1) many (N .loops) r (x ∷ y ∷ []) fronted (all-outside a (a + 1 + 1) many (N .loops) (N .loops) (getD (N .loops) a d ∷ getD (N .loops) (a + 1) d ∷ []) (two-there a (N .loops) d reaches) old)
-              (all-cons LoopIn u (all-cons LoopIn v (all-nil LoopIn))) t);
-        }
-
-    many-there : not (fewIn (tidy (newOuter a I J))) || not (fewIn (tidy (newInner a I J))) ≡ true → fewLimits (under a (exchangeAt a) (loopsFrom 0 (take (a + 1 + 1 + many) (N .loops)))) ≡ false
-    unfolding exchangeAt loopsFrom
-    many-there h =
-        let p : suc a ≡ a + 1 = omega arith in
-        ap fewLimits (under-loops a (a + 1 + 1) many (N .loops) (N .loops) (getD (N .loops) a d ∷ getD (N .loops) (a + 1) d ∷ []) (two-there a (N .loops) d reaches) (exchangeAt a) (omega arith))
-        ∙ either-many (loopsFrom 0 (take a (N .loops))) (tidy (newOuter a I (loopOf (suc a) (getD (N .loops) (a + 1) d)))) (tidy (newInner a I (loopOf (suc a) (getD (N .loops) (a + 1) d)))) (deeper (under a swapped) (loopsFrom (suc (suc a)) (take many (drop (a + 1 + 1) (N .loops)))))
-        (ap (λ k. not (fewIn (tidy (newOuter a I (loopOf k (getD (N .loops) (a + 1) d))))) || not (fewIn (tidy (newInner a I (loopOf k (getD (N .loops) (a + 1) d)))))) p ∙ h)
-
-    pub exchanged-is : (b : Bool) → b ≡ not (fewIn (tidy (newOuter a I J))) || not (fewIn (tidy (newInner a I J)))
-        → (b ≡ false → (loopOf a x ≡ tidy (newOuter a I J)) × (loopOf (a + 1) y ≡ tidy (newInner a I J))) → After (exchange a) N (record { full = b; nest = record { depth = N .depth; loops = r } })
-    unfolding loopsAfter loopsOf
-    exchanged-is b e w = settled (exchange a) N (record { depth = N .depth; loops = r }) b
-        (λ f. subst (λ k. loopsFrom 0 (take k r) ≡ under a (exchangeAt a) (loopsFrom 0 (take k (N .loops)))) (sym deep)
-        (step-two (exchangeAt a) a many (N .loops) r d x y reaches fronted
-        (exchanged-at a (getD (N .loops) a d) (getD (N .loops) (a + 1) d) x y (take many (drop (a + 1 + 1) (N .loops))) (take many (drop (a + 1 + 1) r)) (w f .0) (w f .1) (rw (add-zero (a + 1 + 1)) at (o .made)))))
-        (λ t. subst (λ k. fewLimits (under a (exchangeAt a) (loopsFrom 0 (take k (N .loops)))) ≡ false) (sym deep) (many-there (sym e ∙ t)))
-        swapped-in
-
-module _ (a many w : ℕ) (N : Nest) (d : Loop) (deep : N .depth ≡ a + 1 + many) (i : NestIn N) (room : N .depth < 6) (r : List Loop) (n : length r ≡ 6) where
-  module _ (x y : Loop) (u : LoopIn x) (v : LoopIn y) (o : LoopsAre (Split (cutAt a w)) (N .loops) (set (set (N .loops) a x) (a + 1) y) (a + 1) many 1 r) where
-    short : a + 1 < length (N .loops)
-    short = let q = i .room in omega arith
-
-    abbrev L : Model.Loop
-    L = loopOf a (getD (N .loops) a d)
-
-    begins : take (a + 1 + 1) r ≡ take a (N .loops) ++ (x ∷ y ∷ [])
-    begins = o .kept ∙ two-set a (N .loops) x y short
-
-    deeper-by-one : N .depth + 1 ≡ a + 1 + 1 + many
-    deeper-by-one = omega arith
-
-    cut-in : NestIn (record { depth = N .depth + 1; loops = r })
-    cut-in =
-        let old : All LoopIn (take (a + 1 + many) (N .loops)) = subst (λ k. All LoopIn (take k (N .loops))) deep (i .each) in
-        record {
-          few = omega arith;
-          room = n;
-          each = subst (λ k. All LoopIn (take k r)) (sym deeper-by-one)
-              (all-joined a (a + 1 + 1) many (N .loops) r (x ∷ y ∷ []) begins (all-outside a (a + 1) many (N .loops) (N .loops) (getD (N .loops) a d ∷ []) (one-there a (N .loops) d (omega (arith, short))) old)
-              (all-cons LoopIn u (all-cons LoopIn v (all-nil LoopIn))) (o .within));
-        }
-
-    cut-many : fewIn (elements a w L) ≡ false → fewLimits (under a (sectionAt a w) (loopsFrom 0 (take (a + 1 + many) (N .loops)))) ≡ false
-    unfolding sectionAt loopsFrom
-    cut-many h =
-        ap fewLimits (under-loops a (a + 1) many (N .loops) (N .loops) (getD (N .loops) a d ∷ []) (one-there a (N .loops) d (omega (arith, short))) (sectionAt a w) (omega (arith, short)))
-        ∙ one-many _ (elements a w L) (Memᴰ·append-right (loopsFrom 0 (take a (N .loops))) (List·Memᴰ·tail (List·Memᴰ·head refl))) h
-
-    pub sectioned-is : (b : Bool) → b ≡ not (fewIn (elements a w L)) → loopOf a x ≡ sections w L → (b ≡ false → loopOf (a + 1) y ≡ elements a w L)
-        → After (section a w) N (record { full = b; nest = record { depth = N .depth + 1; loops = r } })
-    unfolding loopsAfter loopsOf
-    sectioned-is b e s f = settled (section a w) N (record { depth = N .depth + 1; loops = r }) b
-        (λ q. ap (λ k. loopsFrom 0 (take k r)) deeper-by-one
-        ∙ step-cut (sectionAt a w) a many (N .loops) r d x y (omega (arith, short)) begins (sectioned-at a w (getD (N .loops) a d) x y (take many (drop (a + 1) (N .loops))) (take many (drop (a + 1 + 1) r)) s (f q) (o .made))
-        ∙ sym (ap (λ k. under a (sectionAt a w) (loopsFrom 0 (take k (N .loops)))) deep))
-        (λ t. subst (λ k. fewLimits (under a (sectionAt a w) (loopsFrom 0 (take k (N .loops)))) ≡ false) (sym deep) (cut-many (not-yes (fewIn (elements a w L)) (sym e ∙ t))))
-        cut-in
+      pub one-done : After t s c depth (record { full = false; small = r }) t₂ d₂
+      one-done = one-settled r t₂ d₂ (m₂ .words ∙ m₁ .words ∙ ok .words) (m₂ .counts ∙ m₁ .counts ∙ ok .counts)
+          (m₂ .tested ∙ sym (ap (smallLoop X &&_) e ∙ and-true (smallLoop X))) (λ q. (one-held q, m₂ .whole q .small))

@@ -1,52 +1,66 @@
--- A nest that meets what each step asks: two loops from 0 to 5.
-use mathlib.Core.Path.{refl}
+-- A nest that meets what each step asks: two loops, every word and every count 1.
+use mathlib.Core.Path.{_≡_, sym, subst}
+use mathlib.Core.List.{List}
+use Prim.Native.Nat.{ℕ, _+_, _*_, _≤_, _<_}
 use native.Mathlib.Omega.{arith}
 use lib.IntN.{ℤ, pos}
-use lib.ListN.{replicate}
-use Rattle.lists.specs.Tests.{all}
-use Rattle.lists.proofs.MembershipLaws.{all-nil, all-cons}
-use Rattle.model.specs.Judge.{small, smallLimit, smallLoop}
-use Rattle.nest.specs.Nested.{limitOf, sideOf, loopOf, loopsFrom, loopsOf, LimitIn, SideIn, LoopIn}
-use Rattle.nest.specs.declared.Limit.{Limit}
-use Rattle.nest.specs.declared.Side.{Side}
-use Rattle.nest.specs.declared.Loop.{Loop}
-use Rattle.nest.specs.declared.Nest.{Nest}
-use Rattle.restructure.specs.After.{StepIn, ReversalIn, SkewIn, SectionIn, ExchangeIn}
+use lib.Signed.{_<ℤ_}
+use lib.ListN.{length, getD, replicate, length-replicate, getD-replicate}
+use Rattle.integers.proofs.AffineLaws.{within-all}
+use Rattle.integers.proofs.RingLaws.{zarith}
+use Rattle.integers.specs.Difference.{size}
+use Rattle.bounds.specs.Flat.{NestOk}
+use Rattle.restructure.specs.After.{ReversalIn, SkewIn, SectionIn, ExchangeIn}
 
-abbrev limit : ℤ → Limit
-limit z = record { multiplier = 1; constant = z; coefficients = replicate 6 (pos 0) }
+-- shut, so that nothing computes 1536 words
+pub words : List ℤ
+words = replicate 1536 (pos 1)
 
-abbrev side : ℤ → Side
-side z = record { count = 1; limits = replicate 16 (limit z) }
+pub counts : List ℕ
+counts = replicate 12 1
 
-abbrev body : Loop
-body = record { lower = side (pos 0); upper = side (pos 5) }
+word-is : (i : ℕ) → i < 1536 → getD words i (pos 0) ≡ pos 1
+unfolding words
+word-is i h = getD-replicate 1536 i (pos 1) (pos 0) h
 
-abbrev square : Nest
-square = record { depth = 2; loops = replicate 6 body }
+count-is : (i : ℕ) → i < 12 → getD counts i 0 ≡ 1
+unfolding counts
+count-is i h = getD-replicate 12 i 1 0 h
 
-side-in : (z : ℤ) → SideIn (side z)
-unfolding replicate
-side-in z = record { few = omega arith; room = refl; each = all-cons LimitIn (record { room = refl }) (all-nil LimitIn) }
+words-length : length words ≡ 1536
+unfolding words
+words-length = length-replicate 1536 (pos 1)
 
-body-in : LoopIn body
-body-in = record { lower = side-in (pos 0); upper = side-in (pos 5) }
+counts-length : length counts ≡ 12
+unfolding counts
+counts-length = length-replicate {A = ℕ} 12 1
 
-step-in : StepIn square
-unfolding replicate loopsOf loopsFrom loopOf sideOf limitOf all smallLoop smallLimit small
-step-in = record {
-  within = record { few = omega arith; room = refl; each = all-cons LoopIn body-in (all-cons LoopIn body-in (all-nil LoopIn)) };
-  small = tt;
+near : (i : ℕ) → i < length words → size (getD words i (pos 0)) ≤ 32767
+near i h = let n = words-length in subst (λ (z : ℤ). size z ≤ 32767) (sym (word-is i (omega arith))) (omega arith)
+
+positive : (j n : ℕ) → j + n ≤ 192 → (i : ℕ) → i < n → pos 0 <ℤ getD words ((j + i) * 8) (pos 0)
+positive j n f i h = subst (λ (z : ℤ). pos 0 <ℤ z) (sym (word-is ((j + i) * 8) (omega arith))) (omega zarith)
+
+nest-ok : NestOk words counts 2
+nest-ok = record {
+  words = words-length;
+  counts = counts-length;
+  shallow = omega arith;
+  small = within-all 32767 words near;
+  lower-count = λ k h. let n = count-is (k * 2) (omega arith) in (omega arith, omega arith);
+  upper-count = λ k h. let n = count-is (k * 2 + 1) (omega arith) in (omega arith, omega arith);
+  lower-positive = λ k h. let n = count-is (k * 2) (omega arith) in positive (k * 32) (getD counts (k * 2) 0) (omega arith);
+  upper-positive = λ k h. let n = count-is (k * 2 + 1) (omega arith) in positive (k * 32 + 16) (getD counts (k * 2 + 1) 0) (omega arith);
 }
 
-pub reversal-in : ReversalIn square 1
-reversal-in = record { nest = step-in; place = omega arith }
+pub reversal-in : ReversalIn words counts 2 1
+reversal-in = record { nest = nest-ok; place = omega arith }
 
-pub skew-in : SkewIn square 0 0
-skew-in = record { nest = step-in; place = omega arith }
+pub skew-in : SkewIn words counts 2 0 0
+skew-in = record { nest = nest-ok; place = omega arith }
 
-pub section-in : SectionIn square 1 4
-section-in = record { nest = step-in; place = omega arith; room = omega arith; positive = omega arith; narrow = omega arith }
+pub section-in : SectionIn words counts 2 1 4
+section-in = record { nest = nest-ok; place = omega arith; room = omega arith; positive = omega arith; narrow = omega arith }
 
-pub exchange-in : ExchangeIn square 0
-exchange-in = record { nest = step-in; place = omega arith }
+pub exchange-in : ExchangeIn words counts 2 0
+exchange-in = record { nest = nest-ok; place = omega arith }

@@ -1,2 +1,3 @@
 -- What the contracts on whole nests speak of.
 pub mod After
+pub mod Sections

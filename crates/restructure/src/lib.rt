@@ -1,108 +1,106 @@
-// The nest after each step, with the test of refusal 11. Loops are counted from 0.
+// The nest after each step, on its flat slices, with the tests of refusals 11 and 12. Loops are counted from 0.
 ghost use mathlib.Core.Path.{_≡_};
 ghost use Prim.Native.Nat.{ℕ, _+_, _<_, _≤_};
-ghost use mathlib.Core.Bool.{_||_};
 ghost use Rattle.model.specs.Ticket.{reversal, skew, section, exchange};
 ghost use Rattle.model.specs.Limits.{constantLimit};
-ghost use Rattle.nest.specs.Nested.{limitOf, LimitIn, SideIn};
-ghost use Rattle.restructure.specs.After.{ReversalIn, SkewIn, SectionIn, ExchangeIn, After, Prepends};
-use exchange::Filling;
+ghost use Rattle.nest.specs.Nested.{limitOf, LimitIn};
+ghost use Rattle.bounds.specs.Flat.{limitsAt, loopAt};
+ghost use Rattle.loop_changes.specs.Sides.{SideMade};
+ghost use Rattle.loop_changes.specs.Loops.{LoopMade};
+ghost use Rattle.restructure.specs.After.{ReversalIn, SkewIn, SectionIn, ExchangeIn, After};
+ghost use Rattle.restructure.specs.Sections.{elementSide, elementLoop, ElementSideIn, ElementLoopIn};
 use limits::Change;
 use limits::Cut;
 use limits::Slant;
 use nest::Limit;
-use nest::Loop;
-use nest::Nest;
-use nest::Side;
 
-// The nest after a step; `full` where a side of a loop has more than 16 limits.
+// `full` where a side of a loop has more than 16 limits; else `small` where every number is within ±32767.
 pub struct Stepped {
     pub full: bool,
-    pub nest: Nest,
+    pub small: bool,
 }
 
-pub fn reversed(nest: Nest, a: usize) -> Stepped
-    requires { ⌜ ReversalIn nest a ⌝ }
-    ensures { λ r. ⌜ After (reversal a) nest r ⌝ }
+pub fn reversed(limits: &mut [i16], counts: &mut [usize], depth: usize, a: usize) -> Stepped
+    requires { ⌜ ReversalIn (now limits) (now counts) depth a ⌝ }
+    ensures { λ r. ⌜ After (reversal a) (now (limits .entry)) (now (counts .entry)) depth r (now (limits .exit)) (now (counts .exit)) ⌝ }
 {
-    let depth = nest.depth;
-    let from = nest.loops;
     let start = a + 1;
-    let mut loops = limits::changed_from(from, start, depth - start, 0, Change::Turn(a));
-    let l = loops[a];
-    let lower = limits::changed_side(l.upper, a, Change::Negate);
-    let upper = limits::changed_side(l.lower, a, Change::Negate);
-    loops[a] = Loop {
-        lower: lower,
-        upper: upper,
-    };
+    if !loop_changes::change_from(limits, counts, start, depth - start, 0, Change::Turn(a)) {
+        return Stepped {
+            full: false,
+            small: false,
+        };
+    }
+    loop_changes::flip_loop(limits, counts, a);
+    let small = loop_changes::change_loop(limits, counts, a, a, Change::Negate, Change::Negate);
     Stepped {
         full: false,
-        nest: Nest {
-            depth: depth,
-            loops: loops,
-        },
+        small: small,
     }
 }
 
 // The loop d + 1 places inside loop a, by 1 or −1.
-pub fn skewed(nest: Nest, a: usize, d: usize, positive: bool) -> Stepped
-    requires { ⌜ SkewIn nest a d ⌝ }
-    ensures { λ r. ⌜ After (skew a d positive) nest r ⌝ }
+pub fn skewed(
+    limits: &mut [i16],
+    counts: &mut [usize],
+    depth: usize,
+    a: usize,
+    d: usize,
+    positive: bool,
+) -> Stepped
+    requires { ⌜ SkewIn (now limits) (now counts) depth a d ⌝ }
+    ensures { λ r. ⌜ After (skew a d positive) (now (limits .entry)) (now (counts .entry)) depth r (now (limits .exit)) (now (counts .exit)) ⌝ }
 {
-    let from = nest.loops;
-    let depth = nest.depth;
     let b = a + 1 + d;
+    let start = b + 1;
     let slant = Slant {
         outer: a,
         between: d,
         positive: positive,
     };
-    let start = b + 1;
-    let mut loops = limits::changed_from(from, start, depth - start, 0, Change::Skew(slant));
-    let l = loops[b];
-    let m = limits::changed_loop(l, b, Change::Lean(slant));
-    loops[b] = m;
+    if !loop_changes::change_from(limits, counts, start, depth - start, 0, Change::Skew(slant)) {
+        return Stepped {
+            full: false,
+            small: false,
+        };
+    }
+    let small = loop_changes::change_loop(
+        limits,
+        counts,
+        b,
+        b,
+        Change::Lean(slant),
+        Change::Lean(slant),
+    );
     Stepped {
         full: false,
-        nest: Nest {
-            depth: depth,
-            loops: loops,
-        },
+        small: small,
     }
 }
 
-fn either(a: bool, b: bool) -> bool
-    ensures { λ r. ⌜ r ≡ a || b ⌝ }
-{
-    a || b
-}
-
 // Loops a and a + 1.
-pub fn exchanged(nest: Nest, a: usize) -> Stepped
-    requires { ⌜ ExchangeIn nest a ⌝ }
-    ensures { λ r. ⌜ After (exchange a) nest r ⌝ }
+pub fn exchanged(limits: &mut [i16], counts: &mut [usize], depth: usize, a: usize) -> Stepped
+    requires { ⌜ ExchangeIn (now limits) (now counts) depth a ⌝ }
+    ensures { λ r. ⌜ After (exchange a) (now (limits .entry)) (now (counts .entry)) depth r (now (limits .exit)) (now (counts .exit)) ⌝ }
 {
-    let from = nest.loops;
-    let depth = nest.depth;
-    let b = a + 1;
-    let start = b + 1;
-    let mut loops = limits::changed_from(from, start, depth - start, 0, Change::Swap(a));
-    let i = loops[a];
-    let j = loops[b];
-    let outer = exchange::new_outer(a, i, j);
-    let inner = exchange::new_inner(a, i, j);
-    let x = outer.body;
-    let y = inner.body;
-    loops[a] = x;
-    loops[b] = y;
-    let full = either(outer.full, inner.full);
+    let pair = exchange::exchange_pair(limits, counts, a);
+    if pair.full {
+        return Stepped {
+            full: true,
+            small: false,
+        };
+    }
+    if !pair.small {
+        return Stepped {
+            full: false,
+            small: false,
+        };
+    }
+    let start = a + 1 + 1;
+    let small = loop_changes::change_from(limits, counts, start, depth - start, 0, Change::Swap(a));
     Stepped {
-        full: full,
-        nest: Nest {
-            depth: depth,
-            loops: loops,
-        },
+        full: false,
+        small: small,
     }
 }
 
@@ -120,75 +118,87 @@ fn constant_limit(v: u32) -> Limit
     }
 }
 
-fn prepended(x: Limit, side: Side) -> Filling
-    requires { ⌜ LimitIn x × SideIn side ⌝ }
-    ensures { λ r. ⌜ Prepends x side r ⌝ }
+// A side of E from limit `to` on, of the limits from limit `from` on with n loops outside.
+fn element_side(
+    limits: &mut [i16],
+    from: usize,
+    n: usize,
+    to: usize,
+    count: usize,
+    w: u32,
+    v: u32,
+) -> bool
+    requires { ⌜ ElementSideIn (now limits) from n to count w v ⌝ }
+    ensures { λ r. ⌜ SideMade (now (limits .entry)) to (n + 1) (count + 1) (elementSide n w v (limitsAt (now (limits .entry)) n from count)) r (now (limits .exit)) ⌝ }
 {
-    let count = side.count;
-    let from = side.limits;
-    if 16 <= count {
-        return Filling {
-            full: true,
-            side: side,
-        };
+    let first = constant_limit(v);
+    if !limits::put_limit(limits, to, first, n + 1) {
+        return false;
     }
-    let mut to = from;
-    to[0] = x;
-    let mut k = 0;
-    while k < count {
-        let l = from[k];
-        to[k + 1] = l;
-        k += 1;
+    loop_changes::change_side(limits, from, n, to + 1, n + 1, count, Change::Element(w))
+}
+
+// E, inside loop a.
+fn element_loop(limits: &mut [i16], counts: &mut [usize], a: usize, w: u32) -> bool
+    requires { ⌜ ElementLoopIn (now limits) (now counts) a w ⌝ }
+    ensures { λ r. ⌜ LoopMade (now (limits .entry)) (now (counts .entry)) (a + 1) (elementLoop a w (loopAt (now (limits .entry)) (now (counts .entry)) a)) r (now (limits .exit)) (now (counts .exit)) ⌝ }
+{
+    let lower = counts[a * 2];
+    let upper = counts[a * 2 + 1];
+    let b = a + 1;
+    if !element_side(limits, a * 32, a, b * 32, lower, w, 0) {
+        return false;
     }
-    Filling {
-        full: false,
-        side: Side {
-            count: count + 1,
-            limits: to,
-        },
+    if !element_side(limits, a * 32 + 16, a, b * 32 + 16, upper, w, w - 1) {
+        return false;
     }
+    counts[b * 2] = lower + 1;
+    counts[b * 2 + 1] = upper + 1;
+    true
 }
 
 // Loop a by width w: S, and E inside it.
-pub fn sectioned(nest: Nest, a: usize, w: u32) -> Stepped
-    requires { ⌜ SectionIn nest a w ⌝ }
-    ensures { λ r. ⌜ After (section a w) nest r ⌝ }
+pub fn sectioned(
+    limits: &mut [i16],
+    counts: &mut [usize],
+    depth: usize,
+    a: usize,
+    w: u32,
+) -> Stepped
+    requires { ⌜ SectionIn (now limits) (now counts) depth a w ⌝ }
+    ensures { λ r. ⌜ After (section a w) (now (limits .entry)) (now (counts .entry)) depth r (now (limits .exit)) (now (counts .exit)) ⌝ }
 {
-    let from = nest.loops;
-    let depth = nest.depth;
+    let lower = counts[a * 2];
+    let upper = counts[a * 2 + 1];
+    if 16 <= lower {
+        return Stepped {
+            full: true,
+            small: false,
+        };
+    }
+    if 16 <= upper {
+        return Stepped {
+            full: true,
+            small: false,
+        };
+    }
     let b = a + 1;
-    let mut loops = limits::changed_from(
-        from,
-        b,
-        depth - b,
-        1,
-        Change::Split(Cut { place: a, width: w }),
-    );
-    let l = loops[a];
-    let slow = limits::changed_side(l.lower, a, Change::Low(w));
-    let sup = limits::changed_side(l.upper, a, Change::Up(w));
-    let elow = limits::changed_side(l.lower, a, Change::Element(w));
-    let eup = limits::changed_side(l.upper, a, Change::Element(w));
-    let first = constant_limit(0);
-    let last = constant_limit(w - 1);
-    let flow = prepended(first, elow);
-    let fup = prepended(last, eup);
-    let lower = flow.side;
-    let upper = fup.side;
-    loops[a] = Loop {
-        lower: slow,
-        upper: sup,
-    };
-    loops[b] = Loop {
-        lower: lower,
-        upper: upper,
-    };
-    let full = either(flow.full, fup.full);
+    let cut = Cut { place: a, width: w };
+    if !loop_changes::change_from(limits, counts, b, depth - b, 1, Change::Split(cut)) {
+        return Stepped {
+            full: false,
+            small: false,
+        };
+    }
+    if !element_loop(limits, counts, a, w) {
+        return Stepped {
+            full: false,
+            small: false,
+        };
+    }
+    let small = loop_changes::change_loop(limits, counts, a, a, Change::Low(w), Change::Up(w));
     Stepped {
-        full: full,
-        nest: Nest {
-            depth: depth + 1,
-            loops: loops,
-        },
+        full: false,
+        small: small,
     }
 }

@@ -18,10 +18,8 @@ use Rattle.reading.specs.declared.Refusal.{Refusal}
 use Rattle.reading.specs.declared.Status.{Status}
 use Rattle.reading.specs.declared.Status.the-variants as Status
 use Rattle.reading.specs.Refusals.{refusal}
-use Rattle.ticket.specs.Ticket as Ticket
-use Rattle.ticket.specs.Ticket.{ticketOf, decoded}
+use Rattle.ticket.specs.Ticket.{ticketOn, decoded}
 use Rattle.sheet.specs.Sheets.{nestOf}
-use Rattle.layout.specs.Sheets.{modelOf}
 use Rattle.intake.specs.declared.Intake.{Intake}
 use Rattle.intake.specs.declared.Answer.{Answer}
 use Rattle.intake.specs.declared.Answer.the-variants.{Refused}
@@ -30,7 +28,7 @@ use Rattle.intake.specs.Answers.{Hands}
 use Rattle.judgement.specs.declared.Judged.{Judged}
 use Rattle.judgement.specs.Judgement.{judgedAs, Judges}
 use Rattle.execution.specs.Execution.{Executable}
-use Rattle.execution.proofs.AcceptedLaws.{new-executable}
+use Rattle.execution.proofs.AcceptedLaws.{new-count, new-arrays, new-executable}
 use Rattle.judged_run.specs.Outcomes.{tested, outcome, RunIn}
 
 -- ---- the model's entry, by its judgement
@@ -54,23 +52,23 @@ module _ (b w : List ℕ) where
 -- ---- the entry
 
 module _ (b w : List ℕ) (o e : List ℤ) (q : Intake) (h : Admits b o e q) where
-  admit-is : (s : Status) → q .status ≡ s → admit b ≡ decoded s (ticketOf (q .ticket))
-  admit-is s z = sym (h .same) ∙ ap (λ (x : Status). decoded x (ticketOf (q .ticket))) z
+  admit-is : (s : Status) → q .status ≡ s → admit b ≡ decoded s (ticketOn (q .sheet) (q .steps))
+  admit-is s z = sym (h .same) ∙ ap (λ (x : Status). decoded x (ticketOn (q .sheet) (q .steps))) z
 
   pub not-admitted : (r : Refusal) → q .status ≡ Status.Refused r → Hands (runEntry b w) (Refused r) w
   not-admitted r z = judgement-refused b w r (refused-judged b (admit-is (Status.Refused r) z))
 
-  module _ (z : q .status ≡ Status.Fine) (r : Judged) (g : Judges (q .ticket) r) where
+  module _ (z : q .status ≡ Status.Fine) (r : Judged) (g : Judges (q .sheet) (q .steps) r) where
     abbrev new : Nest
-    new = modelOf (r .nest) (q .ticket .arrays) (r .body)
+    new = nestOf (r .sheet)
 
     abbrev whole : Judge.Judged
-    whole = record { ticket = ticketOf (q .ticket); new = new }
+    whole = record { ticket = ticketOn (q .sheet) (q .steps); new = new }
 
-    judge-is : (s : Status) → r .status ≡ s → judgeTicket (ticketOf (q .ticket)) ≡ judgedAs s whole
+    judge-is : (s : Status) → r .status ≡ s → judgeTicket (ticketOn (q .sheet) (q .steps)) ≡ judgedAs s whole
     judge-is s y = sym (g .same) ∙ ap (λ (x : Status). judgedAs x whole) y
 
-    judged-is : judged b ≡ judgeTicket (ticketOf (q .ticket))
+    judged-is : judged b ≡ judgeTicket (ticketOn (q .sheet) (q .steps))
     judged-is = admitted-judged b (admit-is Status.Fine z)
 
     pub not-judged : (x : Refusal) → r .status ≡ Status.Refused x → Hands (runEntry b w) (Refused x) w
@@ -78,16 +76,16 @@ module _ (b w : List ℕ) (o e : List ℤ) (q : Intake) (h : Admits b o e q) whe
 
     module _ (y : r .status ≡ Status.Fine) where
       pub run-in : RunIn (q .sheet) (r .sheet) (q .count)
-      unfolding ticketOf Ticket.nestOf modelOf
+      unfolding ticketOn
       run-in = let t = h .taken z in let n = g .fine y in record {
         own = t .sheet;
-        other = n .laid .ok;
-        executable = subst Executable (sym (n .laid .same)) (new-executable (ticketOf (q .ticket)) (t .ranges) (t .formed) (t .admitted-is) whole (judge-is Status.Fine y));
-        arrays = ap (λ (N : Nest). N .arrays) (n .laid .same) ∙ sym (ap (λ (N : Nest). N .arrays) (t .same));
+        other = n .sheet;
+        executable = new-executable (ticketOn (q .sheet) (q .steps)) (t .ranges) (t .formed) (t .admitted-is) whole (judge-is Status.Fine y);
+        arrays = new-arrays (ticketOn (q .sheet) (q .steps)) (t .ranges) (t .formed) (t .admitted-is) whole (judge-is Status.Fine y);
+        as-many = new-count (ticketOn (q .sheet) (q .steps)) (t .ranges) (t .formed) (t .admitted-is) whole (judge-is Status.Fine y);
         counted = t .points-are .count;
       }
 
       pub handed : (a : Answer) (m : List ℕ) → Hands (outcome (tested (nestOf (q .sheet)) w) (nestOf (q .sheet)) (nestOf (r .sheet)) w) a m → Hands (runEntry b w) a m
-      unfolding ticketOf
-      handed a m = subst (λ (x : Outcome). Hands x a m)
-          (ap₂ (λ (N M : Nest). outcome (tested N w) N M w) (h .taken z .same) (g .fine y .laid .same) ∙ sym (judgement-passes b w whole (judged-is ∙ judge-is Status.Fine y)))
+      unfolding ticketOn
+      handed a m = subst (λ (x : Outcome). Hands x a m) (sym (judgement-passes b w whole (judged-is ∙ judge-is Status.Fine y)))

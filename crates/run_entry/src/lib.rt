@@ -9,15 +9,15 @@ use intake::Intake;
 use judgement::Judged;
 use reading::Status;
 use sheet::Sheet;
-use ticket::Ticket;
+use steps::Steps;
 
 // Refusals 10 to 13 of an admitted ticket: the directions of its nest, then its steps.
-fn judge(ticket: Ticket, sheet: Sheet, points: &[i64], count: usize) -> Judged
-    requires { ⌜ Taken ticket sheet (now points) count ⌝ }
-    ensures { λ r. ⌜ Judges ticket r ⌝ }
+fn judge(sheet: Sheet, steps: Steps, points: &[i64], count: usize) -> Judged
+    requires { ⌜ Taken sheet steps (now points) count ⌝ }
+    ensures { λ r. ⌜ Judges sheet steps r ⌝ }
 {
     let set = lines::directions_in(sheet, points, count);
-    judgement::judge_ticket(ticket, set)
+    judgement::judge_ticket(sheet, steps, set)
 }
 
 // Refusals 9 to 16 of what was received of the ticket, and the run.
@@ -30,10 +30,10 @@ fn run_by(ticket: &[u8], all: Intake, points: &mut [i64], store: &mut [u32]) -> 
         Status::Fine => {}
         Status::Refused(r) => return Answer::Refused(r),
     }
-    let t = all.ticket;
     let sheet = all.sheet;
+    let steps = all.steps;
     let count = all.count;
-    let judged = judge(t, sheet, points, count);
+    let judged = judge(sheet, steps, points, count);
     let verdict = judged.status;
     match verdict {
         Status::Fine => {}

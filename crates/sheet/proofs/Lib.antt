@@ -1,3 +1,4 @@
 -- Laws that the crate's contracts need.
 pub mod SheetLaws
+pub mod ArrayLaws
 pub mod StageLaws

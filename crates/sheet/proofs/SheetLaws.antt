@@ -26,7 +26,7 @@ use Rattle.sheet.specs.Stages.{noAccess, accessOf}
 some-size : (m : ℕ) → 1 ≤ m → suc (m - 1) ≡ m
 some-size m h = omega arith
 
-accesses-append : (w : List ℤ) (o a : List ℕ) (n k m j : ℕ) → accessesFrom w o a n k (m + j) ≡ accessesFrom w o a n k m ++ accessesFrom w o a n (k + m) j
+pub accesses-append : (w : List ℤ) (o a : List ℕ) (n k m j : ℕ) → accessesFrom w o a n k (m + j) ≡ accessesFrom w o a n k m ++ accessesFrom w o a n (k + m) j
 unfolding accessesFrom
 accesses-append w o a n k zero j = ap (λ (i : ℕ). accessesFrom w o a n k i) (zero-add j) ∙ ap (λ (i : ℕ). accessesFrom w o a n i j) (sym (add-zero k))
 accesses-append w o a n k (suc m) j =
@@ -38,7 +38,7 @@ unfolding accessesFrom
 accesses-length w o a n k zero = refl
 accesses-length w o a n k (suc m) = ap suc (accesses-length w o a n (suc k) m)
 
-access-at : (w : List ℤ) (o a : List ℕ) (n k m i : ℕ) (d : Access) → i < m → getD (accessesFrom w o a n k m) i d ≡ accessAt w o a n (k + i)
+pub access-at : (w : List ℤ) (o a : List ℕ) (n k m i : ℕ) (d : Access) → i < m → getD (accessesFrom w o a n k m) i d ≡ accessAt w o a n (k + i)
 unfolding accessesFrom
 access-at w o a n k zero i d h = absurd (omega arith)
 access-at w o a n k (suc m) zero d h = ap (accessAt w o a n) (sym (add-zero k))

@@ -95,12 +95,8 @@ module _ (P : Sheet) where
       stored = h .stray .points-are .stored;
       inside = admitted-inside (wordsIn P) (ownersIn P) (extentsIn P) (P .depth) (rows (P .depth) n points) (sizesIn P) (nestOf P .statements) (bodies-are P s) (omega arith) inside-rows;
       fits = s .fits;
-      space = omega arith;
+      space = omega (arith, ap (λ (m : ℕ). m * n) l);
     }
-
-    whole : total (nestOf P .arrays) ≤ 16384
-    unfolding nestOf
-    whole = s .fits
 
     row-is : (x : ℕ) → getD (rows (P .depth) n points) x [] ≡ getD (iterations (nestOf P .loops)) x []
     row-is x = ap (λ (ps : List (List ℤ)). getD ps x []) (h .stray .points-are .are)
@@ -116,17 +112,17 @@ module _ (P : Sheet) where
     pub access-valid : (k x : ℕ) → k < P .accesses → x < length (iterations (nestOf P .loops)) → Valid (nestOf P .arrays) (element (getD (iterations (nestOf P .loops)) x []) (accessOf (nestOf P) k))
     access-valid k x a b = element-valid (nestOf P .arrays) (length (nestOf P .loops)) (getD (iterations (nestOf P .loops)) x []) (accessOf (nestOf P) k) (access-fits P s (h .formed) k a) (λ t. subst T (keeps k x a b) t)
 
-    pub number-out : (o e : List ℕ) → length o ≡ room → e ≡ numbered (placesOf (wordsIn P) (ownersIn P) (extentsIn P) (P .depth) (rows (P .depth) n points)) (length (ownersIn P)) o → NumbersAre P e
+    pub number-out : (o e : List ℕ) → length o ≡ room → e ≡ numbered n (placesOf (wordsIn P) (ownersIn P) (extentsIn P) (P .depth) (rows (P .depth) n points)) (length (ownersIn P)) o → NumbersAre P n e
     unfolding nestOf placesOf placeAt
     number-out o e l q =
-        let c = owners-count P s in let f = h .fits in let m = same-out (wordsIn P) (ownersIn P) (extentsIn P) points (P .depth) n o numbers-in (length (ownersIn P)) (omega arith) e q in
-        record { room = omega arith; are = place-at; small = λ k x a b. let v = place-below (nestOf P .arrays) _ (access-valid k x a b) in let z = place-at k x a b in let g = whole in omega arith }
+        let c = owners-count P s in let d = h .stray .points-are .count in let f = h .fits in let m = same-out (wordsIn P) (ownersIn P) (extentsIn P) points (P .depth) n o numbers-in (length (ownersIn P)) (omega arith) e q in
+        record { count = d; room = omega (arith, ap (λ (m : ℕ). m * n) c); are = place-at; small = λ k x a b. let v = place-below (nestOf P .arrays) _ (access-valid k x a (omega arith)) in let z = place-at k x a b in omega arith }
       where
         numbers-in : Places.NumberIn (wordsIn P) (ownersIn P) (extentsIn P) points (P .depth) n (length o)
         numbers-in = subst (Places.NumberIn (wordsIn P) (ownersIn P) (extentsIn P) points (P .depth) n) (sym l) number-in
 
-        place-at : (k x : ℕ) → k < P .accesses → x < length (iterations (nestOf P .loops))
-            → getD e (k * 4096 + x) 0 ≡ placeOf (nestOf P .arrays) (element (getD (iterations (nestOf P .loops)) x []) (accessOf (nestOf P) k))
+        place-at : (k x : ℕ) → k < P .accesses → x < n
+            → getD e (k * n + x) 0 ≡ placeOf (nestOf P .arrays) (element (getD (iterations (nestOf P .loops)) x []) (accessOf (nestOf P) k))
         place-at k x a b =
             let c = owners-count P s in let d = h .stray .points-are .count in let r = length-rows (P .depth) n points in
             stored-place (wordsIn P) (ownersIn P) (extentsIn P) points (P .depth) n o numbers-in e q k x (omega arith) (omega arith)

@@ -7,6 +7,7 @@ use lib.ListN.{length, getD}
 use Rattle.lists.specs.Parts.{rows}
 use Rattle.model.specs.Answer.{accepted}
 use Rattle.model.specs.Ticket.{Access, Nest}
+use Rattle.model.specs.Grammar.{total}
 use Rattle.model.specs.Points.{iterations}
 use Rattle.model.specs.Bounds.{survey, inArrays}
 use Rattle.model.specs.Machine.{element}
@@ -52,7 +53,7 @@ pub record NumberIn (P : Sheet) (points : List ℤ) (n room : ℕ) : Type 0 wher
   pub stray : StrayIn P points n
   pub formed : WellFormed (nestOf P)
   pub inside : inArrays (nestOf P .arrays) (iterations (nestOf P .loops)) 1 (nestOf P .statements) ≡ accepted tt
-  pub fits : P .accesses * 4096 ≤ room
+  pub fits : P .accesses * n ≤ room
 
 abbrev pub noAccess : Access
 noAccess = record { array = 0; subscripts = [] }
@@ -61,12 +62,12 @@ noAccess = record { array = 0; subscripts = [] }
 abbrev pub accessOf : Nest → ℕ → Access
 accessOf N k = getD (allAccesses N) k noAccess
 
--- the number of access k at point x stands at 4096 k + x
-pub record NumbersAre (P : Sheet) (numbers : List ℕ) : Type 0 where
-  pub room : P .accesses * 4096 ≤ length numbers
-  pub are : (k x : ℕ) → k < P .accesses → x < length (iterations (nestOf P .loops))
-      → getD numbers (k * 4096 + x) 0 ≡ placeOf (nestOf P .arrays) (element (getD (iterations (nestOf P .loops)) x []) (accessOf (nestOf P) k))
-  pub small : (k x : ℕ) → k < P .accesses → x < length (iterations (nestOf P .loops)) → getD numbers (k * 4096 + x) 0 < 16384
+-- the number of access k at point x, of n points, stands at n k + x
+pub record NumbersAre (P : Sheet) (n : ℕ) (numbers : List ℕ) : Type 0 where
+  pub count : n ≡ length (iterations (nestOf P .loops))
+  pub room : P .accesses * n ≤ length numbers
+  pub are : (k x : ℕ) → k < P .accesses → x < n → getD numbers (k * n + x) 0 ≡ placeOf (nestOf P .arrays) (element (getD (iterations (nestOf P .loops)) x []) (accessOf (nestOf P) k))
+  pub small : (k x : ℕ) → k < P .accesses → x < n → getD numbers (k * n + x) 0 < total (nestOf P .arrays)
 
 pub record TestIn (P : Sheet) (u v : ℕ) : Type 0 where
   pub sheet : SheetIn P

@@ -2,6 +2,7 @@
 // the quick test.
 ghost use mathlib.Core.Path.{_≡_};
 ghost use lib.ListN.{length};
+ghost use Rattle.model.specs.Grammar.{total};
 ghost use Rattle.model.specs.Quick.{isApart};
 ghost use Rattle.space.specs.Tallies.{Bounded};
 ghost use Rattle.sheet.specs.Sheets.{nestOf, SheetIn};
@@ -68,10 +69,20 @@ pub fn find_stray(sheet: Sheet, points: &[i64], count: usize) -> usize
     )
 }
 
-// The place in the store of every access at every point, 4096 numbers apart.
+// The number of elements of all arrays.
+pub fn elements_in(sheet: Sheet) -> usize
+    requires { ⌜ SheetIn sheet ⌝ }
+    ensures { λ r. ⌜ r ≡ total (nestOf sheet .arrays) ⌝ }
+{
+    let extents = sheet.extents;
+    let arrays = sheet.arrays;
+    elements::total_of(&extents[..arrays * 4], arrays)
+}
+
+// The place in the store of every access at every point, those of one access after those of another.
 pub fn number_accesses(sheet: Sheet, points: &[i64], count: usize, numbers: &mut [u16])
     requires { ⌜ NumberIn sheet (now points) count (length (now numbers)) ⌝ }
-    ensures { λ _. ⌜ NumbersAre sheet (now (numbers .exit)) ⌝ }
+    ensures { λ _. ⌜ NumbersAre sheet count (now (numbers .exit)) ⌝ }
 {
     let words = sheet.words;
     let owners = sheet.owners;

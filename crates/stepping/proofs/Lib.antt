@@ -1,2 +1,2 @@
--- Laws that the proofs of the crate's functions cite, and those that a caller of several steps asks.
+-- Laws that the crate's contracts need.
 pub mod TakingLaws

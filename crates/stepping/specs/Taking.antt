@@ -1,44 +1,39 @@
--- What a step asks of a nest with its statements, and what taking it gives.
+-- What a step asks of the slices of a nest, and what taking it leaves there: s and c are limits and counts, w, o and a the accesses.
 use mathlib.Core.Path.{_≡_}
-use mathlib.Core.Bool.{false, not}
-use mathlib.Core.List.{List, []}
+use mathlib.Core.Bool.{true, false, not, _&&_}
+use mathlib.Core.List.{List}
 use Prim.Native.Nat.{ℕ}
-use lib.Dec.{T}
+use lib.IntN.{ℤ}
+use lib.ListN.{length}
+use Rattle.lists.specs.Tests.{all}
 use Rattle.model.specs.Ticket as Model
 use Rattle.model.specs.Grammar.{depthAfter}
 use Rattle.model.specs.Ranges.{StepThere}
-use Rattle.model.specs.Limits.{nestAfter}
-use Rattle.model.specs.Judge.{fewLimits, smallNumbers}
-use Rattle.nest.specs.Nested.{loopsOf, NestIn}
-use Rattle.nest.specs.declared.Nest.{Nest}
-use Rattle.body.specs.Statements.{statementsOf, BodyIn}
-use Rattle.body.specs.declared.Body.{Body}
+use Rattle.model.specs.Limits.{loopsAfter}
+use Rattle.model.specs.Judge.{fewLimits, smallLoop, smallAccess}
+use Rattle.bounds.specs.Flat.{loopsFrom, NestOk}
+use Rattle.elements.specs.Layout.{AccessesOk}
 use Rattle.steps.specs.Steps.{stepOf}
 use Rattle.steps.specs.declared.Step.{Step}
-use Rattle.restructure.specs.After.{StepIn}
-use Rattle.stepping.specs.declared.Taken.{Taken}
-
--- the model's nest that the two structs hold, with these arrays
-abbrev pub nestOf : List (List ℕ) → Nest → Body → Model.Nest
-nestOf as′ N B = record { loops = loopsOf N; arrays = as′; statements = statementsOf (N .depth) B }
+use Rattle.restructure.specs.declared.Stepped.{Stepped}
+use Rattle.subscripts.specs.After.{accessesAfter, AccessesAfter}
 
 -- of the loops alone
-pub record NestStepIn (N : Nest) (t : Step) : Type 0 where
-  pub nest : StepIn N
-  pub there : StepThere (N .depth) (stepOf t)
+pub record LoopsIn (s : List ℤ) (c : List ℕ) (depth : ℕ) (t : Step) : Type 0 where
+  pub nest : NestOk s c depth
+  pub there : StepThere depth (stepOf t)
 
--- counts within the arrays, every number within ±32767, and the loops that the step names
-pub record TakingIn (N : Nest) (B : Body) (t : Step) : Type 0 where
-  pub nest : NestIn N
-  pub body : BodyIn B
-  pub there : StepThere (N .depth) (stepOf t)
-  pub small : T (smallNumbers (nestOf [] N B))
+pub record TakingIn (s : List ℤ) (c : List ℕ) (w : List ℤ) (o a : List ℕ) (depth : ℕ) (t : Step) : Type 0 where
+  pub loops : LoopsIn s c depth t
+  pub accesses : AccessesOk w o a depth
 
--- the model's nest after the step, where its limits find room
-pub record Takes (N : Nest) (B : Body) (t : Step) (r : Taken) : Type 0 where
-  pub full : (as′ : List (List ℕ)) → r .full ≡ not (fewLimits (nestAfter (stepOf t) (nestOf as′ N B) .loops))
-  pub whole : (as′ : List (List ℕ)) → r .full ≡ false → nestOf as′ (r .nest) (r .body) ≡ nestAfter (stepOf t) (nestOf as′ N B)
-  pub small : (as′ : List (List ℕ)) → r .full ≡ false → r .small ≡ smallNumbers (nestAfter (stepOf t) (nestOf as′ N B))
-  pub depth : r .full ≡ false → r .nest .depth ≡ depthAfter (stepOf t) (N .depth)
-  pub nest : NestIn (r .nest)
-  pub body : BodyIn (r .body)
+-- 11 and 12, and the model's loops and accesses after the step where it is neither
+pub record Takes (t : Model.Step) (s : List ℤ) (c : List ℕ) (w : List ℤ) (o a : List ℕ) (depth : ℕ) (r : Stepped) (s′ : List ℤ) (c′ : List ℕ) (w′ : List ℤ) : Type 0 where
+  pub limits-room : length s′ ≡ 1536
+  pub counts-room : length c′ ≡ 12
+  pub words-room : length w′ ≡ length w
+  pub full : r .full ≡ not (fewLimits (loopsAfter t (loopsFrom s c 0 depth)))
+  pub small : r .full ≡ false → r .small ≡ all smallLoop (loopsAfter t (loopsFrom s c 0 depth)) && all smallAccess (accessesAfter t w o a depth (length o))
+  pub loops : r .full ≡ false → r .small ≡ true → loopsFrom s′ c′ 0 (depthAfter t depth) ≡ loopsAfter t (loopsFrom s c 0 depth)
+  pub nest : r .full ≡ false → r .small ≡ true → NestOk s′ c′ (depthAfter t depth)
+  pub accesses : r .full ≡ false → r .small ≡ true → AccessesAfter t w o a depth w′ true

@@ -204,7 +204,7 @@ pub struct StepsRead {
 }
 
 // The number of loops after a step.
-fn depth_after(step: Step, depth: usize) -> usize
+pub fn depth_after(step: Step, depth: usize) -> usize
     requires { ⌜ depth ≤ 6 ⌝ }
     ensures { λ r. ⌜ r ≡ Grammar.depthAfter (stepOf step) depth ⌝ }
 {

@@ -3,7 +3,7 @@
 use mathlib.Core.Path.{_≡_, refl, sym, _∙_, ap, ap₂, subst}
 use mathlib.Core.Bool.{false}
 use mathlib.Core.List.{List, [], _∷_, map, List·Memᴰ·head, List·Memᴰ·tail}
-use Prim.Native.Nat.{ℕ, zero, suc, _+_, _-_, _^_, _≤_, _<_}
+use Prim.Native.Nat.{ℕ, zero, suc, _+_, _*_, _-_, _^_, _≤_, _<_}
 use native.Mathlib.Omega.{arith}
 use lib.IntN.{ℤ}
 use lib.ListN.{length, getD}
@@ -46,7 +46,7 @@ module _ (P : Sheet) (s : SheetIn P) where
   -- ---- the numbers
 
   module _ (points : List ℤ) (count : ℕ) (out : List ℕ) (p : NumberIn (wordsIn P) (ownersIn P) (extentsIn P) points (P .depth) count (length out)) (listed : rows (P .depth) count points ≡ pointsOf P) where
-    pub numbered-run : (numbers : List ℕ) (room : ℕ) → numbers ≡ numbered (placesOf (wordsIn P) (ownersIn P) (extentsIn P) (P .depth) (rows (P .depth) count points)) (length (ownersIn P)) out
+    pub numbered-run : (numbers : List ℕ) (room : ℕ) → numbers ≡ numbered count (placesOf (wordsIn P) (ownersIn P) (extentsIn P) (P .depth) (rows (P .depth) count points)) (length (ownersIn P)) out
         → ((i : ℕ) → i < P .statements → getD (P .constants) i 0 < 2 ^ 32) → room ≡ total (nestOf P .arrays) → RunIn P count numbers room
     unfolding nestOf placesOf placeAt
     numbered-run numbers room e words whole =
@@ -59,7 +59,7 @@ module _ (P : Sheet) (s : SheetIn P) where
           sheet = s;
           points = sym c ∙ ap length listed;
           few = p .stored .bound;
-          space = omega arith;
+          space = omega (arith, ap (λ (m : ℕ). m * count) o);
           places = λ k x h g.
               stored-place (wordsIn P) (ownersIn P) (extentsIn P) points (P .depth) count out p numbers e k x (omega arith) g
               ∙ getD-map (placeAt (wordsIn P) (ownersIn P) (extentsIn P) (P .depth) k) ps x (omega arith)

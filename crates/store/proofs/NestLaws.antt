@@ -39,17 +39,17 @@ forms-wide w n j (suc d) f h = all-cons (λ (s : Subscript). length (s .coeffici
 
 -- ---- one statement
 
-module _ (P : Sheet) (numbers : List ℕ) (x : ℕ) (p : List ℤ) (m : ℕ)
-    (places : (k : ℕ) → k < m → numberAt numbers k x ≡ placeOf (arraysOf (extentsIn P)) (element p (accessOf P k))) where
+module _ (P : Sheet) (numbers : List ℕ) (count x : ℕ) (p : List ℤ) (m : ℕ)
+    (places : (k : ℕ) → k < m → numberAt numbers count k x ≡ placeOf (arraysOf (extentsIn P)) (element p (accessOf P k))) where
   fetched-is : (w : List ℕ) (k n : ℕ) → k + n ≤ m
-      → fetched numbers x w k n ≡ map (λ e. getD w (placeOf (arraysOf (extentsIn P)) e) 0) (map (element p) (accessesFrom (wordsIn P) (ownersIn P) (extentsIn P) (P .depth) k n))
+      → fetched numbers count x w k n ≡ map (λ e. getD w (placeOf (arraysOf (extentsIn P)) e) 0) (map (element p) (accessesFrom (wordsIn P) (ownersIn P) (extentsIn P) (P .depth) k n))
   unfolding fetched accessesFrom
   fetched-is w k zero h = refl
   fetched-is w k (suc n) h = ap₂ _∷_ (ap (λ (j : ℕ). getD w j 0) (places k (omega arith))) (fetched-is w (suc k) n (omega arith))
 
   -- statement i of `ss` is the first of the statements from access k on
   performed-is : (ss : List Statement) (k i n : ℕ) (ns w : List ℕ) → 1 ≤ n → k + n ≤ m → bodyAt ss i ≡ bodyAt (statementsFrom P k i (n ∷ ns)) 0
-      → performed numbers x (getD (P .rules) i 0) (getD (P .constants) i 0) k (n - 1) w ≡ performOn (arraysOf (extentsIn P)) ss (record { statement = i; iteration = p }) w
+      → performed numbers count x (getD (P .rules) i 0) (getD (P .constants) i 0) k (n - 1) w ≡ performOn (arraysOf (extentsIn P)) ss (record { statement = i; iteration = p }) w
   unfolding performed performOn storeWords accesses bodyAt statementsFrom
   performed-is ss k i n ns w l h e =
       ap₂ (λ (j : ℕ) (vs : List ℕ). set w j (make (getD (P .rules) i 0) (getD (P .constants) i 0) vs)) (places k (omega arith)) (fetched-is w (suc k) (n - 1) (omega arith))
@@ -59,11 +59,11 @@ module _ (P : Sheet) (numbers : List ℕ) (x : ℕ) (p : List ℤ) (m : ℕ)
 
   body-is : (ss : List Statement) (ns : List ℕ) (k i : ℕ) (w : List ℕ) → All (λ (n : ℕ). 1 ≤ n) ns → k + sum ns ≤ m
       → ((j : ℕ) → bodyAt ss (i + j) ≡ bodyAt (statementsFrom P k i ns) j)
-      → bodyFrom (P .rules) (P .constants) numbers x k i ns w ≡ run (performOn (arraysOf (extentsIn P)) ss) (body i (length ns) p) w
+      → bodyFrom (P .rules) (P .constants) numbers count x k i ns w ≡ run (performOn (arraysOf (extentsIn P)) ss) (body i (length ns) p) w
   unfolding bodyFrom body run sum bodyAt statementsFrom
   body-is ss [] k i w f h e = refl
   body-is ss (n ∷ ns) k i w f h e =
-      body-is ss ns (k + n) (suc i) (performed numbers x (getD (P .rules) i 0) (getD (P .constants) i 0) k (n - 1) w) (λ y t. f y (List·Memᴰ·tail t)) (omega arith) next
+      body-is ss ns (k + n) (suc i) (performed numbers count x (getD (P .rules) i 0) (getD (P .constants) i 0) k (n - 1) w) (λ y t. f y (List·Memᴰ·tail t)) (omega arith) next
       ∙ ap (λ (v : List ℕ). run (performOn (arraysOf (extentsIn P)) ss) (body (suc i) (length ns) p) v)
       (performed-is ss k i n ns w (f n (List·Memᴰ·head refl)) (omega arith) (ap (bodyAt ss) (sym (add-zero i)) ∙ e 0))
     where
@@ -89,7 +89,7 @@ module _ {P : Sheet} (s : SheetIn P) where
 
 module _ {P : Sheet} {count : ℕ} {numbers : List ℕ} {room : ℕ} (r : RunIn P count numbers room) where
   points-are : (n x : ℕ) (w : List ℕ) → x + n ≡ length (pointsOf P)
-      → pointsFrom (P .rules) (P .constants) (sizesIn P) numbers x n w ≡ run (performOn (arraysOf (extentsIn P)) (statementsFrom P 0 0 (sizesIn P))) (instances (length (sizesIn P)) (drop x (pointsOf P))) w
+      → pointsFrom (P .rules) (P .constants) (sizesIn P) numbers count x n w ≡ run (performOn (arraysOf (extentsIn P)) (statementsFrom P 0 0 (sizesIn P))) (instances (length (sizesIn P)) (drop x (pointsOf P))) w
   unfolding pointsFrom run instances flatMap nestOf
   points-are zero x w e = let z : x ≡ length (pointsOf P) = omega arith in sym (ap (λ (ps : List (List ℤ)). run (performOn (arraysOf (extentsIn P)) (statementsFrom P 0 0 (sizesIn P))) (instances (length (sizesIn P)) ps) w) (ap (λ (j : ℕ). drop j (pointsOf P)) z ∙ drop-length (pointsOf P)))
   points-are (suc n) x w e =
@@ -98,13 +98,13 @@ module _ {P : Sheet} {count : ℕ} {numbers : List ℕ} {room : ℕ} (r : RunIn 
       let at = body 0 (length (sizesIn P)) (getD (pointsOf P) x []) in
       let rest = instances (length (sizesIn P)) (drop (suc x) (pointsOf P)) in
       let a = r .sheet .all-accesses in
-      points-are n (suc x) (bodyFrom (P .rules) (P .constants) numbers x 0 0 (sizesIn P) w) (omega arith)
-      ∙ ap (run step rest) (body-is P numbers x (getD (pointsOf P) x []) (P .accesses) (λ k h. r .places k x h (omega arith)) (statementsFrom P 0 0 (sizesIn P)) (sizesIn P) 0 0 w (r .sheet .each) (omega arith) (λ j. ap (bodyAt (statementsFrom P 0 0 (sizesIn P))) (zero-add j)))
+      points-are n (suc x) (bodyFrom (P .rules) (P .constants) numbers count x 0 0 (sizesIn P) w) (omega arith)
+      ∙ ap (run step rest) (body-is P numbers count x (getD (pointsOf P) x []) (P .accesses) (λ k h. r .places k x h (omega arith)) (statementsFrom P 0 0 (sizesIn P)) (sizesIn P) 0 0 w (r .sheet .each) (omega arith) (λ j. ap (bodyAt (statementsFrom P 0 0 (sizesIn P))) (zero-add j)))
       ∙ sym (run-append step at rest w)
       ∙ ap (λ (ps : List (List ℤ)). run step (instances (length (sizesIn P)) ps) w) (sym (drop-cons (pointsOf P) x [] (omega arith)))
 
   -- THE RUN BY NUMBERS IS THE RUN OF THE NEST
-  pub nest-run : (w : List ℕ) → pointsFrom (P .rules) (P .constants) (sizesIn P) numbers 0 count w ≡ runNest (nestOf P) w
+  pub nest-run : (w : List ℕ) → pointsFrom (P .rules) (P .constants) (sizesIn P) numbers count 0 count w ≡ runNest (nestOf P) w
   unfolding runNest nestOf
   nest-run w = points-are count 0 w (let c = r .points in omega arith)
       ∙ ap (λ (n : ℕ). run (performOn (arraysOf (extentsIn P)) (statementsFrom P 0 0 (sizesIn P))) (instances n (pointsOf P)) w) (sym (statements-length P 0 0 (sizesIn P)))
@@ -133,21 +133,21 @@ module _ {P : Sheet} {count : ℕ} {numbers : List ℕ} {room : ℕ} (r : RunIn 
             }
 
     module _ (x : ℕ) (l : x < count) where
-      number-inside : numberAt numbers k x < total (arraysOf (extentsIn P))
+      number-inside : numberAt numbers count k x < total (arraysOf (extentsIn P))
       unfolding nestOf
       number-inside = subst (λ (j : ℕ). j < total (arraysOf (extentsIn P))) (sym (r .places k x h l))
           (place-below (arraysOf (extentsIn P)) (element (getD (pointsOf P) x []) (accessOf P k)) (access-valid (getD (pointsOf P) x []) (all-getD _ (pointsOf P) x [] (r .inside k h) (let c = r .points in omega arith))))
 
-      number-begins : base (arraysOf (extentsIn P)) (getD (ownersIn P) k 0) ≤ numberAt numbers k x
+      number-begins : base (arraysOf (extentsIn P)) (getD (ownersIn P) k 0) ≤ numberAt numbers count k x
       unfolding nestOf placeOf element accessAt
       number-begins = let e = r .places k x h l in omega arith
 
-  pub point-in : (x : ℕ) → x < count → PointIn (ownersIn P) (extentsIn P) numbers room x
+  pub point-in : (x : ℕ) → x < count → PointIn (ownersIn P) (extentsIn P) numbers count room x
   unfolding nestOf
-  point-in x l = let o = owners-length (r .sheet) in let c = r .few in let s = r .space in let f = r .sheet .few-accesses in let e = r .whole in record {
+  point-in x l = let o = owners-length (r .sheet) in let s = r .space in let f = r .sheet .few-accesses in let e = r .whole in record {
     few = omega arith;
-    point = omega arith;
-    numbered = omega arith;
+    point = l;
+    numbered = omega (arith, ap (λ (m : ℕ). m * count) o);
     inside = λ k h. let z = number-inside k (omega arith) x l in omega arith;
     arrays = λ k h. base-in k (omega arith);
     begins = λ k h. number-begins k (omega arith) x l;

@@ -103,14 +103,14 @@ keeps zero h = refl
 keeps (suc zero) h = refl
 keeps (suc (suc k)) h = absurd (omega arith)
 
-pub counter-runs : RunIn counter 1 (replicate 8192 0) 1
+pub counter-runs : RunIn counter 1 (replicate 2 0) 1
 unfolding nestOf total elements arraysOf arraysFrom extentsAt
 counter-runs = record {
   sheet = counter-in;
   points = sym (ap length points-are);
   few = omega arith;
-  space = let l = length-replicate {A = ℕ} 8192 0 in omega arith;
-  places = λ k x h g. getD-replicate {A = ℕ} 8192 (k * 4096 + x) 0 0 (omega arith) ∙ sym (ap (λ (p : List ℤ). placeOf (nestOf counter .arrays) (element p (accessOf counter k))) (first x (omega arith)) ∙ place-is k h);
+  space = let l = length-replicate {A = ℕ} 2 0 in omega arith;
+  places = λ k x h g. getD-replicate {A = ℕ} 2 (k * 1 + x) 0 0 (omega arith) ∙ sym (ap (λ (p : List ℤ). placeOf (nestOf counter .arrays) (element p (accessOf counter k))) (first x (omega arith)) ∙ place-is k h);
   inside = λ k h. subst (All (λ p. strays (nestOf counter .arrays) p (accessOf counter k) ≡ false)) (sym points-are)
       (all-cons (λ p. strays (nestOf counter .arrays) p (accessOf counter k) ≡ false) (keeps k h) (all-nil (λ p. strays (nestOf counter .arrays) p (accessOf counter k) ≡ false)));
   words = λ i h. let c = small i in omega arith;

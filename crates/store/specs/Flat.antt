@@ -1,5 +1,5 @@
--- The run by numbers: the place in the store of access k at point x is number 4096 k + x. A statement has a size (the number of its
--- accesses, the written one first), a rule and a constant. Then what each function asks.
+-- The run by numbers: the place in the store of access k at point x, of `count` points, is number `count` k + x. A statement has a size (the
+-- number of its accesses, the written one first), a rule and a constant. Then what each function asks.
 use mathlib.Core.List.{List, [], _∷_}
 use Prim.Native.Nat.{ℕ, zero, suc, _+_, _*_, _-_, _^_, _≤_, _<_}
 use lib.ListN.{length, getD, set}
@@ -9,46 +9,46 @@ use Rattle.elements.specs.Places.{BaseIn}
 
 -- ---- the run
 
-abbrev pub numberAt : List ℕ → ℕ → ℕ → ℕ
-numberAt numbers k x = getD numbers (k * 4096 + x) 0
+abbrev pub numberAt : List ℕ → ℕ → ℕ → ℕ → ℕ
+numberAt numbers count k x = getD numbers (k * count + x) 0
 
 -- the words of n accesses, from access k on
-unfoldable pub fetched : List ℕ → ℕ → List ℕ → ℕ → ℕ → List ℕ
-fetched numbers x w k zero = []
-fetched numbers x w k (suc n) = getD w (numberAt numbers k x) 0 ∷ fetched numbers x w (suc k) n
+unfoldable pub fetched : List ℕ → ℕ → ℕ → List ℕ → ℕ → ℕ → List ℕ
+fetched numbers count x w k zero = []
+fetched numbers count x w k (suc n) = getD w (numberAt numbers count k x) 0 ∷ fetched numbers count x w (suc k) n
 
 -- a statement that writes access k and reads the n after it
-unfoldable pub performed : List ℕ → ℕ → ℕ → ℕ → ℕ → ℕ → List ℕ → List ℕ
-performed numbers x rule constant k n w = set w (numberAt numbers k x) (make rule constant (fetched numbers x w (suc k) n))
+unfoldable pub performed : List ℕ → ℕ → ℕ → ℕ → ℕ → ℕ → ℕ → List ℕ → List ℕ
+performed numbers count x rule constant k n w = set w (numberAt numbers count k x) (make rule constant (fetched numbers count x w (suc k) n))
 
 -- the statements of these sizes, from access k and statement i on, at point x
-unfoldable pub bodyFrom : List ℕ → List ℕ → List ℕ → ℕ → ℕ → ℕ → List ℕ → List ℕ → List ℕ
-bodyFrom rules constants numbers x k i [] w = w
-bodyFrom rules constants numbers x k i (m ∷ ms) w =
-    bodyFrom rules constants numbers x (k + m) (suc i) ms (performed numbers x (getD rules i 0) (getD constants i 0) k (m - 1) w)
+unfoldable pub bodyFrom : List ℕ → List ℕ → List ℕ → ℕ → ℕ → ℕ → ℕ → List ℕ → List ℕ → List ℕ
+bodyFrom rules constants numbers count x k i [] w = w
+bodyFrom rules constants numbers count x k i (m ∷ ms) w =
+    bodyFrom rules constants numbers count x (k + m) (suc i) ms (performed numbers count x (getD rules i 0) (getD constants i 0) k (m - 1) w)
 
 -- n points from point x on
-unfoldable pub pointsFrom : List ℕ → List ℕ → List ℕ → List ℕ → ℕ → ℕ → List ℕ → List ℕ
-pointsFrom rules constants sizes numbers x zero w = w
-pointsFrom rules constants sizes numbers x (suc n) w = pointsFrom rules constants sizes numbers (suc x) n (bodyFrom rules constants numbers x 0 0 sizes w)
+unfoldable pub pointsFrom : List ℕ → List ℕ → List ℕ → List ℕ → ℕ → ℕ → ℕ → List ℕ → List ℕ
+pointsFrom rules constants sizes numbers count x zero w = w
+pointsFrom rules constants sizes numbers count x (suc n) w = pointsFrom rules constants sizes numbers count (suc x) n (bodyFrom rules constants numbers count x 0 0 sizes w)
 
 -- ---- what is asked
 
 -- n accesses from access k on, at point x, in a store of this length
-pub record FetchIn (numbers : List ℕ) (room x k n : ℕ) : Type 0 where
+pub record FetchIn (numbers : List ℕ) (count room x k n : ℕ) : Type 0 where
   pub few : k + n ≤ 20
-  pub point : x < 4096
-  pub numbered : (k + n) * 4096 ≤ length numbers
-  pub inside : (j : ℕ) → j < k + n → numberAt numbers j x < room
+  pub point : x < count
+  pub numbered : (k + n) * count ≤ length numbers
+  pub inside : (j : ℕ) → j < k + n → numberAt numbers count j x < room
 
 -- all accesses at point x: each has its place in the store, not before its array
-pub record PointIn (o a numbers : List ℕ) (room x : ℕ) : Type 0 where
+pub record PointIn (o a numbers : List ℕ) (count room x : ℕ) : Type 0 where
   pub few : length o ≤ 20
-  pub point : x < 4096
-  pub numbered : length o * 4096 ≤ length numbers
-  pub inside : (k : ℕ) → k < length o → numberAt numbers k x < room
+  pub point : x < count
+  pub numbered : length o * count ≤ length numbers
+  pub inside : (k : ℕ) → k < length o → numberAt numbers count k x < room
   pub arrays : (k : ℕ) → k < length o → BaseIn a (getD o k 0)
-  pub begins : (k : ℕ) → k < length o → base (arraysOf a) (getD o k 0) ≤ numberAt numbers k x
+  pub begins : (k : ℕ) → k < length o → base (arraysOf a) (getD o k 0) ≤ numberAt numbers count k x
 
 -- the statements share out the accesses
 pub record BodyIn (o sizes rules constants : List ℕ) : Type 0 where

@@ -28,8 +28,8 @@ pub record RunIn (P : Sheet) (count : ℕ) (numbers : List ℕ) (room : ℕ) : T
   pub sheet : SheetIn P
   pub points : count ≡ length (pointsOf P)
   pub few : count ≤ 4096
-  pub space : P .accesses * 4096 ≤ length numbers
-  pub places : (k x : ℕ) → k < P .accesses → x < count → numberAt numbers k x ≡ placeOf (nestOf P .arrays) (element (getD (pointsOf P) x []) (accessOf P k))
+  pub space : P .accesses * count ≤ length numbers
+  pub places : (k x : ℕ) → k < P .accesses → x < count → numberAt numbers count k x ≡ placeOf (nestOf P .arrays) (element (getD (pointsOf P) x []) (accessOf P k))
   pub inside : (k : ℕ) → k < P .accesses → All (λ p. strays (nestOf P .arrays) p (accessOf P k) ≡ false) (pointsOf P)
   pub words : (i : ℕ) → i < P .statements → getD (P .constants) i 0 < 2 ^ 32
   pub whole : room ≡ total (nestOf P .arrays)

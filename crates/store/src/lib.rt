@@ -1,4 +1,5 @@
-// The run of a nest on a store. Its accesses are lent as the numbers of their places: access k at point x at 4096 k + x.
+// The run of a nest on a store. Its accesses are lent as the numbers of their places: access k at point x, of `count` points, at
+// `count` k + x.
 ghost use mathlib.Core.Path.{_≡_};
 ghost use Prim.Native.Nat.{ℕ, _+_, _*_, _%_, _^_, _≤_, _<_};
 ghost use lib.ListN.{length, getD, set};
@@ -9,44 +10,60 @@ ghost use Rattle.store.specs.Runs.{RunIn};
 use sheet::Sheet;
 
 // The place in the store of access k at point x.
-fn place_of(numbers: &[u16], k: usize, x: usize) -> usize
-    requires { ⌜ (k < 20) × (x < 4096) × (k * 4096 + x < length (now numbers)) ⌝ }
-    ensures { λ r. ⌜ r ≡ numberAt (now (numbers .entry)) k x ⌝ }
+fn place_of(numbers: &[u16], count: usize, k: usize, x: usize) -> usize
+    requires { ⌜ k * count + x < length (now numbers) ⌝ }
+    ensures { λ r. ⌜ r ≡ numberAt (now (numbers .entry)) count k x ⌝ }
 {
-    numbers[k * 4096 + x] as usize
+    numbers[k * count + x] as usize
 }
 
 // The word that access k reads at point x.
-fn word_at(numbers: &[u16], store: &[u32], k: usize, x: usize) -> u32
-    requires { ⌜ FetchIn (now numbers) (length (now store)) x k 1 ⌝ }
-    ensures { λ r. ⌜ r ≡ getD (now (store .entry)) (numberAt (now (numbers .entry)) k x) 0 ⌝ }
+fn word_at(numbers: &[u16], count: usize, store: &[u32], k: usize, x: usize) -> u32
+    requires { ⌜ FetchIn (now numbers) count (length (now store)) x k 1 ⌝ }
+    ensures { λ r. ⌜ r ≡ getD (now (store .entry)) (numberAt (now (numbers .entry)) count k x) 0 ⌝ }
 {
-    store[place_of(numbers, k, x)]
+    store[place_of(numbers, count, k, x)]
 }
 
 // Rule 1: the sum modulo 2^32 of the constant and the n reads from access k on.
-fn summed(constant: u32, numbers: &[u16], store: &[u32], k: usize, n: usize, x: usize) -> u32
-    requires { ⌜ FetchIn (now numbers) (length (now store)) x k n ⌝ }
-    ensures { λ r. ⌜ r ≡ (constant + sum (fetched (now (numbers .entry)) x (now (store .entry)) k n)) % 2 ^ 32 ⌝ }
+fn summed(
+    constant: u32,
+    numbers: &[u16],
+    count: usize,
+    store: &[u32],
+    k: usize,
+    n: usize,
+    x: usize,
+) -> u32
+    requires { ⌜ FetchIn (now numbers) count (length (now store)) x k n ⌝ }
+    ensures { λ r. ⌜ r ≡ (constant + sum (fetched (now (numbers .entry)) count x (now (store .entry)) k n)) % 2 ^ 32 ⌝ }
 {
     let mut r = constant;
     let mut i = 0;
     while i < n {
-        r = std::num::wrapping_add_u32(r, word_at(numbers, store, k + i, x));
+        r = std::num::wrapping_add_u32(r, word_at(numbers, count, store, k + i, x));
         i += 1;
     }
     r
 }
 
 // Rule 2: the largest of them.
-fn largest(constant: u32, numbers: &[u16], store: &[u32], k: usize, n: usize, x: usize) -> u32
-    requires { ⌜ FetchIn (now numbers) (length (now store)) x k n ⌝ }
-    ensures { λ r. ⌜ r ≡ most constant (fetched (now (numbers .entry)) x (now (store .entry)) k n) ⌝ }
+fn largest(
+    constant: u32,
+    numbers: &[u16],
+    count: usize,
+    store: &[u32],
+    k: usize,
+    n: usize,
+    x: usize,
+) -> u32
+    requires { ⌜ FetchIn (now numbers) count (length (now store)) x k n ⌝ }
+    ensures { λ r. ⌜ r ≡ most constant (fetched (now (numbers .entry)) count x (now (store .entry)) k n) ⌝ }
 {
     let mut r = constant;
     let mut i = 0;
     while i < n {
-        let v = word_at(numbers, store, k + i, x);
+        let v = word_at(numbers, count, store, k + i, x);
         if r < v {
             r = v;
         }
@@ -56,14 +73,14 @@ fn largest(constant: u32, numbers: &[u16], store: &[u32], k: usize, n: usize, x:
 }
 
 // Rule 3: the first read.
-fn first(numbers: &[u16], store: &[u32], k: usize, n: usize, x: usize) -> u32
-    requires { ⌜ FetchIn (now numbers) (length (now store)) x k n ⌝ }
-    ensures { λ r. ⌜ r ≡ firstOf (fetched (now (numbers .entry)) x (now (store .entry)) k n) ⌝ }
+fn first(numbers: &[u16], count: usize, store: &[u32], k: usize, n: usize, x: usize) -> u32
+    requires { ⌜ FetchIn (now numbers) count (length (now store)) x k n ⌝ }
+    ensures { λ r. ⌜ r ≡ firstOf (fetched (now (numbers .entry)) count x (now (store .entry)) k n) ⌝ }
 {
     if n == 0 {
         return 0;
     }
-    word_at(numbers, store, k, x)
+    word_at(numbers, count, store, k, x)
 }
 
 // What a statement stores. Rule 0 is opaque: no nest that has it is run.
@@ -71,18 +88,19 @@ fn value(
     rule: usize,
     constant: u32,
     numbers: &[u16],
+    count: usize,
     store: &[u32],
     k: usize,
     n: usize,
     x: usize,
 ) -> u32
-    requires { ⌜ FetchIn (now numbers) (length (now store)) x k n ⌝ }
-    ensures { λ r. ⌜ r ≡ make rule constant (fetched (now (numbers .entry)) x (now (store .entry)) k n) ⌝ }
+    requires { ⌜ FetchIn (now numbers) count (length (now store)) x k n ⌝ }
+    ensures { λ r. ⌜ r ≡ make rule constant (fetched (now (numbers .entry)) count x (now (store .entry)) k n) ⌝ }
 {
     match rule {
-        1 => summed(constant, numbers, store, k, n, x),
-        2 => largest(constant, numbers, store, k, n, x),
-        3 => first(numbers, store, k, n, x),
+        1 => summed(constant, numbers, count, store, k, n, x),
+        2 => largest(constant, numbers, count, store, k, n, x),
+        3 => first(numbers, count, store, k, n, x),
         _ => 0,
     }
 }
@@ -100,6 +118,7 @@ fn perform(
     owners: &[usize],
     arrays: &[usize],
     numbers: &[u16],
+    count: usize,
     rule: usize,
     constant: u32,
     k: usize,
@@ -107,12 +126,12 @@ fn perform(
     x: usize,
     store: &mut [u32],
 )
-    requires { ⌜ PointIn (now owners) (now arrays) (now numbers) (length (now store)) x × (k + n < length (now owners)) ⌝ }
-    ensures { λ _. ⌜ now (store .exit) ≡ performed (now (numbers .entry)) x rule constant k n (now (store .entry)) ⌝ }
+    requires { ⌜ PointIn (now owners) (now arrays) (now numbers) count (length (now store)) x × (k + n < length (now owners)) ⌝ }
+    ensures { λ _. ⌜ now (store .exit) ≡ performed (now (numbers .entry)) count x rule constant k n (now (store .entry)) ⌝ }
 {
-    let v = value(rule, constant, numbers, store, k + 1, n, x);
+    let v = value(rule, constant, numbers, count, store, k + 1, n, x);
     let base = elements::base_of(arrays, owners[k]);
-    let at = place_of(numbers, k, x) - base;
+    let at = place_of(numbers, count, k, x) - base;
     put(&mut store[base..], at, v);
 }
 
@@ -124,11 +143,12 @@ fn perform_all(
     rules: &[usize],
     constants: &[usize],
     numbers: &[u16],
+    count: usize,
     x: usize,
     store: &mut [u32],
 )
-    requires { ⌜ PointIn (now owners) (now arrays) (now numbers) (length (now store)) x × BodyIn (now owners) (now sizes) (now rules) (now constants) ⌝ }
-    ensures { λ _. ⌜ now (store .exit) ≡ bodyFrom (now (rules .entry)) (now (constants .entry)) (now (numbers .entry)) x 0 0 (now (sizes .entry)) (now (store .entry)) ⌝ }
+    requires { ⌜ PointIn (now owners) (now arrays) (now numbers) count (length (now store)) x × BodyIn (now owners) (now sizes) (now rules) (now constants) ⌝ }
+    ensures { λ _. ⌜ now (store .exit) ≡ bodyFrom (now (rules .entry)) (now (constants .entry)) (now (numbers .entry)) count x 0 0 (now (sizes .entry)) (now (store .entry)) ⌝ }
 {
     let mut k = 0;
     let mut i = 0;
@@ -138,6 +158,7 @@ fn perform_all(
             owners,
             arrays,
             numbers,
+            count,
             rules[i],
             constants[i] as u32,
             k,
@@ -161,12 +182,22 @@ fn run_points(
     count: usize,
     store: &mut [u32],
 )
-    requires { ⌜ (count ≤ 4096) × ((x : ℕ) → x < count → PointIn (now owners) (now arrays) (now numbers) (length (now store)) x) × BodyIn (now owners) (now sizes) (now rules) (now constants) ⌝ }
-    ensures { λ _. ⌜ now (store .exit) ≡ pointsFrom (now (rules .entry)) (now (constants .entry)) (now (sizes .entry)) (now (numbers .entry)) 0 count (now (store .entry)) ⌝ }
+    requires { ⌜ (count ≤ 4096) × ((x : ℕ) → x < count → PointIn (now owners) (now arrays) (now numbers) count (length (now store)) x) × BodyIn (now owners) (now sizes) (now rules) (now constants) ⌝ }
+    ensures { λ _. ⌜ now (store .exit) ≡ pointsFrom (now (rules .entry)) (now (constants .entry)) (now (sizes .entry)) (now (numbers .entry)) count 0 count (now (store .entry)) ⌝ }
 {
     let mut x = 0;
     while x < count {
-        perform_all(owners, arrays, sizes, rules, constants, numbers, x, store);
+        perform_all(
+            owners,
+            arrays,
+            sizes,
+            rules,
+            constants,
+            numbers,
+            count,
+            x,
+            store,
+        );
         x += 1;
     }
 }

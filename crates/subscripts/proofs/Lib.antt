@@ -1,4 +1,6 @@
--- Laws over plain lists that the proofs of the crate's functions cite, and the law that a ticket's statements meet what a step asks.
-pub mod FrontLaws
-pub mod SubscriptLaws
-pub mod RangeLaws
+-- Laws over plain lists that the proofs of the crate's functions cite, and laws on a sheet whose accesses a step changed.
+pub mod StepLaws
+pub mod FormLaws
+pub mod ChangeLaws
+pub mod AccessLaws
+pub mod SheetLaws

@@ -1,32 +1,25 @@
--- What a step asks of the subscripts, and what it makes of them. n is the number of loops.
+-- What a step asks of the accesses of a flat slice (`elements`, specs/Layout), and what it leaves there. n is the number of loops before the
+-- step, w the words before it and v those after it.
 use mathlib.Core.Path.{_≡_}
-use mathlib.Core.Bool.{Bool, _&&_}
+use mathlib.Core.Bool.{Bool, true, _&&_}
 use mathlib.Core.List.{List, map}
-use Prim.Native.Nat.{ℕ, _≤_}
-use lib.Dec.{T}
-use lib.ListN.{take}
+use Prim.Native.Nat.{ℕ, _+_, _*_, _≤_}
+use lib.IntN.{ℤ}
+use lib.ListN.{length, take, drop}
+use Rattle.integers.specs.Affine.{Within}
 use Rattle.lists.specs.Tests.{all}
 use Rattle.model.specs.Ticket as Model
-use Rattle.model.specs.Bounds.{accessesOf}
 use Rattle.model.specs.Grammar.{depthAfter}
 use Rattle.model.specs.Ranges.{StepThere}
-use Rattle.model.specs.Limits.{subscriptAfter, accessAfter, statementAfter}
+use Rattle.model.specs.Limits.{subscriptAfter, accessAfter}
 use Rattle.model.specs.Judge.{small, smallAccess}
-use Rattle.body.specs.Statements.{subscriptOf, accessOf, statementOf, statementsOf, SubscriptIn, AccessIn, AccessesIn, StatementIn, BodyIn}
-use Rattle.body.specs.declared.Subscript.{Subscript}
-use Rattle.body.specs.declared.Access.{Access}
-use Rattle.body.specs.declared.Statement.{Statement}
-use Rattle.body.specs.declared.Body.{Body}
+use Rattle.elements.specs.Layout.{formsFrom, accessesFrom, AccessesOk}
 use Rattle.steps.specs.Steps.{stepOf}
 use Rattle.steps.specs.declared.Step.{Step}
 
--- ---- every number within ±32767, as `smallNumbers` tests it
-
+-- every number within ±32767, as `smallAccess` tests it
 abbrev pub smallSubscript : Model.Subscript → Bool
 smallSubscript s = small (s .constant) && all small (s .coefficients)
-
-abbrev pub smallStatement : Model.Statement → Bool
-smallStatement s = all smallAccess (accessesOf s)
 
 -- ---- what a step asks
 
@@ -35,48 +28,43 @@ pub record StepFits (n : ℕ) (t : Step) : Type 0 where
   pub few : n ≤ 6
   pub there : StepThere n (stepOf t)
 
-pub record SubscriptStepIn (s : Subscript) (n : ℕ) (t : Step) : Type 0 where
+-- of `count` subscripts from number `first` on; m is the number of loops after the step
+pub record ChangeIn (w : List ℤ) (first count n m : ℕ) (t : Step) : Type 0 where
   pub step : StepFits n t
-  pub small : T (smallSubscript (subscriptOf n s))
+  pub depth : m ≡ depthAfter (stepOf t) n
+  pub inside : (first + count) * 8 ≤ length w
+  pub small : Within 32767 w
 
-pub record AccessStepIn (a : Access) (n : ℕ) (t : Step) : Type 0 where
+pub record AccessesIn (w : List ℤ) (o a : List ℕ) (n : ℕ) (t : Step) : Type 0 where
   pub step : StepFits n t
-  pub within : AccessIn a
-  pub small : T (smallAccess (accessOf n a))
+  pub held : AccessesOk w o a n
 
-pub record AccessesStepIn (count : ℕ) (l : List Access) (n : ℕ) (t : Step) : Type 0 where
-  pub step : StepFits n t
-  pub within : AccessesIn count l
-  pub small : T (all smallAccess (map (accessOf n) (take count l)))
+-- ---- what it leaves
 
-pub record StatementStepIn (s : Statement) (n : ℕ) (t : Step) : Type 0 where
-  pub step : StepFits n t
-  pub within : StatementIn s
-  pub small : T (smallStatement (statementOf n s))
+abbrev pub subscriptsAfter : Model.Step → List ℤ → ℕ → ℕ → ℕ → List Model.Subscript
+subscriptsAfter t w n first count = map (subscriptAfter t) (formsFrom w n first count)
 
-pub record BodyStepIn (B : Body) (n : ℕ) (t : Step) : Type 0 where
-  pub step : StepFits n t
-  pub within : BodyIn B
-  pub small : T (all smallStatement (statementsOf n B))
+abbrev pub accessesAfter : Model.Step → List ℤ → List ℕ → List ℕ → ℕ → ℕ → List Model.Access
+accessesAfter t w o a n count = map (accessAfter t) (accessesFrom w o a n 0 count)
 
--- ---- what it makes: the model's value, in arrays that hold it
+-- `count` subscripts from number `first` on, that all passed; what stood before them and behind them stands
+pub record Changed (t : Model.Step) (w : List ℤ) (n first count : ℕ) (v : List ℤ) : Type 0 where
+  pub room : length v ≡ length w
+  pub small : Within 32767 v
+  pub passed : all smallSubscript (subscriptsAfter t w n first count) ≡ true
+  pub made : formsFrom v (depthAfter t n) first count ≡ subscriptsAfter t w n first count
+  pub before : take (first * 8) v ≡ take (first * 8) w
+  pub behind : drop ((first + count) * 8) v ≡ drop ((first + count) * 8) w
 
-pub record SubscriptAfter (s : Subscript) (n : ℕ) (t : Step) (r : Subscript) : Type 0 where
-  pub is : subscriptOf (depthAfter (stepOf t) n) r ≡ subscriptAfter (stepOf t) (subscriptOf n s)
-  pub within : SubscriptIn r
+-- r says whether they passed
+pub record Changes (t : Model.Step) (w : List ℤ) (n first count : ℕ) (v : List ℤ) (r : Bool) : Type 0 where
+  pub room : length v ≡ length w
+  pub test : r ≡ all smallSubscript (subscriptsAfter t w n first count)
+  pub changed : r ≡ true → Changed t w n first count v
 
-pub record AccessAfter (a : Access) (n : ℕ) (t : Step) (r : Access) : Type 0 where
-  pub is : accessOf (depthAfter (stepOf t) n) r ≡ accessAfter (stepOf t) (accessOf n a)
-  pub within : AccessIn r
-
-pub record AccessesAfter (count : ℕ) (l : List Access) (n : ℕ) (t : Step) (r : List Access) : Type 0 where
-  pub is : map (accessOf (depthAfter (stepOf t) n)) (take count r) ≡ map (accessAfter (stepOf t)) (map (accessOf n) (take count l))
-  pub within : AccessesIn count r
-
-pub record StatementAfter (s : Statement) (n : ℕ) (t : Step) (r : Statement) : Type 0 where
-  pub is : statementOf (depthAfter (stepOf t) n) r ≡ statementAfter (stepOf t) (statementOf n s)
-  pub within : StatementIn r
-
-pub record BodyAfter (B : Body) (n : ℕ) (t : Step) (r : Body) : Type 0 where
-  pub is : statementsOf (depthAfter (stepOf t) n) r ≡ map (statementAfter (stepOf t)) (statementsOf n B)
-  pub within : BodyIn r
+-- all accesses of the slice: every number of every subscript is tried for refusal 12
+pub record AccessesAfter (t : Model.Step) (w : List ℤ) (o a : List ℕ) (n : ℕ) (v : List ℤ) (r : Bool) : Type 0 where
+  pub room : length v ≡ length w
+  pub test : r ≡ all smallAccess (accessesAfter t w o a n (length o))
+  pub made : r ≡ true → accessesFrom v o a (depthAfter t n) 0 (length o) ≡ accessesAfter t w o a n (length o)
+  pub held : r ≡ true → AccessesOk v o a (depthAfter t n)

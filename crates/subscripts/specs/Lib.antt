@@ -1,2 +1,3 @@
 -- What the contracts on subscripts speak of.
 pub mod After
+pub mod Relaid

@@ -1,2 +1,2 @@
--- The model's ticket that the struct stands for, and what decoding gives.
+-- The model's ticket that a sheet and steps stand for, and what decoding gives.
 pub mod Ticket

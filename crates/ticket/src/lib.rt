@@ -1,97 +1,90 @@
-// From any byte slice to a ticket, or the first refusal.
+// From any byte slice to a ticket on a sheet, or the first refusal.
 ghost use mathlib.Core.Path.{_≡_};
-ghost use Rattle.ticket.specs.Ticket.{firstOf, ReadsTicket, Decodes};
-use arrays::Arrays;
-use body::Body;
-use nest::Nest;
+ghost use lib.ListN.{length};
+ghost use Rattle.reading.specs.Refusals.{Reached};
+ghost use Rattle.ticket.specs.Ticket.{endOf, Decodes};
 use reading::Refusal;
 use reading::Status;
+use sheet::Sheet;
 use steps::Steps;
-
-pub struct Ticket {
-    pub nest: Nest,
-    pub arrays: Arrays,
-    pub body: Body,
-    pub steps: Steps,
-}
-
-pub struct TicketRead {
-    pub status: Status,
-    pub ticket: Ticket,
-    pub next: usize,
-}
 
 // The ticket where the status is Fine.
 pub struct Decoded {
     pub status: Status,
-    pub ticket: Ticket,
+    pub steps: Steps,
+    pub sheet: Sheet,
 }
 
-// The four sections, whatever follows them. A later section is read from where one before it was refused, and not looked at.
-fn read_sections(bytes: &[u8]) -> TicketRead
-    ensures { λ r. ⌜ ReadsTicket (now (bytes .entry)) r ⌝ }
+// Refused also where bytes follow the sections, which end before word `next`.
+fn end_of(status: Status, next: usize, bytes: &[u8]) -> Status
+    requires { ⌜ Reached (now bytes) next ⌝ }
+    ensures { λ r. ⌜ r ≡ endOf status next (length (now (bytes .entry))) ⌝ }
 {
-    let first = nest::read_nest(bytes, 1);
-    let second = arrays::read_arrays(bytes, first.next);
-    let nest = first.nest;
-    let arrays = second.arrays;
-    let third = body::read_body(bytes, second.next, nest.depth, arrays);
-    let fourth = steps::read_steps(bytes, third.next, nest.depth);
-    let body = third.body;
-    let steps = fourth.steps;
-    let next = fourth.next;
-    let ticket = Ticket {
-        nest: nest,
-        arrays: arrays,
-        body: body,
-        steps: steps,
-    };
-    let a = first.status;
-    let b = second.status;
-    let c = third.status;
-    let d = fourth.status;
-    let status = first_of(a, first_of(b, first_of(c, d)));
-    TicketRead {
-        status: status,
-        ticket: ticket,
-        next: next,
-    }
-}
-
-// The first status that is a refusal.
-fn first_of(a: Status, b: Status) -> Status
-    ensures { λ r. ⌜ r ≡ firstOf a b ⌝ }
-{
-    match a {
-        Status::Fine => b,
+    match status {
+        Status::Fine => {
+            if (next - 1) * 2 < bytes.len() {
+                Status::Refused(Refusal::TrailingBytes(next))
+            } else {
+                Status::Fine
+            }
+        }
         Status::Refused(r) => Status::Refused(r),
     }
 }
 
+// The four sections and nothing after them. A later section is read from where one before it was refused, and not looked at.
 pub fn decode(bytes: &[u8]) -> Decoded
     ensures { λ r. ⌜ Decodes (now (bytes .entry)) r ⌝ }
 {
-    let all = read_sections(bytes);
-    let ticket = all.ticket;
-    let status = all.status;
-    match status {
-        Status::Fine => {}
-        Status::Refused(r) => {
-            return Decoded {
-                status: Status::Refused(r),
-                ticket: ticket,
-            };
-        }
-    }
-    let next = all.next;
-    if (next - 1) * 2 < bytes.len() {
-        return Decoded {
-            status: Status::Refused(Refusal::TrailingBytes(next)),
-            ticket: ticket,
-        };
-    }
+    let mut limits = [0i16; 1536];
+    let mut counts = [0usize; 12];
+    let first = nest::read_nest(bytes, 1, &mut limits, &mut counts);
+    let depth = first.depth;
+    let mut extents = [0usize; 16];
+    let second = arrays::read_arrays(bytes, first.next, &mut extents);
+    let arrays = second.count;
+    let mut words = [0i16; 480];
+    let mut owners = [0usize; 20];
+    let mut sizes = [0usize; 4];
+    let mut rules = [0usize; 4];
+    let mut constants = [0usize; 4];
+    let third = body::read_body(
+        bytes,
+        second.next,
+        depth,
+        &extents[..arrays * 4],
+        arrays,
+        &mut words,
+        &mut owners,
+        &mut sizes,
+        &mut rules,
+        &mut constants,
+    );
+    let fourth = steps::read_steps(bytes, third.next, depth);
+    let a = first.status;
+    let b = second.status;
+    let c = third.status;
+    let d = fourth.status;
+    let sections = reading::first_of(a, reading::first_of(b, reading::first_of(c, d)));
+    let status = end_of(sections, fourth.next, bytes);
+    let steps = fourth.steps;
+    let sheet = Sheet {
+        depth,
+        limits,
+        counts,
+        arrays,
+        extents,
+        statements: third.count,
+        sizes,
+        rules,
+        constants,
+        accesses: third.accesses,
+        owners,
+        words,
+    };
     Decoded {
-        status: Status::Fine,
-        ticket: ticket,
+        status,
+        steps,
+        sheet,
     }
 }

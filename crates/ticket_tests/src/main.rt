@@ -18,14 +18,15 @@ fn print_refusal(r: Refusal) {
 fn print_answer(bytes: &[u8]) {
     let d = ticket::decode(bytes);
     let status = d.status;
-    let t = d.ticket;
+    let sheet = d.sheet;
+    let steps = d.steps;
     match status {
         Status::Fine => {
             io::write_all(1, b"accepted");
-            print_number(t.nest.depth);
-            print_number(t.arrays.count);
-            print_number(t.body.count);
-            print_number(t.steps.count);
+            print_number(sheet.depth);
+            print_number(sheet.arrays);
+            print_number(sheet.statements);
+            print_number(steps.count);
         }
         Status::Refused(r) => print_refusal(r),
     }

@@ -4,33 +4,25 @@ ghost use lib.ListN.{length};
 ghost use Rattle.reading.specs.declared.Status.the-variants.{Refused};
 ghost use Rattle.intake.specs.Intake.{Waits};
 ghost use Rattle.verdict.specs.Verdicts.{Decides};
-use body::Body;
 use intake::Intake;
-use nest::Nest;
 use reading::Refusal;
 use reading::Status;
-use ticket::Ticket;
+use sheet::Sheet;
 
-// Where the status is Fine: the ticket and how many iterations it has; the new nest and its statements.
+// Where the status is Fine: how many iterations the ticket has, and the new nest on its sheet.
 pub struct Decided {
     pub status: Status,
-    pub ticket: Ticket,
     pub count: usize,
-    pub nest: Nest,
-    pub body: Body,
+    pub sheet: Sheet,
 }
 
-fn refused(r: Refusal, ticket: Ticket) -> Decided
+fn refused(r: Refusal, sheet: Sheet) -> Decided
     ensures { λ q. ⌜ q .status ≡ Refused r ⌝ }
 {
-    let nest = ticket.nest;
-    let body = ticket.body;
     Decided {
         status: Status::Refused(r),
-        ticket: ticket,
         count: 0,
-        nest: nest,
-        body: body,
+        sheet: sheet,
     }
 }
 
@@ -39,25 +31,22 @@ fn decide_by(bytes: &[u8], all: Intake, points: &mut [i64]) -> Decided
     requires { ⌜ Waits (now bytes) all (length (now points)) ⌝ }
     ensures { λ r. ⌜ Decides (now (bytes .entry)) r ⌝ }
 {
-    let ticket = all.ticket;
     let sheet = all.sheet;
+    let steps = all.steps;
     let count = all.count;
     let status = intake::admit(bytes, all, points);
     match status {
         Status::Fine => {}
-        Status::Refused(r) => return refused(r, ticket),
+        Status::Refused(r) => return refused(r, sheet),
     }
     let set = lines::directions_in(sheet, points, count);
-    let new = judgement::judge_ticket(ticket, set);
-    let verdict = new.status;
-    let nest = new.nest;
-    let body = new.body;
+    let judged = judgement::judge_ticket(sheet, steps, set);
+    let verdict = judged.status;
+    let new = judged.sheet;
     Decided {
         status: verdict,
-        ticket: ticket,
         count: count,
-        nest: nest,
-        body: body,
+        sheet: new,
     }
 }
 
@@ -66,11 +55,11 @@ pub fn decide(bytes: &[u8]) -> Decided
     ensures { λ r. ⌜ Decides (now (bytes .entry)) r ⌝ }
 {
     let all = intake::receive(bytes);
-    let ticket = all.ticket;
+    let sheet = all.sheet;
     let status = all.status;
     match status {
         Status::Fine => {}
-        Status::Refused(r) => return refused(r, ticket),
+        Status::Refused(r) => return refused(r, sheet),
     }
     if all.count <= 256 {
         let mut few = [0i64; 1024];

@@ -16,11 +16,8 @@ pub fn write(ticket: &[u8], out: &mut [u8]) -> Answer
         Status::Fine => {}
         Status::Refused(r) => return Answer::Refused(r),
     }
-    let given = decided.ticket;
-    let arrays = given.arrays;
-    let nest = decided.nest;
-    let body = decided.body;
-    match encoding::encode_nest(nest, arrays, body, out) {
+    let new = decided.sheet;
+    match encoding::encode_sheet(new, out) {
         Encoded::Complete(n) => Answer::Accepted(n),
         Encoded::TooShort(_) => Answer::Refused(Refusal::BufferTooShort),
     }

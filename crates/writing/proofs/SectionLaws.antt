@@ -1,102 +1,132 @@
--- The model's words as parts of the arrays that the structs hold.
+-- The model's words as parts of the slices that are lent. In order: elements of a slice; the words of a limit; a side, a loop, all loops.
 use mathlib.Core.Path.{_≡_, refl, sym, ap, ap₂, _∙_, subst}
-use mathlib.Core.List.{List, [], _∷_, _++_, map, flatMap, List·Memᴰ·head}
-use Prim.Native.Nat.{ℕ, suc, _+_, _≤_}
+use mathlib.Core.List.{List, [], _∷_, _++_, map, flatMap}
+use Prim.Native.Nat.{ℕ, zero, suc, _+_, _*_, _≤_, _<_}
 use native.Mathlib.Omega.{arith}
-use native.Mathlib.Numerals.{add-one}
-use lib.IntN.{ℤ, pos}
-use lib.ListN.{length, take, length-map}
-use lib.Seq.{length-take-le}
-use Rattle.lists.proofs.FlatMapLaws.{flatMap-one}
-use Rattle.model.specs.Ticket as Model
-use Rattle.model.specs.Encode.{counted, limitWords, loopWords, arrayWords, accessWords, statementWords}
-use Rattle.nest.specs.Nested.{limitOf, sideOf, loopOf, loopsFrom, loopsOf, SideIn, NestIn}
-use Rattle.nest.specs.declared.Side.{Side}
-use Rattle.nest.specs.declared.Loop.{Loop}
-use Rattle.nest.specs.declared.Nest.{Nest}
-use Rattle.arrays.specs.Arrays.{shapeOf, arraysOf, ShapeIn, ArraysIn}
-use Rattle.body.specs.Statements.{subscriptOf, accessOf, statementOf, statementsOf, AccessesIn, BodyIn}
-use Rattle.arrays.specs.declared.Shape.{Shape}
-use Rattle.arrays.specs.declared.Arrays.{Arrays}
-use Rattle.body.specs.declared.Subscript.{Subscript}
-use Rattle.body.specs.declared.Access.{Access}
-use Rattle.body.specs.declared.Statement.{Statement}
-use Rattle.body.specs.declared.Body.{Body}
+use lib.IntN.{ℤ, pos, negsuc, natAbs}
+use lib.Signed.{_<ℤ_}
+use lib.ListN.{length, getD, take, drop}
+use lib.Seq.{drop-cons}
+use Rattle.integers.proofs.RingLaws.{zarith}
+use Rattle.model.specs.Encode.{counted, limitWords, loopWords}
+use Rattle.bounds.specs.Flat.{limitAt, limitsAt, loopAt, loopsFrom}
 use Rattle.writing.specs.Writing.{Writable, Written}
-use Rattle.writing.specs.Held.{subscriptWords}
-use Rattle.writing.proofs.WritingLaws.{parts}
+use Rattle.writing.specs.Loops.{LimitsIn, LoopIn}
+use Rattle.writing.proofs.WritingLaws.{spans, writable-left, writable-right, written-both}
 
--- ---- plain lists
+-- ---- elements of a slice
 
-flat-parts : {A : Type 0} (g : A → List ℤ) (k : ℕ) (l : List A) → flatMap g l ≡ parts (λ _. g) k l
-unfolding parts flatMap
-flat-parts g k [] = refl
-flat-parts g k (x ∷ l) = ap (g x ++_) (flat-parts g (suc k) l)
+next-place : (i n m : ℕ) → i + suc n ≤ m → suc i + n ≤ m
+next-place i n m h = omega arith
 
-map-parts : {A B : Type 0} (g : B → List ℤ) (h : A → B) (k : ℕ) (l : List A) → flatMap g (map h l) ≡ parts (λ _ x. g (h x)) k l
-unfolding parts flatMap map
-map-parts g h k [] = refl
-map-parts g h k (x ∷ l) = ap (g (h x) ++_) (map-parts g h (suc k) l)
+pub words-spans : (l : List ℤ) (i n : ℕ) → i + n ≤ length l → take n (drop i l) ≡ spans (λ k. getD l k (pos 0) ∷ []) i n
+unfolding spans
+words-spans l i zero h = refl
+words-spans l i (suc n) h =
+    ap (take (suc n)) (drop-cons l i (pos 0) (omega arith)) ∙ ap (getD l i (pos 0) ∷_) (words-spans l (suc i) n (next-place i n (length l) h))
 
-pub row-parts : (k : ℕ) (l : List ℤ) → l ≡ parts (λ _ x. x ∷ []) k l
-unfolding parts
-row-parts k [] = refl
-row-parts k (x ∷ l) = ap (x ∷_) (row-parts (suc k) l)
+pub naturals-spans : (l : List ℕ) (i n : ℕ) → i + n ≤ length l → map pos (take n (drop i l)) ≡ spans (λ k. pos (getD l k 0) ∷ []) i n
+unfolding spans
+naturals-spans l i zero h = refl
+naturals-spans l i (suc n) h =
+    ap (λ m. map pos (take (suc n) m)) (drop-cons l i 0 (omega arith)) ∙ ap (pos (getD l i 0) ∷_) (naturals-spans l (suc i) n (next-place i n (length l) h))
 
-pub row-written : {o o′ : List ℕ} {at r : ℕ} (l : List ℤ) → Written o o′ at (parts (λ _ x. x ∷ []) 0 l) r → Written o o′ at l r
-row-written {o} {o′} {at} {r} l w = subst (λ ws. Written o o′ at ws r) (sym (row-parts 0 l)) w
+-- ---- a limit
 
-pub counted-parts : {A B : Type 0} (g : B → List ℤ) (h : A → B) (n : ℕ) (l : List A) → n ≤ length l → counted g (map h (take n l)) ≡ pos n ∷ parts (λ _ x. g (h x)) 0 (take n l)
+positive : (z : ℤ) → pos 0 <ℤ z → pos (natAbs z) ≡ z
+positive (pos n) h = refl
+positive (negsuc n) h = absurd (omega zarith)
+
+-- its words stand one after another
+limit-words : (s : List ℤ) (k j : ℕ) → j * 8 + 2 ≤ length s → pos 0 <ℤ getD s (j * 8) (pos 0) → limitWords (limitAt s k j) ≡ take (k + 2) (drop (j * 8) s)
+unfolding limitWords limitAt
+limit-words s k j h p =
+    ap (λ z. z ∷ getD s (j * 8 + 1) (pos 0) ∷ take k (drop (j * 8 + 2) s)) (positive (getD s (j * 8) (pos 0)) p)
+    ∙ sym (ap (λ m. take m (drop (j * 8) s)) two ∙ ap (take (suc (suc k))) (drop-cons s (j * 8) (pos 0) (omega arith) ∙ ap (getD s (j * 8) (pos 0) ∷_) rest))
+  where
+    two : k + 2 ≡ suc (suc k)
+    two = omega arith
+
+    rest : drop (suc (j * 8)) s ≡ getD s (j * 8 + 1) (pos 0) ∷ drop (j * 8 + 2) s
+    rest = let e : suc (j * 8) ≡ j * 8 + 1 = omega arith in let f : suc (j * 8 + 1) ≡ j * 8 + 2 = omega arith in
+        ap (λ m. drop m s) e ∙ drop-cons s (j * 8 + 1) (pos 0) (omega arith) ∙ ap (λ m. getD s (j * 8 + 1) (pos 0) ∷ drop m s) f
+
+-- ---- a side
+
+limits-length : (s : List ℤ) (k j n : ℕ) → length (limitsAt s k j n) ≡ n
+unfolding limitsAt
+limits-length s k j zero = refl
+limits-length s k j (suc n) = ap suc (limits-length s k (suc j) n)
+
+limits-flat : (s : List ℤ) (k j n : ℕ) → flatMap limitWords (limitsAt s k j n) ≡ spans (λ i. limitWords (limitAt s k i)) j n
+unfolding limitsAt spans flatMap
+limits-flat s k j zero = refl
+limits-flat s k j (suc n) = ap (limitWords (limitAt s k j) ++_) (limits-flat s k (suc j) n)
+
+pub side-spans : (s : List ℤ) (k j n : ℕ) → counted limitWords (limitsAt s k j n) ≡ pos n ∷ spans (λ i. limitWords (limitAt s k i)) j n
 unfolding counted
-counted-parts g h n l e = ap₂ (λ m ws. pos m ∷ ws) (length-map (take n l) h ∙ length-take-le n l e) (map-parts g h 0 (take n l))
+side-spans s k j n = ap₂ (λ m ws. pos m ∷ ws) (limits-length s k j n) (limits-flat s k j n)
 
--- ---- sections
+-- the words of limit i of those
+module _ (s : List ℤ) (outer j n i : ℕ) (p : LimitsIn s outer j n) (h : i < n) where
+  pub limit-room : (j + i) * 8 + (outer + 2) ≤ length s
+  limit-room = let a = p .words in let b = p .inside in let d = p .outside in omega arith
 
-pub side-parts : (outer : ℕ) (s : Side) → SideIn s → counted limitWords (sideOf outer s) ≡ pos (s .count) ∷ parts (λ _ l. limitWords (limitOf outer l)) 0 (take (s .count) (s .limits))
-unfolding sideOf
-side-parts outer s i = let e = i .few in let r = i .room in counted-parts limitWords (limitOf outer) (s .count) (s .limits) (omega arith)
+  limit-same : limitWords (limitAt s outer (j + i)) ≡ take (outer + 2) (drop ((j + i) * 8) s)
+  limit-same = limit-words s outer (j + i) (let r = limit-room in omega arith) (p .positive i h)
 
-loops-length : (n : ℕ) (l : List Loop) → length (loopsFrom n l) ≡ length l
+  pub limit-writable : {o : List ℕ} {at : ℕ} → Writable o at (limitWords (limitAt s outer (j + i))) → Writable o at (take (outer + 2) (drop ((j + i) * 8) s))
+  limit-writable {o} {at} w = subst (Writable o at) limit-same w
+
+  pub limit-written : {o o′ : List ℕ} {at r : ℕ} → Written o o′ at (take (outer + 2) (drop ((j + i) * 8) s)) r → Written o o′ at (limitWords (limitAt s outer (j + i))) r
+  limit-written {o} {o′} {at} {r} w = subst (λ ws. Written o o′ at ws r) (sym limit-same) w
+
+-- ---- a loop
+
+module _ (s : List ℤ) (c : List ℕ) (k : ℕ) (p : LoopIn s c k) where
+  loop-shallow : k < 6
+  loop-shallow = let d = p .nest .shallow in let t = p .there in omega arith
+
+  pub lower-in : LimitsIn s k (k * 32) (getD c (k * 2) 0)
+  lower-in = let d = loop-shallow in let t = p .there in let e = p .nest .lower-count k t .1 in
+      record { words = p .nest .words; outside = omega arith; inside = omega arith; positive = p .nest .lower-positive k t }
+
+  pub upper-in : LimitsIn s k (k * 32 + 16) (getD c (k * 2 + 1) 0)
+  upper-in = let d = loop-shallow in let t = p .there in let e = p .nest .upper-count k t .1 in
+      record { words = p .nest .words; outside = omega arith; inside = omega arith; positive = p .nest .upper-positive k t }
+
+  abbrev low : List ℤ
+  low = counted limitWords (limitsAt s k (k * 32) (getD c (k * 2) 0))
+
+  abbrev high : List ℤ
+  high = counted limitWords (limitsAt s k (k * 32 + 16) (getD c (k * 2 + 1) 0))
+
+  module _ {o : List ℕ} {at : ℕ} (h : Writable o at (loopWords (loopAt s c k))) where
+    pub lower-room : Writable o at low
+    unfolding loopWords loopAt
+    lower-room = writable-left low high h
+
+    module _ {o′ : List ℕ} {r : ℕ} (v : Written o o′ at low r) where
+      pub upper-room : Writable o′ r high
+      unfolding loopWords loopAt
+      upper-room = writable-right low high h v
+
+      pub loop-written : {o″ : List ℕ} {q : ℕ} → Written o′ o″ r high q → Written o o″ at (loopWords (loopAt s c k)) q
+      unfolding loopWords loopAt
+      loop-written u = written-both low high h v u
+
+-- ---- all loops
+
+loops-length : (s : List ℤ) (c : List ℕ) (k n : ℕ) → length (loopsFrom s c k n) ≡ n
 unfolding loopsFrom
-loops-length n [] = refl
-loops-length n (x ∷ l) = ap suc (loops-length (suc n) l)
+loops-length s c k zero = refl
+loops-length s c k (suc n) = ap suc (loops-length s c (suc k) n)
 
-loops-flat : (n : ℕ) (l : List Loop) → flatMap loopWords (loopsFrom n l) ≡ parts (λ k x. loopWords (loopOf k x)) n l
-unfolding parts flatMap loopsFrom
-loops-flat n [] = refl
-loops-flat n (x ∷ l) = ap (loopWords (loopOf n x) ++_) (loops-flat (suc n) l)
+loops-flat : (s : List ℤ) (c : List ℕ) (k n : ℕ) → flatMap loopWords (loopsFrom s c k n) ≡ spans (λ i. loopWords (loopAt s c i)) k n
+unfolding loopsFrom spans flatMap
+loops-flat s c k zero = refl
+loops-flat s c k (suc n) = ap (loopWords (loopAt s c k) ++_) (loops-flat s c (suc k) n)
 
-pub loops-parts : (N : Nest) → NestIn N → counted loopWords (loopsOf N) ≡ pos (N .depth) ∷ parts (λ k x. loopWords (loopOf k x)) 0 (take (N .depth) (N .loops))
-unfolding loopsOf counted
-loops-parts N i = let e = i .few in let r = i .room in
-    ap₂ (λ m ws. pos m ∷ ws) (loops-length 0 (take (N .depth) (N .loops)) ∙ length-take-le (N .depth) (N .loops) (omega arith)) (loops-flat 0 (take (N .depth) (N .loops)))
-
-pub shape-parts : (a : Shape) → ShapeIn a → arrayWords (shapeOf a) ≡ pos (a .dimensions) ∷ parts (λ _ n. pos n ∷ []) 0 (take (a .dimensions) (a .extents))
-unfolding arrayWords shapeOf counted
-shape-parts a i = let e = i .few in let r = i .room in
-    ap₂ (λ m ws. pos m ∷ ws) (length-take-le (a .dimensions) (a .extents) (omega arith)) (flat-parts (λ n. pos n ∷ []) 0 (take (a .dimensions) (a .extents)))
-
-pub arrays-parts : (A : Arrays) → ArraysIn A → counted arrayWords (arraysOf A) ≡ pos (A .count) ∷ parts (λ _ a. arrayWords (shapeOf a)) 0 (take (A .count) (A .shapes))
-unfolding arraysOf
-arrays-parts A i = let e = i .few in let r = i .room in counted-parts arrayWords shapeOf (A .count) (A .shapes) (omega arith)
-
-pub access-parts : (n : ℕ) (a : Access) → accessWords (accessOf n a) ≡ pos (a .array + 1) ∷ parts (λ _ s. subscriptWords (subscriptOf n s)) 0 (take (a .dimensions) (a .subscripts))
-unfolding accessWords accessOf subscriptWords
-access-parts n a = ap₂ (λ m ws. pos m ∷ ws) (sym (add-one (a .array))) (map-parts (λ (s : Model.Subscript). s .constant ∷ s .coefficients) (subscriptOf n) 0 (take (a .dimensions) (a .subscripts)))
-
--- an array's number leaves room for one more
-pub access-array : {o : List ℕ} {at : ℕ} (n : ℕ) (a : Access) → Writable o at (accessWords (accessOf n a)) → a .array + 1 ≤ 32767
-unfolding accessWords accessOf
-access-array n a h = let s = h .small (pos (suc (a .array))) (List·Memᴰ·head refl) in omega arith
-
-pub accesses-room : {n : ℕ} {l : List Access} → AccessesIn n l → n ≤ length l
-accesses-room i = let e = i .few in let r = i .room in omega arith
-
-pub statements-parts : (n : ℕ) (B : Body) → BodyIn B → counted statementWords (statementsOf n B) ≡ pos (B .count) ∷ parts (λ _ s. statementWords (statementOf n s)) 0 (take (B .count) (B .statements))
-unfolding statementsOf
-statements-parts n B i = let e = i .few in let r = i .room in counted-parts statementWords (statementOf n) (B .count) (B .statements) (omega arith)
-
-pub statement-parts : (n : ℕ) (s : Statement)
-    → statementWords (statementOf n s) ≡ pos (s .rule) ∷ pos (s .constant) ∷ (accessWords (accessOf n (s .write)) ++ counted accessWords (map (accessOf n) (take (s .reads) (s .read))))
-unfolding statementWords statementOf
-statement-parts n s = ap (λ ws. pos (s .rule) ∷ pos (s .constant) ∷ (ws ++ counted accessWords (map (accessOf n) (take (s .reads) (s .read))))) (flatMap-one accessWords (accessOf n (s .write)))
+pub loops-spans : (s : List ℤ) (c : List ℕ) (n : ℕ) → counted loopWords (loopsFrom s c 0 n) ≡ pos n ∷ spans (λ i. loopWords (loopAt s c i)) 0 n
+unfolding counted
+loops-spans s c n = ap₂ (λ m ws. pos m ∷ ws) (loops-length s c 0 n) (loops-flat s c 0 n)

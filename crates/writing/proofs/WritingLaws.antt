@@ -1,20 +1,19 @@
--- Words written one after another. In order: two parts; the parts of a list, each made from an element and its number (`parts`);
--- a loop that writes them (`Filling`); one word.
-use mathlib.Core.Path.{_≡_, refl, sym, ap, _∙_, subst}
+-- Words written one after another. In order: two parts; parts, each made from its number (`spans`); a loop that writes them (`Filling`); one
+-- word.
+use mathlib.Core.Path.{_≡_, refl, sym, ap, ap₂, _∙_, subst}
 use mathlib.Core.List.{List, [], _∷_, _++_, flatMap, append-assoc, append-nil, List·Memᴰ·head}
-use Prim.Native.Nat.{ℕ, suc, _+_, _-_, _/_, _%_, _≤_, _<_}
-use native.Mathlib.Numerals.{add-one}
+use Prim.Native.Nat.{ℕ, zero, suc, _+_, _-_, _/_, _%_, _≤_, _<_}
+use native.Mathlib.Nat.{add-zero, zero-add, add-suc, suc-add}
 use native.Mathlib.Omega.{arith}
 use lib.IntN.{ℤ, pos, negsuc}
-use lib.ListN.{length, getD, take, drop, set, length-append}
-use lib.Seq.{take-suc, take-add, length-take-le, getD-take}
-use mir.Syntax.{w32}
+use lib.ListN.{length, set, length-append}
+use mir.Syntax.{w16, w32}
 use mir.Val.{toZ, ofZ, SFits}
 use mir.Facts.{toZ-ofZ}
-use Rattle.lists.specs.Membership.{All}
 use Rattle.lists.specs.Parts.{put}
-use Rattle.lists.proofs.MembershipLaws.{all-left, all-right, all-getD}
+use Rattle.lists.proofs.MembershipLaws.{all-left, all-right}
 use Rattle.lists.proofs.PartLaws.{put-nil, put-put, length-put, set-is-put, set-put}
+use Rattle.integers.proofs.RangeLaws.{sfits, sfits-up, sfits-down}
 use Rattle.model.specs.Words.{bits, wordBytes, bytesOf}
 use Rattle.model.specs.Ranges.{Small}
 use Rattle.model.proofs.Grammar.WordLaws.{bytes-append, length-bytes}
@@ -22,7 +21,7 @@ use Rattle.writing.specs.Writing.{Writable, Written}
 
 -- ---- two parts
 
-pub written-none : (o : List ℕ) (at : ℕ) → Written o o at [] at
+written-none : (o : List ℕ) (at : ℕ) → Written o o at [] at
 unfolding bytesOf flatMap
 written-none o at = record { same = sym (put-nil o at); next = omega arith }
 
@@ -49,81 +48,86 @@ module _ {o : List ℕ} {at : ℕ} (us vs : List ℤ) (h : Writable o at (us ++ 
         next = omega arith;
       }
 
--- ---- the parts of a list
+-- ---- one part after another
 
-unfoldable pub parts : {A : Type 0} → (ℕ → A → List ℤ) → ℕ → List A → List ℤ
-parts f n [] = []
-parts f n (x ∷ l) = f n x ++ parts f (suc n) l
+-- parts j, j + 1, .. of n parts
+unfoldable pub spans : (ℕ → List ℤ) → ℕ → ℕ → List ℤ
+spans f j zero = []
+spans f j (suc n) = f j ++ spans f (suc j) n
 
-module _ {A : Type 0} (f : ℕ → A → List ℤ) where
-  parts-append : (n : ℕ) (l m : List A) → parts f n (l ++ m) ≡ parts f n l ++ parts f (n + length l) m
-  unfolding parts
-  parts-append n [] m = ap (λ k. parts f k m) (omega arith)
-  parts-append n (x ∷ l) m = let e : suc n + length l ≡ n + suc (length l) = omega arith in
-      ap (f n x ++_) (parts-append (suc n) l m ∙ ap (λ k. parts f (suc n) l ++ parts f k m) e) ∙ sym (append-assoc (f n x) (parts f (suc n) l) (parts f (n + suc (length l)) m))
+module _ (f : ℕ → List ℤ) where
+  spans-append : (j m n : ℕ) → spans f j (m + n) ≡ spans f j m ++ spans f (j + m) n
+  unfolding spans
+  spans-append j zero n = ap₂ (spans f) (sym (add-zero j)) (zero-add n)
+  spans-append j (suc m) n =
+      ap (spans f j) (suc-add m n) ∙ ap (f j ++_) (spans-append (suc j) m n ∙ ap (λ i. spans f (suc j) m ++ spans f i n) (suc-add j m ∙ sym (add-suc j m)))
+      ∙ sym (append-assoc (f j) (spans f (suc j) m) (spans f (j + suc m) n))
 
-  -- one element more
-  pub parts-next : (l : List A) (k : ℕ) (d : A) → k < length l → parts f 0 (take (k + 1) l) ≡ parts f 0 (take k l) ++ f k (getD l k d)
-  unfolding parts
-  parts-next l k d h = let e : 0 + length (take k l) ≡ k = omega (arith, length-take-le k l (omega arith)) in
-      ap (λ m. parts f 0 (take m l)) (add-one k) ∙ ap (parts f 0) (take-suc l k d h) ∙ parts-append 0 (take k l) (getD l k d ∷ [])
-      ∙ ap (λ m. parts f 0 (take k l) ++ (f m (getD l k d) ++ [])) e ∙ ap (parts f 0 (take k l) ++_) (append-nil (f k (getD l k d)))
+  -- one part more
+  spans-next : (j k : ℕ) → spans f j (k + 1) ≡ spans f j k ++ f (j + k)
+  unfolding spans
+  spans-next j k = spans-append j k 1 ∙ ap (spans f j k ++_) (append-nil (f (j + k)))
 
-  -- more elements
-  parts-front : (l : List A) (k n : ℕ) → k ≤ n → parts f 0 (take n l) ≡ parts f 0 (take k l) ++ parts f (0 + length (take k l)) (take (n - k) (drop k l))
-  parts-front l k n h = let e : n ≡ k + (n - k) = omega arith in
-      ap (λ m. parts f 0 (take m l)) e ∙ ap (parts f 0) (take-add k (n - k) l) ∙ parts-append 0 (take k l) (take (n - k) (drop k l))
+-- ---- a loop that writes n parts from part j on, after k rounds
 
--- ---- a loop that writes the first n parts, after k rounds
-
-pub record Filling {A : Type 0} (f : ℕ → A → List ℤ) (o : List ℕ) (at n : ℕ) (l : List A) (out : List ℕ) (next k : ℕ) : Type 0 where
+pub record Filling (f : ℕ → List ℤ) (o : List ℕ) (at j n : ℕ) (out : List ℕ) (next k : ℕ) : Type 0 where
   pub low : k ≤ n
-  pub room : n ≤ length l
-  pub whole : Writable o at (parts f 0 (take n l))
-  pub written : Written o out at (parts f 0 (take k l)) next
+  pub whole : Writable o at (spans f j n)
+  pub written : Written o out at (spans f j k) next
 
-module _ {A : Type 0} {f : ℕ → A → List ℤ} {o : List ℕ} {at n : ℕ} {l : List A} where
-  pub fill-start : n ≤ length l → Writable o at (parts f 0 (take n l)) → Filling f o at n l o at 0
-  unfolding parts
-  fill-start h w = record { low = omega arith; room = h; whole = w; written = written-none o at }
+module _ {f : ℕ → List ℤ} {o : List ℕ} {at j n : ℕ} where
+  fill-start : Writable o at (spans f j n) → Filling f o at j n o at 0
+  unfolding spans
+  fill-start w = record { low = omega arith; whole = w; written = written-none o at }
 
-  module _ {out : List ℕ} {next k : ℕ} (i : Filling f o at n l out next k) where
-    so-far : (j : ℕ) → j ≤ n → Writable o at (parts f 0 (take j l))
-    so-far j h = writable-left (parts f 0 (take j l)) (parts f (0 + length (take j l)) (take (n - j) (drop j l))) (subst (Writable o at) (parts-front f l j n h) (i .whole))
+  module _ {out : List ℕ} {next k : ℕ} (i : Filling f o at j n out next k) where
+    both : k < n → Writable o at (spans f j k ++ f (j + k))
+    both h = let e : n ≡ (k + 1) + (n - (k + 1)) = omega arith in
+        subst (Writable o at) (spans-next f j k)
+        (writable-left (spans f j (k + 1)) (spans f (j + (k + 1)) (n - (k + 1))) (subst (Writable o at) (ap (spans f j) e ∙ spans-append f j (k + 1) (n - (k + 1))) (i .whole)))
 
-    both : (d : A) → k < n → Writable o at (parts f 0 (take k l) ++ f k (getD l k d))
-    both d h = let r = i .room in subst (Writable o at) (parts-next f l k d (omega arith)) (so-far (k + 1) (omega arith))
+    pub fill-next : k < n → Writable out next (f (j + k))
+    fill-next h = writable-right (spans f j k) (f (j + k)) (both h) (i .written)
 
-    pub fill-next : (d : A) → k < n → Writable out next (f k (getD l k d))
-    fill-next d h = writable-right (parts f 0 (take k l)) (f k (getD l k d)) (both d h) (i .written)
-
-    pub fill-more : {out′ : List ℕ} {q : ℕ} (d : A) → k < n → Written out out′ next (f k (getD l k d)) q → Filling f o at n l out′ q (k + 1)
-    fill-more {out′} {q} d h v = let r = i .room in record {
+    pub fill-more : {out′ : List ℕ} {q : ℕ} → k < n → Written out out′ next (f (j + k)) q → Filling f o at j n out′ q (k + 1)
+    fill-more {out′} {q} h v = record {
       low = omega arith;
-      room = r;
       whole = i .whole;
-      written = subst (λ ws. Written o out′ at ws q) (sym (parts-next f l k d (omega arith))) (written-both (parts f 0 (take k l)) (f k (getD l k d)) (both d h) (i .written) v);
+      written = subst (λ ws. Written o out′ at ws q) (sym (spans-next f j k)) (written-both (spans f j k) (f (j + k)) (both h) (i .written) v);
     }
 
-    pub fill-done : n ≤ k → Written o out at (parts f 0 (take n l)) next
-    fill-done h = let s = i .low in let e : k ≡ n = omega arith in subst (λ m. Written o out at (parts f 0 (take m l)) next) e (i .written)
+    fill-done : n ≤ k → Written o out at (spans f j n) next
+    fill-done h = let s = i .low in let e : k ≡ n = omega arith in subst (λ m. Written o out at (spans f j m) next) e (i .written)
+
+-- from the first part on
+
+module _ {f : ℕ → List ℤ} {o : List ℕ} {at n : ℕ} {out : List ℕ} {next k : ℕ} (i : Filling f o at 0 n out next k) (h : k < n) where
+  pub front-next : Writable out next (f k)
+  front-next = subst (λ m. Writable out next (f m)) (zero-add k) (fill-next i h)
+
+  pub front-more : {out′ : List ℕ} {q : ℕ} → Written out out′ next (f k) q → Filling f o at 0 n out′ q (k + 1)
+  front-more {out′} {q} v = fill-more i h (subst (λ m. Written out out′ next (f m) q) (sym (zero-add k)) v)
 
 -- a word and then the parts
 
 pub head-room : {o : List ℕ} {at : ℕ} {ws rest : List ℤ} {w : ℤ} → ws ≡ w ∷ rest → Writable o at ws → Writable o at (w ∷ [])
 head-room {o} {at} {ws} {rest} {w} e h = writable-left (w ∷ []) rest (subst (Writable o at) e h)
 
-module _ {A : Type 0} {f : ℕ → A → List ℤ} {o o′ : List ℕ} {at r n : ℕ} {l : List A} {ws : List ℤ} {w : ℤ} where
-  pub head-start : ws ≡ w ∷ parts f 0 (take n l) → Writable o at ws → n ≤ length l → Written o o′ at (w ∷ []) r → Filling f o′ r n l o′ r 0
-  head-start e h b v = fill-start b (writable-right (w ∷ []) (parts f 0 (take n l)) (subst (Writable o at) e h) v)
+module _ {f : ℕ → List ℤ} {o o′ : List ℕ} {at r j n : ℕ} {ws : List ℤ} {w : ℤ} (e : ws ≡ w ∷ spans f j n) (h : Writable o at ws) (v : Written o o′ at (w ∷ []) r) where
+  pub head-start : Filling f o′ r j n o′ r 0
+  head-start = fill-start (writable-right (w ∷ []) (spans f j n) (subst (Writable o at) e h) v)
 
-  pub head-done : {out : List ℕ} {next k : ℕ} → ws ≡ w ∷ parts f 0 (take n l) → Writable o at ws → Written o o′ at (w ∷ []) r → Filling f o′ r n l out next k → n ≤ k → Written o out at ws next
-  head-done {out} {next} {k} e h v i b =
-      subst (λ us. Written o out at us next) (sym e) (written-both (w ∷ []) (parts f 0 (take n l)) (subst (Writable o at) e h) v (fill-done i b))
+  pub head-done : {out : List ℕ} {next k : ℕ} → Filling f o′ r j n out next k → n ≤ k → Written o out at ws next
+  head-done {out} {next} {k} i b = subst (λ us. Written o out at us next) (sym e) (written-both (w ∷ []) (spans f j n) (subst (Writable o at) e h) v (fill-done i b))
 
--- what holds of the first n elements holds of each
-pub all-at : {A : Type 0} (P : A → Type 0) (l : List A) (n k : ℕ) (d : A) → n ≤ length l → k < n → All P (take n l) → P (getD l k d)
-all-at P l n k d h b a = subst P (getD-take n l k d b) (all-getD P (take n l) k d a (let e = length-take-le n l h in omega arith))
+-- parts with nothing before them
+
+module _ {f : ℕ → List ℤ} {o : List ℕ} {at j n : ℕ} {ws : List ℤ} (e : ws ≡ spans f j n) where
+  pub bare-start : Writable o at ws → Filling f o at j n o at 0
+  bare-start h = fill-start (subst (Writable o at) e h)
+
+  pub bare-done : {out : List ℕ} {next k : ℕ} → Filling f o at j n out next k → n ≤ k → Written o out at ws next
+  bare-done {out} {next} {k} i b = subst (λ us. Written o out at us next) (sym e) (fill-done i b)
 
 -- ---- one word
 
@@ -138,12 +142,20 @@ pub small-fits : (z : ℤ) → Small z → SFits w32 z
 small-fits (pos n) s = record { sfits = omega arith }
 small-fits (negsuc n) s = record { sfits = omega arith }
 
+pub word-wide : {z : ℤ} → SFits w16 z → SFits w32 z
+word-wide {z} h = let u = sfits-up w16 z h in let d = sfits-down w16 z h in sfits (omega arith)
+
 -- a word that was passed on as bits
 pub kept : {o : List ℕ} {at : ℕ} {rest : List ℤ} (z : ℤ) → Writable o at (z ∷ rest) → toZ w32 (ofZ w32 z) ≡ z
 kept z h = toZ-ofZ (small-fits z (h .small z (List·Memᴰ·head refl)))
 
-pub kept-room : {o : List ℕ} {at : ℕ} {rest : List ℤ} (z : ℤ) → Writable o at (z ∷ rest) → Writable o at (toZ w32 (ofZ w32 z) ∷ [])
-kept-room {o} {at} {rest} z h = rw (kept z h) (writable-left (z ∷ []) rest h)
+-- a word that was read, and passed on as bits
+module _ {r z : ℤ} (e : r ≡ z) {o : List ℕ} {at : ℕ} (h : Writable o at (z ∷ [])) where
+  same : toZ w32 (ofZ w32 r) ≡ z
+  same = ap (λ y. toZ w32 (ofZ w32 y)) e ∙ kept z h
 
-pub kept-written : {o o′ : List ℕ} {at r : ℕ} {rest : List ℤ} (z : ℤ) → Writable o at (z ∷ rest) → Written o o′ at (toZ w32 (ofZ w32 z) ∷ []) r → Written o o′ at (z ∷ []) r
-kept-written z h w = rw (kept z h) at w
+  pub kept-room : Writable o at (toZ w32 (ofZ w32 r) ∷ [])
+  kept-room = subst (λ y. Writable o at (y ∷ [])) (sym same) h
+
+  pub kept-written : {o′ : List ℕ} {q : ℕ} → Written o o′ at (toZ w32 (ofZ w32 r) ∷ []) q → Written o o′ at (z ∷ []) q
+  kept-written {o′} {q} w = subst (λ y. Written o o′ at (y ∷ []) q) same w

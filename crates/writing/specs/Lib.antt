@@ -1,3 +1,3 @@
 -- What writing leaves in the buffer, and what may be written.
 pub mod Writing
-pub mod Held
+pub mod Loops

@@ -1,18 +1,15 @@
-// Words and loops as bytes into a lent buffer.
+// Words and loops as bytes into a lent buffer. `at` is a place in the buffer, and a writer answers the place behind what it wrote.
 ghost use mathlib.Core.Path.{_≡_};
-ghost use mathlib.Core.List.{[], _∷_};
+ghost use mathlib.Core.List.{[], _∷_, map};
 ghost use Prim.Native.Nat.{_+_, _≤_, _<_, _%_, _/_};
 ghost use lib.IntN.{pos, natAbs};
-ghost use lib.ListN.{length, take};
+ghost use lib.ListN.{length, getD, take, drop};
 ghost use Rattle.lists.specs.Parts.{put};
 ghost use Rattle.model.specs.Words.{bits};
 ghost use Rattle.model.specs.Encode.{counted, limitWords, loopWords};
-ghost use Rattle.nest.specs.Nested.{limitOf, sideOf, loopOf, loopsOf, LimitIn, SideIn, LoopIn, NestIn};
+ghost use Rattle.bounds.specs.Flat.{limitsAt, loopAt, loopsFrom, NestOk};
 ghost use Rattle.writing.specs.Writing.{Writable, Written};
-use nest::Limit;
-use nest::Loop;
-use nest::Nest;
-use nest::Side;
+ghost use Rattle.writing.specs.Loops.{LimitsIn, LoopIn};
 
 // Two bytes, the lower first.
 fn put_bits(out: &mut [u8], at: usize, v: usize)
@@ -52,69 +49,83 @@ pub fn put_natural(out: &mut [u8], at: usize, n: usize) -> usize
     at + 2
 }
 
-// The first n numbers of a row.
-pub fn put_row(out: &mut [u8], at: usize, n: usize, row: [i32; 6]) -> usize
-    requires { ⌜ Writable (now out) at (take n row) × (n ≤ 6) × (length row ≡ 6) ⌝ }
-    ensures { λ r. ⌜ Written (now (out .entry)) (now (out .exit)) at (take n row) r ⌝ }
+fn wide(x: i16) -> i32
+    ensures { λ r. ⌜ r ≡ x ⌝ }
+{
+    x as i32
+}
+
+fn word(words: &[i16], i: usize) -> i32
+    requires { ⌜ i < length (now words) ⌝ }
+    ensures { λ r. ⌜ r ≡ getD (now (words .entry)) i (pos 0) ⌝ }
+{
+    wide(words[i])
+}
+
+// n words from word i on.
+pub fn put_words(out: &mut [u8], at: usize, words: &[i16], i: usize, n: usize) -> usize
+    requires { ⌜ Writable (now out) at (take n (drop i (now words))) × (i + n ≤ length (now words)) ⌝ }
+    ensures { λ r. ⌜ Written (now (out .entry)) (now (out .exit)) at (take n (drop i (now (words .entry)))) r ⌝ }
 {
     let mut next = at;
     let mut k = 0;
     while k < n {
-        next = put_word(out, next, row[k]);
+        next = put_word(out, next, word(words, i + k));
         k += 1;
     }
     next
 }
 
-// A limit of a loop that has `outer` loops outside.
-fn put_limit(out: &mut [u8], at: usize, outer: usize, l: Limit) -> usize
-    requires { ⌜ Writable (now out) at (limitWords (limitOf outer l)) × (outer ≤ 6) × LimitIn l ⌝ }
-    ensures { λ r. ⌜ Written (now (out .entry)) (now (out .exit)) at (limitWords (limitOf outer l)) r ⌝ }
+// n numbers from number i on.
+pub fn put_naturals(out: &mut [u8], at: usize, numbers: &[usize], i: usize, n: usize) -> usize
+    requires { ⌜ Writable (now out) at (map pos (take n (drop i (now numbers)))) × (i + n ≤ length (now numbers)) ⌝ }
+    ensures { λ r. ⌜ Written (now (out .entry)) (now (out .exit)) at (map pos (take n (drop i (now (numbers .entry))))) r ⌝ }
 {
-    let constant = l.constant;
-    let coefficients = l.coefficients;
-    let second = put_natural(out, at, l.multiplier as usize);
-    let third = put_word(out, second, constant);
-    put_row(out, third, outer, coefficients)
-}
-
-fn put_side(out: &mut [u8], at: usize, outer: usize, s: Side) -> usize
-    requires { ⌜ Writable (now out) at (counted limitWords (sideOf outer s)) × (outer ≤ 6) × SideIn s ⌝ }
-    ensures { λ r. ⌜ Written (now (out .entry)) (now (out .exit)) at (counted limitWords (sideOf outer s)) r ⌝ }
-{
-    let count = s.count;
-    let limits = s.limits;
-    let mut next = put_natural(out, at, count);
+    let mut next = at;
     let mut k = 0;
-    while k < count {
-        let l = limits[k];
-        next = put_limit(out, next, outer, l);
+    while k < n {
+        next = put_natural(out, next, numbers[i + k]);
         k += 1;
     }
     next
 }
 
-fn put_loop(out: &mut [u8], at: usize, outer: usize, l: Loop) -> usize
-    requires { ⌜ Writable (now out) at (loopWords (loopOf outer l)) × (outer ≤ 6) × LoopIn l ⌝ }
-    ensures { λ r. ⌜ Written (now (out .entry)) (now (out .exit)) at (loopWords (loopOf outer l)) r ⌝ }
+// n limits from limit j on behind their count, of a loop that has `outer` loops outside.
+fn put_side(out: &mut [u8], at: usize, limits: &[i16], outer: usize, j: usize, n: usize) -> usize
+    requires { ⌜ Writable (now out) at (counted limitWords (limitsAt (now limits) outer j n)) × LimitsIn (now limits) outer j n ⌝ }
+    ensures { λ r. ⌜ Written (now (out .entry)) (now (out .exit)) at (counted limitWords (limitsAt (now (limits .entry)) outer j n)) r ⌝ }
 {
-    let lower = l.lower;
-    let upper = l.upper;
-    let next = put_side(out, at, outer, lower);
-    put_side(out, next, outer, upper)
+    let mut next = put_natural(out, at, n);
+    let mut k = 0;
+    while k < n {
+        next = put_words(out, next, limits, (j + k) * 8, outer + 2);
+        k += 1;
+    }
+    next
 }
 
-pub fn put_loops(out: &mut [u8], at: usize, nest: Nest) -> usize
-    requires { ⌜ Writable (now out) at (counted loopWords (loopsOf nest)) × NestIn nest ⌝ }
-    ensures { λ r. ⌜ Written (now (out .entry)) (now (out .exit)) at (counted loopWords (loopsOf nest)) r ⌝ }
+// Loop k of all: the lower side, the upper side.
+fn put_loop(out: &mut [u8], at: usize, limits: &[i16], counts: &[usize], k: usize) -> usize
+    requires { ⌜ Writable (now out) at (loopWords (loopAt (now limits) (now counts) k)) × LoopIn (now limits) (now counts) k ⌝ }
+    ensures { λ r. ⌜ Written (now (out .entry)) (now (out .exit)) at (loopWords (loopAt (now (limits .entry)) (now (counts .entry)) k)) r ⌝ }
 {
-    let depth = nest.depth;
-    let loops = nest.loops;
+    let lower = counts[k * 2];
+    let upper = counts[k * 2 + 1];
+    let first = k * 32;
+    let second = first + 16;
+    let next = put_side(out, at, limits, k, first, lower);
+    put_side(out, next, limits, k, second, upper)
+}
+
+// All loops behind their count.
+pub fn put_loops(out: &mut [u8], at: usize, limits: &[i16], counts: &[usize], depth: usize) -> usize
+    requires { ⌜ Writable (now out) at (counted loopWords (loopsFrom (now limits) (now counts) 0 depth)) × NestOk (now limits) (now counts) depth ⌝ }
+    ensures { λ r. ⌜ Written (now (out .entry)) (now (out .exit)) at (counted loopWords (loopsFrom (now (limits .entry)) (now (counts .entry)) 0 depth)) r ⌝ }
+{
     let mut next = put_natural(out, at, depth);
     let mut k = 0;
     while k < depth {
-        let l = loops[k];
-        next = put_loop(out, next, k, l);
+        next = put_loop(out, next, limits, counts, k);
         k += 1;
     }
     next

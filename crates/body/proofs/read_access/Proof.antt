@@ -1,39 +1,26 @@
--- `read_access`: k subscripts are read, and the rest goes on from `next`.
-use borrow.Author.Needs.{needs}
-use mathlib.Core.Path.{_≡_, refl, sym, _∙_}
-use mathlib.Core.List.{List, map}
-use Prim.Native.Nat.{ℕ, _+_, _-_, _≤_}
+-- `read_access`: the array, then d subscripts are read and laid, and the rest goes on from `next`.
+use mathlib.Core.Path.{refl, sym}
+use mathlib.Core.List.{[]}
 use native.Mathlib.Omega.{arith}
-use lib.ListN.{length, take, length-set}
-use Rattle.lists.specs.Membership.{All}
-use Rattle.lists.proofs.MembershipLaws.{all-nil}
-use Rattle.model.specs.Grammar as Grammar
-use Rattle.model.specs.Grammar.{times}
-use Rattle.reading.specs.Refusals.{Reached}
+use lib.ListN.{length-set}
 use Rattle.reading.specs.Words.{naturalAnswer, OnNatural}
-use Rattle.reading.proofs.ReaderLaws.{seen, known-of, read-value, read-refusal, refused-here, before, times-start, times-no, fill-more, fill-done, all-more, all-read}
-use Rattle.body.specs.Statements.{subscriptOf, SubscriptIn}
-use Rattle.body.specs.declared.Subscript.{Subscript}
-use Rattle.body.proofs.AccessLaws.{no-array, no-subscripts, one-access}
+use Rattle.reading.proofs.ReaderLaws.{seen, known-of, read-value, read-refusal, not-fine}
+use Rattle.body.proofs.AccessLaws.{array-count, array-dimensions, no-array, no-subscripts, one-access, filling-starts, next-in, filling-more, filling-no, filling-done, filling-laid}
+use borrow.Author.Needs.{needs}
+use Prim.Native.Nat.{_+_, _-_}
+use Rattle.body.proofs.AccessLaws.{Filling}
 use Rattle.body.proofs.read_access.Statement.{statement}
 use Rattle.body.proofs.read_access.Tie as tie
 
-record Inv (b : List ℕ) (at depth dimensions : ℕ) (subscripts : List Subscript) (next k : ℕ) : Type 0 where
-  low : k ≤ dimensions
-  few : dimensions ≤ 3
-  three : length subscripts ≡ 3
-  each : All SubscriptIn (take k subscripts)
-  reached : Reached b next
-  so : times dimensions (Grammar.subscript depth) b (at + 1) ≡ before (map (subscriptOf depth) (take k subscripts)) (times (dimensions - k) (Grammar.subscript depth) b next)
-
 abbrev Inv-loop : tie.InvT-loop
-Inv-loop s at depth number array dimensions subscripts₀ next₀ k₀ subscripts next k = Inv s at depth dimensions subscripts next k
+Inv-loop s at depth extents arrays words₀ owners k number array dimensions next₀ d₀ words next d =
+    Filling s (at + 1) depth dimensions k words₀ words next d
 
 abbrev μ-loop : tie.MeasureT-loop
-μ-loop s at depth number array dimensions subscripts₀ next₀ k₀ subscripts next k = dimensions - k
+μ-loop s at depth extents arrays words₀ owners k number array dimensions next₀ d₀ words next d = dimensions - d
 
 read-natural-requires : tie.Need-read-natural-requires Inv-loop μ-loop
-read-natural-requires c κs = let f = c .before .pre .2 .few in (c .before .pre .0, omega arith)
+read-natural-requires c κs = let p = c .before .before .before .pre .0 in (p .reached, omega (arith, p .arrays .few))
 
 enum-known-v : tie.Need-enum-known-v Inv-loop μ-loop
 enum-known-v c = search needs
@@ -41,98 +28,112 @@ enum-known-v c = search needs
 enum-known-r : tie.Need-enum-known-r Inv-loop μ-loop
 enum-known-r c = search needs
 
-no-access-requires : tie.Need-no-access-requires Inv-loop μ-loop
-no-access-requires c κs = search needs
-
 returns : tie.Need-returns Inv-loop μ-loop
-returns c =
-    let e = seen (naturalAnswer _) (c .before .before .r .given .1) (c .before .before .before .before .read-natural .ensures .same) in
-    let q = c .no-access .ensures in
-    record { reads = refused-here _ (q .0) (q .1) (no-array _ _ (c .before .before .before .before .before .before .pre .2) _ _ _ _ e) (c .before .before .before .before .before .before .pre .0); within = q .2 }
+returns c = let e = seen (naturalAnswer _) (c .before .r .given .1) (c .before .before .before .read-natural .ensures .same) in
+    let p = c .before .before .before .before .before .before .before .pre .0 in
+    record {
+      access = record { array = 0; subscripts = [] };
+      reads = record { same = sym (no-array _ _ _ (array-count _ _ (p .arrays)) _ _ _ _ e); reached = p .reached };
+      words = λ f. not-fine _ refl f;
+      named = λ f. not-fine _ refl f;
+    }
 
 sub-array : tie.Need-sub-array Inv-loop μ-loop
 sub-array c = let k = known-of (OnNatural _ _ _ _) (c .before .v .given .1) (c .before .before .before .read-natural .ensures .known) in omega arith
 
-dimensions-of-requires : tie.Need-dimensions-of-requires Inv-loop μ-loop
-dimensions-of-requires c κs = let k = known-of (OnNatural _ _ _ _) (c .before .v .given .1) (c .before .before .before .read-natural .ensures .known) in (c .before .before .before .before .before .pre .2, omega arith)
+mul-dimensions : tie.Need-mul-dimensions Inv-loop μ-loop
+mul-dimensions c = let k = known-of (OnNatural _ _ _ _) (c .before .v .given .1) (c .before .before .before .read-natural .ensures .known) in omega (arith, c .before .before .before .before .before .before .before .pre .0 .arrays .few)
 
-no-subscripts-requires : tie.Need-no-subscripts-requires Inv-loop μ-loop
-no-subscripts-requires c κs = search needs
+mul-dimensions-2 : tie.Need-mul-dimensions-2 Inv-loop μ-loop
+mul-dimensions-2 c = let k = known-of (OnNatural _ _ _ _) (c .before .v .given .1) (c .before .before .before .read-natural .ensures .known) in omega (arith, c .before .before .before .before .before .before .before .pre .0 .arrays .few)
+
+shared-slice-read-dimensions : tie.Need-shared-slice-read-dimensions Inv-loop μ-loop
+shared-slice-read-dimensions c = let k = known-of (OnNatural _ _ _ _) (c .before .before .v .given .1) (c .before .before .before .before .read-natural .ensures .known) in let p = c .before .before .before .before .before .before .before .before .pre .0 .arrays in omega arith
+
+mul-owners : tie.Need-mul-owners Inv-loop μ-loop
+mul-owners c = search needs
+
+slice-write-owners : tie.Need-slice-write-owners Inv-loop μ-loop
+slice-write-owners c = let p = c .before .before .before .before .before .before .before .before .pre .0 in omega arith
 
 add-next : tie.Need-add-next Inv-loop μ-loop
 add-next c = search needs
 
 loop-holds : tie.Need-loop-holds Inv-loop μ-loop
-loop-holds c =
-    let k = known-of (OnNatural _ _ _ _) (c .before .before .before .v .given .1) (c .before .before .before .before .before .read-natural .ensures .known) in
-    record {
-      low = omega arith;
-      few = c .before .dimensions-of .ensures .1;
-      three = c .no-subscripts .ensures;
-      each = all-nil SubscriptIn;
-      reached = k .reached;
-      so = times-start (Grammar.subscript _) _ _ _;
-    }
+loop-holds c = let k = known-of (OnNatural _ _ _ _) (c .before .before .v .given .1) (c .before .before .before .before .read-natural .ensures .known) in
+    filling-starts _ _ _ _ _ _ (c .before .before .before .before .before .before .before .before .pre .0 .arrays .dimensions _ (omega arith)) (k .reached)
 
 read-subscript-requires : tie.Need-read-subscript-requires Inv-loop μ-loop
-read-subscript-requires c κs = search needs
+read-subscript-requires c κs = (c .before .loop .inv .reached, c .before .before .before .before .before .before .before .before .before .before .pre .0 .shallow)
 
 enum-told : tie.Need-enum-told Inv-loop μ-loop
 enum-told c = search needs
 
-mul-subscripts : tie.Need-mul-subscripts Inv-loop μ-loop
-mul-subscripts c = search needs
+mul-lay-subscript : tie.Need-mul-lay-subscript Inv-loop μ-loop
+mul-lay-subscript c = search needs
 
-array-set-from-subscripts : tie.Need-array-set-from-subscripts Inv-loop μ-loop
-array-set-from-subscripts c = search needs
+add-lay-subscript : tie.Need-add-lay-subscript Inv-loop μ-loop
+add-lay-subscript c = search needs
 
-add-k : tie.Need-add-k Inv-loop μ-loop
-add-k c = search needs
+lay-subscript-requires : tie.Need-lay-subscript-requires Inv-loop μ-loop
+lay-subscript-requires c κs = let e = read-value (c .before .before .enum-told .given .1) (c .before .before .before .before .read-subscript .ensures .reads) in
+    let p = c .before .before .before .before .before .before .before .before .before .before .before .before .before .before .before .pre .0 in
+    next-in _ _ _ _ _ _ _ _ _ (c .before .before .before .before .before .before .loop .inv) _ _ (c .before .before .before .before .before .loop-test .taken) e (p .words) (c .before .before .before .before .before .before .before .before .before .before .before .before .before .before .before .pre .1) (p .shallow) (c .before .before .before .before .read-subscript .ensures .within)
+
+add-d : tie.Need-add-d Inv-loop μ-loop
+add-d c = search needs
 
 loop-less : tie.Need-loop-less Inv-loop μ-loop
 loop-less c = search needs
 
 loop-again : tie.Need-loop-again Inv-loop μ-loop
-loop-again c =
-    let i = c .before .before .before .before .before .loop .inv in
-    let e = read-value (c .before .enum-told .given .1) (c .before .before .before .read-subscript .ensures .reads) in
-    record {
-      low = omega arith;
-      few = i .few;
-      three = simp length-set (i .three);
-      each = all-more SubscriptIn (c .before .before .before .before .before .loop .subscripts) (c .before .before .before .before .before .loop .k) (c .before .before .before .read-subscript .result .subscript) (omega arith) (c .before .before .before .read-subscript .ensures .within) (i .each);
-      reached = c .before .before .before .read-subscript .ensures .reads .reached;
-      so = i .so ∙ fill-more (subscriptOf _) _ _ (Grammar.subscript _) _ _ _ _ _ _ (c .before .before .before .before .loop-test .taken) (omega arith) refl e;
-    }
+loop-again c = let e = read-value (c .before .before .before .before .enum-told .given .1) (c .before .before .before .before .before .before .read-subscript .ensures .reads) in
+    filling-more _ _ _ _ _ _ _ _ _ (c .before .before .before .before .before .before .before .before .loop .inv) _ _ (c .before .before .before .before .before .before .before .loop-test .taken) e _ (c .before .lay-subscript .ensures) (search needs) (c .before .before .before .before .before .before .read-subscript .ensures .reads .reached)
 
 enum-known-status : tie.Need-enum-known-status Inv-loop μ-loop
 enum-known-status c = search needs
 
-no-access-requires-2 : tie.Need-no-access-requires-2 Inv-loop μ-loop
-no-access-requires-2 c κs = search needs
+same-length : tie.Need-same-length Inv-loop μ-loop
+same-length c = c .before .before .before .before .before .loop .inv .room
+
+same-length-2 : tie.Need-same-length-2 Inv-loop μ-loop
+same-length-2 c = simp length-set
 
 returns-2 : tie.Need-returns-2 Inv-loop μ-loop
-returns-2 c =
-    let i = c .before .before .before .before .before .before .loop .inv in
-    let e = seen (naturalAnswer _) (c .before .before .before .before .before .before .before .before .before .before .v .given .1) (c .before .before .before .before .before .before .before .before .before .before .before .before .read-natural .ensures .same) in
-    let f = read-refusal (c .before .before .status .given .1) (c .before .before .before .before .read-subscript .ensures .reads) in
-    let q = c .no-access2 .ensures in
+returns-2 c = let i = c .before .before .before .before .before .loop .inv in
+    let k = known-of (OnNatural _ _ _ _) (c .before .before .before .before .before .before .before .before .v .given .1) (c .before .before .before .before .before .before .before .before .before .before .read-natural .ensures .known) in
+    let e = seen (naturalAnswer _) (c .before .before .before .before .before .before .before .before .v .given .1) (c .before .before .before .before .before .before .before .before .before .before .read-natural .ensures .same) in
+    let g = read-refusal (c .before .status .given .1) (c .before .before .before .read-subscript .ensures .reads) in
+    let p = c .before .before .before .before .before .before .before .before .before .before .before .before .before .before .pre .0 in
     record {
-      reads = refused-here _ (q .0) (q .1)
-          (no-subscripts _ _ (c .before .before .before .before .before .before .before .before .before .before .before .before .before .before .pre .2) _ _ _ _ (c .before .before .before .before .before .before .before .before .dimensions-of .ensures .0) e _ _ (i .so ∙ times-no (Grammar.subscript _) _ _ _ _ _ _ _ (c .before .before .before .before .before .loop-test .taken) f)) (c .before .before .before .before .before .before .before .before .before .before .before .before .before .before .pre .0);
-      within = q .2;
+      access = record { array = 0; subscripts = [] };
+      reads = record {
+        same = sym (no-subscripts _ _ _ (array-count _ _ (p .arrays)) _ _ _ _ (array-dimensions _ _ (p .arrays) _ (omega arith)) e _ _ (filling-no _ _ _ _ _ _ _ _ _ i _ _ (c .before .before .before .before .loop-test .taken) g));
+        reached = p .reached;
+      };
+      words = λ f. not-fine _ refl f;
+      named = λ f. not-fine _ refl f;
     }
 
+same-length-3 : tie.Need-same-length-3 Inv-loop μ-loop
+same-length-3 c = c .before .loop .inv .room
+
+same-length-4 : tie.Need-same-length-4 Inv-loop μ-loop
+same-length-4 c = simp length-set
+
 returns-3 : tie.Need-returns-3 Inv-loop μ-loop
-returns-3 c =
-    let i = c .before .loop .inv in
-    let e = seen (naturalAnswer _) (c .before .before .before .before .before .v .given .1) (c .before .before .before .before .before .before .before .read-natural .ensures .same) in
+returns-3 c = let i = c .before .loop .inv in
+    let k = known-of (OnNatural _ _ _ _) (c .before .before .before .before .v .given .1) (c .before .before .before .before .before .before .read-natural .ensures .known) in
+    let e = seen (naturalAnswer _) (c .before .before .before .before .v .given .1) (c .before .before .before .before .before .before .read-natural .ensures .same) in
+    let p = c .before .before .before .before .before .before .before .before .before .before .pre .0 in
     record {
+      access = record { array = _; subscripts = i .subscripts };
       reads = record {
-        same = sym (one-access _ _ (c .before .before .before .before .before .before .before .before .before .pre .2) _ _ _ _ (c .before .before .before .dimensions-of .ensures .0) e _ _ (i .so ∙ fill-done (subscriptOf _) _ _ (Grammar.subscript _) _ _ _ (i .low) (c .loop-test .left)));
+        same = sym (one-access _ _ _ (array-count _ _ (p .arrays)) _ _ _ _ (array-dimensions _ _ (p .arrays) _ (omega arith)) e _ _ (filling-done _ _ _ _ _ _ _ _ _ i (c .loop-test .left)));
         reached = i .reached;
       };
-      within = record { few = i .few; room = i .three; each = all-read SubscriptIn (c .before .loop .subscripts) (c .before .loop .k) _ (i .low) (c .loop-test .left) (i .each) };
+      words = λ f. filling-laid _ _ _ _ _ _ _ _ _ i _;
+      named = λ f. refl;
     }
 
 pub read-access-spec : {M : Type 1} → statement M
@@ -144,21 +145,27 @@ read-access-spec =
     read-natural-requires
     enum-known-v
     enum-known-r
-    no-access-requires
     returns
     sub-array
-    dimensions-of-requires
-    no-subscripts-requires
+    mul-dimensions
+    mul-dimensions-2
+    shared-slice-read-dimensions
+    mul-owners
+    slice-write-owners
     add-next
     loop-holds
     read-subscript-requires
     enum-told
-    mul-subscripts
-    array-set-from-subscripts
-    add-k
+    mul-lay-subscript
+    add-lay-subscript
+    lay-subscript-requires
+    add-d
     loop-less
     loop-again
     enum-known-status
-    no-access-requires-2
+    same-length
+    same-length-2
     returns-2
+    same-length-3
+    same-length-4
     returns-3)

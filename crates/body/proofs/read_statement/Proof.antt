@@ -1,9 +1,9 @@
 -- `read_statement`: rule, constant, the write and the reads, one after another.
-use mathlib.Core.Path.{sym}
+use mathlib.Core.List.{[]}
 use native.Mathlib.Omega.{arith}
 use Rattle.reading.specs.Words.{naturalAnswer, OnNatural}
-use Rattle.reading.proofs.ReaderLaws.{seen, known-of, read-value, read-refusal, refused-here}
-use Rattle.body.proofs.StatementLaws.{no-rule, no-constant, no-write, no-reads, one-statement}
+use Rattle.reading.proofs.ReaderLaws.{seen, known-of, refused-here, not-fine}
+use Rattle.body.proofs.StatementLaws.{no-rule, no-constant, statement-reads}
 use borrow.Author.Needs.{needs}
 use Rattle.body.proofs.read_statement.Statement.{statement}
 use Rattle.body.proofs.read_statement.Tie as tie
@@ -21,10 +21,14 @@ no-statement-requires : tie.Need-no-statement-requires
 no-statement-requires c κs = search needs
 
 returns : tie.Need-returns
-returns c =
-    let e = seen (naturalAnswer _) (c .before .before .r .given .1) (c .before .before .before .before .read-natural .ensures .same) in
+returns c = let e = seen (naturalAnswer _) (c .before .before .r .given .1) (c .before .before .before .before .read-natural .ensures .same) in
     let q = c .no-statement .ensures in
-    record { reads = refused-here _ (q .0) (q .1) (no-rule _ _ _ _ _ _ e) (c .before .before .before .before .before .before .pre .0); within = q .2 }
+    record {
+      statement = record { rule = 0; constant = 0; writes = []; reads = [] };
+      reads = refused-here _ (q .0) (q .1) (no-rule _ _ _ _ _ _ e) (c .before .before .before .before .before .before .before .before .pre .0 .reached);
+      few = omega (arith, q .2);
+      laid = λ f. not-fine _ (q .0) f;
+    }
 
 add-read-natural : tie.Need-add-read-natural
 add-read-natural c = search needs
@@ -45,78 +49,52 @@ no-statement-requires-2 : tie.Need-no-statement-requires-2
 no-statement-requires-2 c κs = search needs
 
 returns-2 : tie.Need-returns-2
-returns-2 c =
-    let e = seen (naturalAnswer _) (c .before .before .before .before .before .before .before .v .given .1) (c .before .before .before .before .before .before .before .before .before .read-natural .ensures .same) in
+returns-2 c = let e = seen (naturalAnswer _) (c .before .before .before .before .before .before .before .v .given .1) (c .before .before .before .before .before .before .before .before .before .read-natural .ensures .same) in
     let f = seen (naturalAnswer _) (c .before .before .r2 .given .1) (c .before .before .before .before .read-natural2 .ensures .same) in
     let q = c .no-statement2 .ensures in
-    record { reads = refused-here _ (q .0) (q .1) (no-constant _ _ _ _ _ _ (c .before .before .before .before .before .most-constant .ensures .0) e _ _ f) (c .before .before .before .before .before .before .before .before .before .before .before .pre .0); within = q .2 }
+    record {
+      statement = record { rule = 0; constant = 0; writes = []; reads = [] };
+      reads = refused-here _ (q .0) (q .1) (no-constant _ _ _ _ _ _ (c .before .before .before .before .before .most-constant .ensures .0) e _ _ f) (c .before .before .before .before .before .before .before .before .before .before .before .before .before .pre .0 .reached);
+      few = omega (arith, q .2);
+      laid = λ f. not-fine _ (q .0) f;
+    }
 
 add-read-access : tie.Need-add-read-access
 add-read-access c = search needs
 
 read-access-requires : tie.Need-read-access-requires
-read-access-requires c κs =
-    let k = known-of (OnNatural _ _ _ _) (c .before .v2 .given .1) (c .before .before .before .read-natural2 .ensures .known) in
+read-access-requires c κs = let k = known-of (OnNatural _ _ _ _) (c .before .before .before .v2 .given .1) (c .before .before .before .before .before .read-natural2 .ensures .known) in
     let r = k .reached in
-    (record { counted = omega arith; there = omega arith }, c .before .before .before .before .before .before .before .before .before .before .pre .1, c .before .before .before .before .before .before .before .before .before .before .pre .2)
-
-enum-told : tie.Need-enum-told
-enum-told c = search needs
-
-enum-known-status : tie.Need-enum-known-status
-enum-known-status c = search needs
-
-no-statement-requires-3 : tie.Need-no-statement-requires-3
-no-statement-requires-3 c κs = search needs
-
-returns-3 : tie.Need-returns-3
-returns-3 c =
-    let e = seen (naturalAnswer _) (c .before .before .before .before .before .before .before .before .before .before .before .v .given .1) (c .before .before .before .before .before .before .before .before .before .before .before .before .before .read-natural .ensures .same) in
-    let f = seen (naturalAnswer _) (c .before .before .before .before .before .before .v2 .given .1) (c .before .before .before .before .before .before .before .before .read-natural2 .ensures .same) in
-    let g = read-refusal (c .before .before .status .given .1) (c .before .before .before .before .read-access .ensures .reads) in
-    let q = c .no-statement3 .ensures in
-    record { reads = refused-here _ (q .0) (q .1) (no-write _ _ _ _ _ _ (c .before .before .before .before .before .before .before .before .before .most-constant .ensures .0) e _ f _ _ g) (c .before .before .before .before .before .before .before .before .before .before .before .before .before .before .before .pre .0); within = q .2 }
+    let p = c .before .before .before .before .before .before .before .before .before .before .before .before .before .before .pre .0 in
+    (record { reached = record { counted = omega arith; there = omega arith }; shallow = p .shallow; arrays = p .arrays; words = p .words; owners = p .owners }, omega (arith, c .before .before .before .before .before .before .before .before .before .before .before .before .before .before .pre .1))
 
 least-reads-requires : tie.Need-least-reads-requires
 least-reads-requires c κs = search needs
 
+add-read-accesses : tie.Need-add-read-accesses
+add-read-accesses c = search needs
+
 read-accesses-requires : tie.Need-read-accesses-requires
-read-accesses-requires c κs = (c .before .before .before .read-access .ensures .reads .reached, c .before .before .before .before .before .before .before .before .before .before .before .before .before .before .pre .1, c .before .before .before .before .before .before .before .before .before .before .before .before .before .before .pre .2)
+read-accesses-requires c κs = let p = c .before .before .before .before .before .before .before .before .before .before .before .before .before .before .before .before .before .before .before .before .before .pre .0 in
+    (record { reached = c .before .before .before .before .before .before .read-access .ensures .reads .reached; shallow = p .shallow; arrays = p .arrays; words = omega arith; owners = omega arith }, omega (arith, c .before .before .before .before .before .before .before .before .before .before .before .before .before .before .before .before .before .before .before .before .before .pre .1))
 
-enum-told-2 : tie.Need-enum-told-2
-enum-told-2 c = search needs
+first-of-requires : tie.Need-first-of-requires
+first-of-requires c κs = search needs
 
-enum-known-status-2 : tie.Need-enum-known-status-2
-enum-known-status-2 c = search needs
+add-t25 : tie.Need-add-t25
+add-t25 c = search needs
 
-no-statement-requires-4 : tie.Need-no-statement-requires-4
-no-statement-requires-4 c κs = search needs
+same-length : tie.Need-same-length
+same-length c = search needs
 
-returns-4 : tie.Need-returns-4
-returns-4 c =
-    let e = seen (naturalAnswer _) (c .before .before .before .before .before .before .before .before .before .before .before .before .before .before .before .v .given .1) (c .before .before .before .before .before .before .before .before .before .before .before .before .before .before .before .before .before .read-natural .ensures .same) in
-    let f = seen (naturalAnswer _) (c .before .before .before .before .before .before .before .before .before .before .v2 .given .1) (c .before .before .before .before .before .before .before .before .before .before .before .before .read-natural2 .ensures .same) in
-    let g = read-value (c .before .before .before .before .before .before .enum-told .given .1) (c .before .before .before .before .before .before .before .before .read-access .ensures .reads) in
-    let h = read-value (c .before .before .enum-told2 .given .1) (c .before .before .before .before .read-accesses .ensures .reads) in
-    record {
-      reads = record {
-        same = sym (one-statement _ _ _ _ _ _ (c .before .before .before .before .before .before .before .before .before .before .before .before .before .most-constant .ensures .0) e _ f _ _ _ (c .before .before .before .before .before .least-reads .ensures) g _ _ _ h);
-        reached = c .before .before .before .before .read-accesses .ensures .reads .reached;
-      };
-      within = record { write = c .before .before .before .before .before .before .before .before .read-access .ensures .within; read = c .before .before .before .before .read-accesses .ensures .within };
-    }
+same-length-2 : tie.Need-same-length-2
+same-length-2 c = search needs
 
-returns-5 : tie.Need-returns-5
-returns-5 c =
-    let e = seen (naturalAnswer _) (c .before .before .before .before .before .before .before .before .before .before .before .before .before .before .before .v .given .1) (c .before .before .before .before .before .before .before .before .before .before .before .before .before .before .before .before .before .read-natural .ensures .same) in
-    let f = seen (naturalAnswer _) (c .before .before .before .before .before .before .before .before .before .before .v2 .given .1) (c .before .before .before .before .before .before .before .before .before .before .before .before .read-natural2 .ensures .same) in
-    let g = read-value (c .before .before .before .before .before .before .enum-told .given .1) (c .before .before .before .before .before .before .before .before .read-access .ensures .reads) in
-    let h = read-refusal (c .before .before .status2 .given .1) (c .before .before .before .before .read-accesses .ensures .reads) in
-    let q = c .no-statement4 .ensures in
-    record {
-      reads = refused-here _ (q .0) (q .1) (no-reads _ _ _ _ _ _ (c .before .before .before .before .before .before .before .before .before .before .before .before .before .most-constant .ensures .0) e _ f _ _ _ (c .before .before .before .before .before .least-reads .ensures) g _ _ h) (c .before .before .before .before .before .before .before .before .before .before .before .before .before .before .before .before .before .before .before .pre .0);
-      within = q .2;
-    }
+returns-3 : tie.Need-returns-3
+returns-3 c = let e = seen (naturalAnswer _) (c .before .before .before .before .before .before .before .before .before .before .before .before .before .before .before .before .before .before .before .before .before .v .given .1) (c .before .before .before .before .before .before .before .before .before .before .before .before .before .before .before .before .before .before .before .before .before .before .before .read-natural .ensures .same) in
+    let f = seen (naturalAnswer _) (c .before .before .before .before .before .before .before .before .before .before .before .before .before .before .before .before .v2 .given .1) (c .before .before .before .before .before .before .before .before .before .before .before .before .before .before .before .before .before .before .read-natural2 .ensures .same) in
+    let p = c .before .before .before .before .before .before .before .before .before .before .before .before .before .before .before .before .before .before .before .before .before .before .before .before .before .before .before .pre .0 in
+    statement-reads _ _ _ _ _ _ _ _ _ _ _ _ _ _ _ _ _ _ (c .before .before .before .before .before .before .before .before .before .before .before .before .before .before .before .before .before .before .before .most-constant .ensures .0) e f (c .before .before .before .before .before .before .before .before .least-reads .ensures) (omega (arith, p .owners, c .before .before .before .before .before .before .before .before .before .before .before .before .before .before .before .before .before .before .before .before .before .before .before .before .before .before .before .pre .1)) (c .before .before .before .before .before .before .before .before .before .before .before .before .read-access .ensures) (c .before .before .before .before .before .read-accesses .ensures) (c .before .first-of .ensures)
 
 pub read-statement-spec : {M : Type 1} → statement M
 read-statement-spec =
@@ -136,14 +114,11 @@ read-statement-spec =
     returns-2
     add-read-access
     read-access-requires
-    enum-told
-    enum-known-status
-    no-statement-requires-3
-    returns-3
     least-reads-requires
+    add-read-accesses
     read-accesses-requires
-    enum-told-2
-    enum-known-status-2
-    no-statement-requires-4
-    returns-4
-    returns-5)
+    first-of-requires
+    add-t25
+    same-length
+    same-length-2
+    returns-3)

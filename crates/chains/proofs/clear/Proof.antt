@@ -46,7 +46,7 @@ loop-less c = search needs
 
 loop-again : tie.Need-loop-again Inv-loop μ-loop
 loop-again c = let s = c .before .before .before .before .before .before in let l = c .before .before .before .loop in let i = l .inv .0 in let t = c .before .before .loop-test .taken in let r = s .pre .1 in let k = l .inv .1 in
-    (omega arith, length-set (l .head) (c .wide .result) 0 ∙ l .inv .1, clear-less (s .args .from .now) (l .head) (l .y) (c .wide .result) (omega arith) t (c .wide .ensures) (l .inv .2))
+    (omega arith, length-set (l .head) (c .wide .result) 0 ∙ l .inv .1, clear-less (s .args .from .now) (l .head) (l .y) (c .wide .result) (element c .1) t (c .wide .ensures) (l .inv .2))
 
 same-length : tie.Need-same-length Inv-loop μ-loop
 same-length c = c .before .loop .inv .1

@@ -20,28 +20,28 @@ abbrev μ-loop : tie.MeasureT-loop
 μ-loop from to own head₀ out₀ any₀ y₀ head out any y = length from - y
 
 -- the two elements
-e-lt : (c : tie.After-wide Inv-loop μ-loop) → c .wide .result < 16384
+e-lt : (c : tie.After-wide Inv-loop μ-loop) → c .wide .result < length (c .before .before .before .loop .head)
 e-lt c = let s = c .before .before .before .before .before .before .before .before in let l = c .before .before .before .loop in
-    let h = s .pre .sinks (l .y) (omega (arith, s .pre .both, c .before .before .loop-test .taken)) in let e = c .wide .ensures in omega arith
+    let h = s .pre .sinks (l .y) (omega (arith, s .pre .both, c .before .before .loop-test .taken)) in let e = c .wide .ensures in let k = l .inv .1 in omega arith
 
-f-lt : (c : tie.After-wide2 Inv-loop μ-loop) → c .wide2 .result < 16384
+f-lt : (c : tie.After-wide2 Inv-loop μ-loop) → c .wide2 .result < length (c .before .before .before .before .before .before .before .loop .head)
 f-lt c = let s = c .before .before .before .before .before .before .before .before .before .before .before .before in let l = c .before .before .before .before .before .before .before .loop in
-    let h = s .pre .sources (l .y) (c .before .before .before .before .before .before .loop-test .taken) in let e = c .wide2 .ensures in omega arith
+    let h = s .pre .sources (l .y) (c .before .before .before .before .before .before .loop-test .taken) in let e = c .wide2 .ensures in let k = l .inv .1 in omega arith
 
--- a head for each element
-room : (c : tie.At-loop Inv-loop μ-loop) → 16384 ≤ length (c .loop .head)
+-- heads for all elements that there can be
+room : (c : tie.At-loop Inv-loop μ-loop) → length (c .loop .head) ≤ 16384
 room c = let r = c .before .before .before .before .before .pre .heads in let e = c .loop .inv .1 in omega arith
 
 -- the heads with y
 heads-next : (c : tie.After-wide2 Inv-loop μ-loop) → (let l = c .before .before .before .before .before .before .before .loop in Heads (c .before .before .before .before .before .before .before .before .before .before .before .before .args .from .now) (set (l .head) (c .wide2 .result) (c .before .before .narrow .result)) (l .y + 1))
 heads-next c = let s = c .before .before .before .before .before .before .before .before .before .before .before .before in let l = c .before .before .before .before .before .before .before .loop in
-    heads-more (s .args .from .now) (l .head) (l .y) (c .wide2 .result) (c .before .before .narrow .result) (room (c .before .before .before .before .before .before .before)) (f-lt c) (c .wide2 .ensures) (c .before .before .narrow .ensures) (l .inv .3)
+    heads-more (s .args .from .now) (l .head) (l .y) (c .wide2 .result) (c .before .before .narrow .result) (f-lt c) (c .wide2 .ensures) (c .before .before .narrow .ensures) (l .inv .3)
 
 -- the link of y
 link-is : (c : tie.Joined1 Inv-loop μ-loop) → (let s = c .before .before .before .before .before .before .before .before .before .before .before .before .before in let l = c .before .before .before .before .before .before .before .before .loop in c .if1 .l ≡ latest (s .args .from .now) (getD (s .args .to .now) (l .y) 0) (upTo (s .args .own) (l .y)))
 link-is c = let s = c .before .before .before .before .before .before .before .before .before .before .before .before .before in let l = c .before .before .before .before .before .before .before .before .loop in
     let w = c .before .before .before .before .before .wide in
-    link-turn (s .args .from .now) (l .head) (set (l .head) (c .before .wide2 .result) (c .before .before .before .narrow .result)) (s .args .own) (l .y) (w .result) (getD (s .args .to .now) (l .y) 0) (c .if1 .l) (e-lt (c .before .before .before .before .before)) (w .ensures) (l .inv .3) (heads-next (c .before))
+    link-turn (s .args .from .now) (l .head) (set (l .head) (c .before .wide2 .result) (c .before .before .before .narrow .result)) (s .args .own) (l .y) (w .result) (getD (s .args .to .now) (l .y) 0) (c .if1 .l) (e-lt (c .before .before .before .before .before)) (length-set (l .head) (c .before .wide2 .result) (c .before .before .before .narrow .result)) (w .ensures) (l .inv .3) (heads-next (c .before))
     (⊎-elim (λ w. inl (w .0 .taken, w .2)) (λ w. inr (w .0 .left, w .1)) (c .if1 .came))
 
 loop-holds : tie.Need-loop-holds Inv-loop μ-loop
@@ -57,7 +57,7 @@ wide-requires : tie.Need-wide-requires Inv-loop μ-loop
 wide-requires c κs = search needs
 
 mul-l : tie.Need-mul-l Inv-loop μ-loop
-mul-l c = let h = e-lt c in omega arith
+mul-l c = let h = e-lt c in let r = room (c .before .before .before) in omega arith
 
 slice-read-l : tie.Need-slice-read-l Inv-loop μ-loop
 slice-read-l c = let h = e-lt (c .before) in let r = room (c .before .before .before .before) in omega arith
@@ -78,13 +78,13 @@ wide-requires-2 : tie.Need-wide-requires-2 Inv-loop μ-loop
 wide-requires-2 c κs = search needs
 
 mul-head : tie.Need-mul-head Inv-loop μ-loop
-mul-head c = let h = f-lt c in omega arith
+mul-head c = let h = f-lt c in let r = room (c .before .before .before .before .before .before .before) in omega arith
 
 slice-write-head : tie.Need-slice-write-head Inv-loop μ-loop
 slice-write-head c = let h = f-lt c in let r = room (c .before .before .before .before .before .before .before) in omega arith
 
 mul-l-2 : tie.Need-mul-l-2 Inv-loop μ-loop
-mul-l-2 c = let h = e-lt (c .before .before .before .before .before) in omega arith
+mul-l-2 c = let h = e-lt (c .before .before .before .before .before) in let r = room (c .before .before .before .before .before .before .before .before) in omega arith
 
 slice-read-l-2 : tie.Need-slice-read-l-2 Inv-loop μ-loop
 slice-read-l-2 c = let h = e-lt (c .before .before .before .before .before .before) in let r = room (c .before .before .before .before .before .before .before .before .before) in simp length-set (omega arith)
@@ -114,7 +114,7 @@ loop-again c = let s = c .before .before .before .before .before .before .before
 
 clear-requires : tie.Need-clear-requires Inv-loop μ-loop
 clear-requires c κs = let s = c .before .before .before .before .before .before .before in let l = c .before .before .loop in let i = l .inv .0 in let t = c .before .loop-test .left in let e : l .y ≡ length (s .args .from .now) = omega arith in
-    (s .pre .sources, room (c .before .before), subst (ClearElse (s .args .from .now) (l .head)) e (heads-else (s .args .from .now) (l .head) (l .y) (l .inv .3)))
+    (λ i h. let g = s .pre .sources i h in let k = l .inv .1 in omega arith, room (c .before .before), subst (ClearElse (s .args .from .now) (l .head)) e (heads-else (s .args .from .now) (l .head) (l .y) (l .inv .3)))
 
 same-length : tie.Need-same-length Inv-loop μ-loop
 same-length c = c .before .before .clear .kept .1 .0 ∙ c .before .before .before .before .before .loop .inv .1

@@ -1,7 +1,7 @@
--- `alike`: one statement, one way, equal numbers.
 use mathlib.Core.Path.{sym, _∙_}
 use mathlib.Core.Bool.{false≢true}
-use Rattle.dependence.proofs.FlatLaws.{part-is, flags-equal}
+use native.Mathlib.Omega.{arith}
+use Rattle.dependence.proofs.FlatLaws.{part-is, part-fits, flags-equal}
 use borrow.Author.Needs.{needs}
 use Rattle.dependence.proofs.alike.Statement.{statement}
 use Rattle.dependence.proofs.alike.Tie as tie
@@ -30,17 +30,17 @@ shared-slice-read-if2-2 c = search needs
 returns-2 : tie.Need-returns-2
 returns-2 c = λ e. absurd (false≢true e)
 
-mul-same : tie.Need-mul-same
-mul-same c = search needs
+mul-i : tie.Need-mul-i
+mul-i c = let s = c .before .before .before .before .before .before .before .before .before in let q = part-fits _ _ (s .args .count) (s .pre .1) (s .pre .0 .table) in omega arith
 
-mul-same-2 : tie.Need-mul-same-2
-mul-same-2 c = search needs
+mul-j : tie.Need-mul-j
+mul-j c = let s = c .before .before .before .before .before .before .before .before .before in let q = part-fits _ _ (s .args .count) (s .pre .2) (s .pre .0 .table) in omega arith
 
 add-same : tie.Need-add-same
-add-same c = search needs
+add-same c = let s = c .before .before .before .before .before .before .before .before .before in let q = part-fits _ _ (s .args .count) (s .pre .1) (s .pre .0 .table) in omega arith
 
-mul-same-3 : tie.Need-mul-same-3
-mul-same-3 c = search needs
+mul-same : tie.Need-mul-same
+mul-same c = let s = c .before .before .before .before .before .before .before .before .before in let q = part-fits _ _ (s .args .count) (s .pre .1) (s .pre .0 .table) in omega arith
 
 sub-same : tie.Need-sub-same
 sub-same c = search needs
@@ -49,19 +49,13 @@ part-same-start : tie.Need-part-same-start
 part-same-start c = search needs
 
 part-same-end : tie.Need-part-same-end
-part-same-end c = search needs
-
-mul-same-4 : tie.Need-mul-same-4
-mul-same-4 c = search needs
-
-mul-same-5 : tie.Need-mul-same-5
-mul-same-5 c = search needs
+part-same-end c = let s = c .before .before .before .before .before .before .before .before .before in part-fits _ _ (s .args .count) (s .pre .1) (s .pre .0 .table)
 
 add-same-2 : tie.Need-add-same-2
-add-same-2 c = search needs
+add-same-2 c = let s = c .before .before .before .before .before .before .before .before .before .before in let q = part-fits _ _ (s .args .count) (s .pre .2) (s .pre .0 .table) in omega arith
 
-mul-same-6 : tie.Need-mul-same-6
-mul-same-6 c = search needs
+mul-same-2 : tie.Need-mul-same-2
+mul-same-2 c = let s = c .before .before .before .before .before .before .before .before .before .before in let q = part-fits _ _ (s .args .count) (s .pre .2) (s .pre .0 .table) in omega arith
 
 sub-same-2 : tie.Need-sub-same-2
 sub-same-2 c = search needs
@@ -70,7 +64,7 @@ part-same-start-2 : tie.Need-part-same-start-2
 part-same-start-2 c = search needs
 
 part-same-end-2 : tie.Need-part-same-end-2
-part-same-end-2 c = search needs
+part-same-end-2 c = let s = c .before .before .before .before .before .before .before .before .before .before in part-fits _ _ (s .args .count) (s .pre .2) (s .pre .0 .table)
 
 same-requires : tie.Need-same-requires
 same-requires c κs = search needs
@@ -94,17 +88,15 @@ alike-spec =
     shared-slice-read-if2
     shared-slice-read-if2-2
     returns-2
-    mul-same
-    mul-same-2
+    mul-i
+    mul-j
     add-same
-    mul-same-3
+    mul-same
     sub-same
     part-same-start
     part-same-end
-    mul-same-4
-    mul-same-5
     add-same-2
-    mul-same-6
+    mul-same-2
     sub-same-2
     part-same-start-2
     part-same-end-2

@@ -1,7 +1,6 @@
--- `between`: one search, or none for two reads.
 use native.Mathlib.Omega.{arith}
 use Rattle.dependence.specs.Flat.{Flat, flat}
-use Rattle.dependence.proofs.FlatLaws.{call-ready, call-linked, call-sets, no-call}
+use Rattle.dependence.proofs.FlatLaws.{part-fits, call-ready, call-linked, call-below, call-sets, no-call}
 use borrow.Author.Needs.{needs}
 use Rattle.dependence.proofs.between.Statement.{statement}
 use Rattle.dependence.proofs.between.Tie as tie
@@ -30,17 +29,17 @@ mul-t c = search needs
 shared-slice-read-t : tie.Need-shared-slice-read-t
 shared-slice-read-t c = search needs
 
-mul-search : tie.Need-mul-search
-mul-search c = search needs
+mul-i : tie.Need-mul-i
+mul-i c = let s = c .before .before .before .before .before .before .before .before .before .before .before .before .before in let q = part-fits _ _ (s .args .count) (s .pre .1) (s .pre .0 .table) in omega arith
 
-mul-search-2 : tie.Need-mul-search-2
-mul-search-2 c = search needs
+mul-j : tie.Need-mul-j
+mul-j c = let s = c .before .before .before .before .before .before .before .before .before .before .before .before .before in let q = part-fits _ _ (s .args .count) (s .pre .2) (s .pre .0 .table) in omega arith
 
 add-search : tie.Need-add-search
-add-search c = search needs
+add-search c = let s = c .before .before .before .before .before .before .before .before .before .before .before .before .before in let q = part-fits _ _ (s .args .count) (s .pre .1) (s .pre .0 .table) in omega arith
 
-mul-search-3 : tie.Need-mul-search-3
-mul-search-3 c = search needs
+mul-search : tie.Need-mul-search
+mul-search c = let s = c .before .before .before .before .before .before .before .before .before .before .before .before .before in let q = part-fits _ _ (s .args .count) (s .pre .1) (s .pre .0 .table) in omega arith
 
 sub-search : tie.Need-sub-search
 sub-search c = search needs
@@ -49,19 +48,13 @@ part-search-start : tie.Need-part-search-start
 part-search-start c = search needs
 
 part-search-end : tie.Need-part-search-end
-part-search-end c = search needs
-
-mul-search-4 : tie.Need-mul-search-4
-mul-search-4 c = search needs
-
-mul-search-5 : tie.Need-mul-search-5
-mul-search-5 c = search needs
+part-search-end c = let s = c .before .before .before .before .before .before .before .before .before .before .before .before .before in part-fits _ _ (s .args .count) (s .pre .1) (s .pre .0 .table)
 
 add-search-2 : tie.Need-add-search-2
-add-search-2 c = search needs
+add-search-2 c = let s = c .before .before .before .before .before .before .before .before .before .before .before .before .before .before in let q = part-fits _ _ (s .args .count) (s .pre .2) (s .pre .0 .table) in omega arith
 
-mul-search-6 : tie.Need-mul-search-6
-mul-search-6 c = search needs
+mul-search-2 : tie.Need-mul-search-2
+mul-search-2 c = let s = c .before .before .before .before .before .before .before .before .before .before .before .before .before .before in let q = part-fits _ _ (s .args .count) (s .pre .2) (s .pre .0 .table) in omega arith
 
 sub-search-2 : tie.Need-sub-search-2
 sub-search-2 c = search needs
@@ -70,7 +63,7 @@ part-search-start-2 : tie.Need-part-search-start-2
 part-search-start-2 c = search needs
 
 part-search-end-2 : tie.Need-part-search-end-2
-part-search-end-2 c = search needs
+part-search-end-2 c = let s = c .before .before .before .before .before .before .before .before .before .before .before .before .before .before in part-fits _ _ (s .args .count) (s .pre .2) (s .pre .0 .table)
 
 block-requires : tie.Need-block-requires
 block-requires c κs = let s = c .before .before .before .before .before .before .before .before .before .before .before .before .before .before .before in let r = s .pre .0 .room in let g = s .good .1 .1 .1 .1 .1 .1 .1 .1 .1 .1 .1 .0 .0 in
@@ -80,6 +73,7 @@ search-requires : tie.Need-search-requires
 search-requires c κs = let s = c .before .before .before .before .before .before .before .before .before .before .before .before .before .before .before .before .before .before .before in let k = c .before .before .before .block in (
   call-ready (nest s) (s .args .marks .now) (s .pre .0) (s .args .a) (s .args .b) (k .result) (s .pre .1) (s .pre .2) (k .ensures .1),
   call-linked (nest s) (s .args .marks .now) (s .pre .0) (s .args .a) (s .args .next .now) (s .args .head .now) (s .args .start .now) (s .pre .3),
+  call-below (nest s) (s .args .marks .now) (s .pre .0) (s .args .b) _ (s .pre .2) (s .pre .4),
 )
 
 same-length : tie.Need-same-length
@@ -112,17 +106,15 @@ between-spec =
     shared-slice-read-s
     mul-t
     shared-slice-read-t
-    mul-search
-    mul-search-2
+    mul-i
+    mul-j
     add-search
-    mul-search-3
+    mul-search
     sub-search
     part-search-start
     part-search-end
-    mul-search-4
-    mul-search-5
     add-search-2
-    mul-search-6
+    mul-search-2
     sub-search-2
     part-search-start-2
     part-search-end-2

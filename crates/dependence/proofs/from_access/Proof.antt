@@ -5,19 +5,19 @@ use Prim.Native.Nat.{_+_, _-_, _≤_, _<_}
 use native.Mathlib.Omega.{arith}
 use lib.ListN.{length}
 use borrow.Author.Needs.{needs}
-use Rattle.dependence.specs.Flat.{Flat, flat, numbersOf, setBy, setFrom}
+use Rattle.dependence.specs.Flat.{Flat, flat, NumbersBelow, numbersOf, setBy, setFrom}
 use Rattle.chains.specs.Search.{Clear, Linked}
 use Rattle.chains.proofs.SomeLaws.{Gathered, gathered-none, Done, gathered-turn}
-use Rattle.dependence.proofs.FlatLaws.{listed, ready-still, alike-sink, call-linkable, linked, linked-still}
+use Rattle.dependence.proofs.FlatLaws.{part-fits, listed, ready-still, alike-sink, call-linkable, linked, linked-still}
 use Rattle.dependence.proofs.from_access.Statement.{statement}
 use Rattle.dependence.proofs.from_access.Tie as tie
 
 abbrev Inv-loop : tie.InvT-loop
-Inv-loop points depth count numbers statements writes body a next head₀ start₀ marks₀ b₀ head start marks b = (b ≤ length statements) × (length marks ≡ length marks₀) × Gathered marks₀ marks b (setBy (flat points depth count numbers statements writes body) a)
+Inv-loop points depth count numbers statements writes body a next head₀ start₀ marks₀ i b₀ head start marks b = (b ≤ length statements) × (length marks ≡ length marks₀) × Gathered marks₀ marks b (setBy (flat points depth count numbers statements writes body) a)
     × (length head ≡ length head₀) × (length start ≡ length start₀) × Linked (numbersOf count numbers a) next head start
 
 abbrev μ-loop : tie.MeasureT-loop
-μ-loop points depth count numbers statements writes body a next head₀ start₀ marks₀ b₀ head start marks b = length statements - b
+μ-loop points depth count numbers statements writes body a next head₀ start₀ marks₀ i b₀ head start marks b = length statements - b
 
 abbrev nest : tie.Start Inv-loop μ-loop → Flat
 nest s = flat (s .args .points .now) (s .args .depth) (s .args .count) (s .args .numbers .now) (s .args .statements .now) (s .args .writes .now) (s .args .body)
@@ -35,17 +35,14 @@ kept c = let l = c .before .before .before .loop in
     ⊎-elim (λ w. (ap length (w .12) ∙ w .5 .kept .1 .1 .1 .1 .1 .1 .1 .1 .1 .1 .0, subst Clear (sym (w .12)) (w .5 .ensures .1), ap length (w .13) ∙ w .5 .kept .1 .1 .1 .1 .1 .1 .1 .1 .1 .1 .1 .0))
     (λ w. (ap length (w .1), subst Clear (sym (w .1)) (l .inv .5 .clear), ap length (w .2))) (c .if1 .came)
 
-mul-link : tie.Need-mul-link Inv-loop μ-loop
-mul-link c = search needs
-
-mul-link-2 : tie.Need-mul-link-2 Inv-loop μ-loop
-mul-link-2 c = search needs
+mul-i : tie.Need-mul-i Inv-loop μ-loop
+mul-i c = let s = c .before .before .before .before .before .before .before in let q = part-fits _ _ (s .args .count) (s .pre .1) (s .pre .0 .table) in omega arith
 
 add-link : tie.Need-add-link Inv-loop μ-loop
-add-link c = search needs
+add-link c = let s = c .before .before .before .before .before .before .before in let q = part-fits _ _ (s .args .count) (s .pre .1) (s .pre .0 .table) in omega arith
 
-mul-link-3 : tie.Need-mul-link-3 Inv-loop μ-loop
-mul-link-3 c = search needs
+mul-link : tie.Need-mul-link Inv-loop μ-loop
+mul-link c = let s = c .before .before .before .before .before .before .before in let q = part-fits _ _ (s .args .count) (s .pre .1) (s .pre .0 .table) in omega arith
 
 sub-link : tie.Need-sub-link Inv-loop μ-loop
 sub-link c = search needs
@@ -54,19 +51,13 @@ part-link-start : tie.Need-part-link-start Inv-loop μ-loop
 part-link-start c = search needs
 
 part-link-end : tie.Need-part-link-end Inv-loop μ-loop
-part-link-end c = search needs
-
-mul-link-4 : tie.Need-mul-link-4 Inv-loop μ-loop
-mul-link-4 c = search needs
-
-mul-link-5 : tie.Need-mul-link-5 Inv-loop μ-loop
-mul-link-5 c = search needs
+part-link-end c = let s = c .before .before .before .before .before .before .before in part-fits _ _ (s .args .count) (s .pre .1) (s .pre .0 .table)
 
 add-link-2 : tie.Need-add-link-2 Inv-loop μ-loop
-add-link-2 c = search needs
+add-link-2 c = let s = c .before .before .before .before .before .before .before .before in let q = part-fits _ _ (s .args .count) (s .pre .1) (s .pre .0 .table) in omega arith
 
-mul-link-6 : tie.Need-mul-link-6 Inv-loop μ-loop
-mul-link-6 c = search needs
+mul-link-2 : tie.Need-mul-link-2 Inv-loop μ-loop
+mul-link-2 c = let s = c .before .before .before .before .before .before .before .before in let q = part-fits _ _ (s .args .count) (s .pre .1) (s .pre .0 .table) in omega arith
 
 sub-link-2 : tie.Need-sub-link-2 Inv-loop μ-loop
 sub-link-2 c = search needs
@@ -75,7 +66,7 @@ part-link-start-2 : tie.Need-part-link-start-2 Inv-loop μ-loop
 part-link-start-2 c = search needs
 
 part-link-end-2 : tie.Need-part-link-end-2 Inv-loop μ-loop
-part-link-end-2 c = search needs
+part-link-end-2 c = let s = c .before .before .before .before .before .before .before .before in part-fits _ _ (s .args .count) (s .pre .1) (s .pre .0 .table)
 
 link-requires : tie.Need-link-requires Inv-loop μ-loop
 link-requires c κs = let s = c .before .before .before .before .before .before .before .before .before .before .before in call-linkable (nest s) (s .args .marks .now) (s .pre .0) (s .args .a) (s .args .next .now) (s .args .head .now) (s .args .start .now) (s .pre .1) (s .pre .2)
@@ -94,7 +85,7 @@ first-like-requires : tie.Need-first-like-requires Inv-loop μ-loop
 first-like-requires c κs = let s = c .before .before .before .before .before .before .before .before .before .before .before .before .before .before .before .before .before .before in (listed (nest s) (s .args .marks .now) (s .pre .0), c .loop-test .taken)
 
 between-requires : tie.Need-between-requires Inv-loop μ-loop
-between-requires c κs = let s = c .before .before .before .before .before .before .before .before .before .before .before .before .before .before .before .before .before .before .before .before .before .before .before .before in let l = c .before .before .before .before .before .before .before .loop in (ready-still (nest s) (s .args .marks .now) (l .marks) (l .inv .1) (s .pre .0), s .pre .1, c .before .before .before .before .before .before .loop-test .taken, l .inv .5)
+between-requires c κs = let s = c .before .before .before .before .before .before .before .before .before .before .before .before .before .before .before .before .before .before .before .before .before .before .before .before in let l = c .before .before .before .before .before .before .before .loop in (ready-still (nest s) (s .args .marks .now) (l .marks) (l .inv .1) (s .pre .0), s .pre .1, c .before .before .before .before .before .before .loop-test .taken, l .inv .5, subst (λ m. NumbersBelow m (nest s)) (sym (l .inv .3 ∙ c .before .before .before .before .before .before .before .before .before .before .before .before .link .kept .1 .1 .1 .0)) (s .pre .2 .heads))
 
 add-b : tie.Need-add-b Inv-loop μ-loop
 add-b c = search needs
@@ -135,17 +126,14 @@ from-access-spec =
     (tie.spec
     Inv-loop
     μ-loop
-    mul-link
-    mul-link-2
+    mul-i
     add-link
-    mul-link-3
+    mul-link
     sub-link
     part-link-start
     part-link-end
-    mul-link-4
-    mul-link-5
     add-link-2
-    mul-link-6
+    mul-link-2
     sub-link-2
     part-link-start-2
     part-link-end-2

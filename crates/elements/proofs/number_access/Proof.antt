@@ -8,12 +8,12 @@ use Rattle.lists.specs.Parts.{rows, put}
 use Rattle.lists.proofs.PartLaws.{row-next}
 use Rattle.elements.specs.Places.{placesOf}
 use Rattle.elements.proofs.RowLaws.{row-ends, row-small}
-use Rattle.elements.proofs.NumberLaws.{base-in, form-in, no-place, same-room, place-lent, in-room, one-place}
+use Rattle.elements.proofs.NumberLaws.{base-in, form-in, begins-small, no-place, same-room, place-lent, in-room, one-place}
 use Rattle.elements.proofs.number_access.Statement.{statement}
 use Rattle.elements.proofs.number_access.Tie as tie
 
 abbrev Inv-loop : tie.InvT-loop
-Inv-loop words owners arrays k points depth count out₀ b form first at₀ i₀ out at i = (i ≤ count) × (at ≡ i * depth) × (out ≡ put out₀ (k * 4096) (placesOf words owners arrays depth (rows depth i points) k))
+Inv-loop words owners arrays k points depth count out₀ b form first at₀ i₀ out at i = (i ≤ count) × (at ≡ i * depth) × (out ≡ put out₀ (k * count) (placesOf words owners arrays depth (rows depth i points) k))
 
 abbrev μ-loop : tie.MeasureT-loop
 μ-loop words owners arrays k points depth count out₀ b form first at₀ i₀ out at i = count - i
@@ -31,7 +31,7 @@ form-of-requires : tie.Need-form-of-requires Inv-loop μ-loop
 form-of-requires c κs = let s = c .before .before .before .before .before in form-in (s .pre .0) (s .pre .1) (c .base-of .ensures)
 
 mul-first : tie.Need-mul-first Inv-loop μ-loop
-mul-first c = let s = c .before .before .before .before .before .before in let m = s .pre .0 .accesses .many in let h = s .pre .1 in omega arith
+mul-first c = let s = c .before .before .before .before .before .before in let m = begins-small (s .pre .0) (s .pre .1) in omega arith
 
 loop-holds : tie.Need-loop-holds Inv-loop μ-loop
 loop-holds c = let s = c .before .before .before .before .before .before in (omega arith, sym (zero-mul (s .args .depth)), no-place (s .pre .0) (s .pre .1) (s .args .out .now))
@@ -58,10 +58,10 @@ place-requires : tie.Need-place-requires Inv-loop μ-loop
 place-requires c κs = let s = c .before .before .before .before .before .before .before .before .before .before in let l = c .before .before .before .loop in place-lent (s .pre .0) (s .pre .1) (c .before .before .before .before .before .base-of .ensures) (c .before .before .before .before .form-of .ensures) (c .before .before .loop-test .taken) (l .inv .1)
 
 add-out : tie.Need-add-out Inv-loop μ-loop
-add-out c = let s = c .before .before .before .before .before .before .before .before .before .before .before in let m = s .pre .0 .accesses .many in let h = s .pre .1 in let v = c .before .before .before .loop-test .taken in let b = s .pre .0 .stored .bound in omega arith
+add-out c = let s = c .before .before .before .before .before .before .before .before .before .before .before in let m = begins-small (s .pre .0) (s .pre .1) in let v = c .before .before .before .loop-test .taken in let b = s .pre .0 .stored .bound in omega arith
 
 mul-out : tie.Need-mul-out Inv-loop μ-loop
-mul-out c = let s = c .before .before .before .before .before .before .before .before .before .before .before in let m = s .pre .0 .accesses .many in let h = s .pre .1 in let v = c .before .before .before .loop-test .taken in let b = s .pre .0 .stored .bound in omega arith
+mul-out c = let s = c .before .before .before .before .before .before .before .before .before .before .before in let m = begins-small (s .pre .0) (s .pre .1) in let v = c .before .before .before .loop-test .taken in let b = s .pre .0 .stored .bound in omega arith
 
 slice-write-out : tie.Need-slice-write-out Inv-loop μ-loop
 slice-write-out c = let s = c .before .before .before .before .before .before .before .before .before .before .before in let l = c .before .before .before .before .loop in in-room (s .pre .0) (s .pre .1) (c .before .before .before .before .before .before .base-of .ensures) (c .before .before .before .before .before .form-of .ensures) (c .before .before .before .loop-test .taken) (l .inv .1) (s .args .out .now) refl (l .inv .2)
@@ -84,7 +84,7 @@ same-length c = let s = c .before .before .before .before .before .before .befor
 
 returns : tie.Need-returns Inv-loop μ-loop
 returns c = let s = c .before .before .before .before .before .before .before .before in let l = c .before .loop in let z : l .i ≡ s .args .count = omega (arith, l .inv .0, c .loop-test .left) in
-    l .inv .2 ∙ ap (λ (j : ℕ). put (s .args .out .now) (s .args .k * 4096) (placesOf (s .args .words .now) (s .args .owners .now) (s .args .arrays .now) (s .args .depth) (rows (s .args .depth) j (s .args .points .now)) (s .args .k))) z
+    l .inv .2 ∙ ap (λ (j : ℕ). put (s .args .out .now) (s .args .k * s .args .count) (placesOf (s .args .words .now) (s .args .owners .now) (s .args .arrays .now) (s .args .depth) (rows (s .args .depth) j (s .args .points .now)) (s .args .k))) z
 
 pub number-access-spec : {M : Type 1} → statement M
 number-access-spec =

@@ -10,7 +10,7 @@ use Rattle.elements.proofs.number_accesses.Statement.{statement}
 use Rattle.elements.proofs.number_accesses.Tie as tie
 
 abbrev Inv-loop : tie.InvT-loop
-Inv-loop words owners arrays points depth count out₀ k₀ out k = (k ≤ length owners) × (out ≡ numbered (placesOf words owners arrays depth (rows depth count points)) k out₀)
+Inv-loop words owners arrays points depth count out₀ k₀ out k = (k ≤ length owners) × (out ≡ numbered count (placesOf words owners arrays depth (rows depth count points)) k out₀)
 
 abbrev μ-loop : tie.MeasureT-loop
 μ-loop words owners arrays points depth count out₀ k₀ out k = length owners - k
@@ -37,7 +37,7 @@ same-length c = let s = c .before .before .before .before .before in let l = c .
 
 returns : tie.Need-returns Inv-loop μ-loop
 returns c = let s = c .before .before .before .before .before in let l = c .before .loop in let z : l .k ≡ length (s .args .owners .now) = omega (arith, l .inv .0, c .loop-test .left) in
-    l .inv .1 ∙ ap (λ (j : ℕ). numbered (placesOf (s .args .words .now) (s .args .owners .now) (s .args .arrays .now) (s .args .depth) (rows (s .args .depth) (s .args .count) (s .args .points .now))) j (s .args .out .now)) z
+    l .inv .1 ∙ ap (λ (j : ℕ). numbered (s .args .count) (placesOf (s .args .words .now) (s .args .owners .now) (s .args .arrays .now) (s .args .depth) (rows (s .args .depth) (s .args .count) (s .args .points .now))) j (s .args .out .now)) z
 
 pub number-accesses-spec : {M : Type 1} → statement M
 number-accesses-spec =

@@ -1,52 +1,46 @@
-use mathlib.Core.Path.{_≡_}
-use mathlib.Core.List.{[], map, flatMap}
+use mathlib.Core.Path.{_≡_, sym, ap, _∙_}
+use mathlib.Core.List.{List, [], flatMap}
 use Prim.Native.Nat.{_+_, _-_, _≤_}
 use native.Mathlib.Omega.{arith}
-use lib.ListN.{length, take}
 use borrow.Author.Needs.{needs}
+use Rattle.model.specs.Ticket as Model
 use Rattle.model.specs.Limits.{outerCoefficient, outerPart}
-use Rattle.nest.specs.Nested.{limitOf, sideOf}
-use Rattle.limits.specs.Small.{SmallLimit}
-use Rattle.limits.proofs.SideLaws.{all-front-map}
-use Rattle.exchange.specs.Filling.{Adds}
-use Rattle.exchange.proofs.FillLaws.{adds-start, adds-more}
+use Rattle.bounds.specs.Flat.{limitsAt}
+use Rattle.sides.specs.Filling.{Adds}
+use Rattle.sides.proofs.FillLaws.{holds-none, filled-none, adds-same, adds-start, adds-more}
+use Rattle.exchange.specs.Pair.{limitsOf}
+use Rattle.exchange.proofs.SpanLaws.{span-at, read-small}
 use Rattle.exchange.proofs.push_outer.Statement.{statement}
 use Rattle.exchange.proofs.push_outer.Tie as tie
 
 abbrev Inv-loop : tie.InvT-loop
-Inv-loop a same other count limits g₀ k₀ g k = (k ≤ count) × Adds a g₀ (flatMap (λ l. outerPart a (sideOf a same) (sideOf a other) (outerCoefficient a l) l) (map (limitOf (a + 1)) (take k limits))) g
+Inv-loop filling₀ words a same other from many n held₀ k₀ filling held k = (k ≤ many) × Adds a filling₀ 0 (flatMap (λ l. outerPart a (limitsOf words a same) (limitsOf words a other) (outerCoefficient a l) l) (limitsAt words (a + 1) from k)) filling held
 
 abbrev μ-loop : tie.MeasureT-loop
-μ-loop a same other count limits g₀ k₀ g k = count - k
+μ-loop filling₀ words a same other from many n held₀ k₀ filling held k = many - k
 
-len : (c : tie.Start Inv-loop μ-loop) → length (c .args .js .limits) ≡ 16
-len c = search needs
+abbrev part : tie.Start Inv-loop μ-loop → Model.Limit → List Model.Limit
+part s l = outerPart (s .args .a) (limitsOf (s .args .words .now) (s .args .a) (s .args .same)) (limitsOf (s .args .words .now) (s .args .a) (s .args .other)) (outerCoefficient (s .args .a) l) l
 
-empty-requires : tie.Need-empty-requires Inv-loop μ-loop
-empty-requires c κs = search needs
+add-n : tie.Need-add-n Inv-loop μ-loop
+add-n c = search needs
 
 loop-holds : tie.Need-loop-holds Inv-loop μ-loop
-loop-holds c = let s = c .before .before in (omega arith, adds-start (λ l. outerPart (s .args .a) (sideOf (s .args .a) (s .args .same)) (sideOf (s .args .a) (s .args .other)) (outerCoefficient (s .args .a) l) l) (s .args .a) (s .args .a + 1) (s .args .js .limits) (c .empty .result) (c .empty .ensures .1))
+loop-holds c = (omega arith, adds-start (part c) (c .args .words .now) (c .args .a + 1) (c .args .js .from) (c .args .a) (c .args .filling .now) 0 (filled-none (c .args .filling .now) (c .pre .room)))
 
-mul-l : tie.Need-mul-l Inv-loop μ-loop
-mul-l c = search needs
+add-limit-at : tie.Need-add-limit-at Inv-loop μ-loop
+add-limit-at c = let s = c .before .before in let i = s .pre .first .inside in omega arith
 
-array-copy-out-l : tie.Need-array-copy-out-l Inv-loop μ-loop
-array-copy-out-l c = search needs
+limit-at-requires : tie.Need-limit-at-requires Inv-loop μ-loop
+limit-at-requires c κs = let s = c .before .before in let p = s .pre in let q = p .place in span-at (s .args .words .now) (s .args .js) (c .before .loop .k) (s .args .a + 1) (p .first) (omega arith) (omega arith)
 
 push-part-requires : tie.Need-push-part-requires Inv-loop μ-loop
-unfolding sideOf
-push-part-requires c κs =
-    let s = c .before .before .before .before .before in
-    let n = len s in
+push-part-requires c κs = let s = c .before .before .before .before in
     let p = s .pre in
-    let w = p .within .few in
-    let g = c .before .before .loop .inv .1 .within in
-    let m = all-front-map SmallLimit (limitOf (s .args .a + 1)) _ (c .before .before .loop .k) (s .args .js .count) (s .args .js .limits) (omega arith) (omega arith) (p .small) in
-    record {
-      with-same = record { place = p .place; filling = g; limit = m; within = p .same-within; small = p .same-small };
-      with-other = record { place = p .place; filling = g; limit = m; within = p .other-within; small = p .other-small };
-    }
+    let m = c .before .limit-at in
+    let f = c .before .before .before .loop .inv .1 .within in
+    let l = read-small (s .args .words .now) (s .args .a + 1) (s .args .js .from + c .before .before .before .loop .k) (m .result) (p .first .small) (m .ensures) in
+    record { with-same = record { place = p .place; filled = f; limit = l; side = p .second }; with-other = record { place = p .place; filled = f; limit = l; side = p .third } }
 
 add-k : tie.Need-add-k Inv-loop μ-loop
 add-k c = search needs
@@ -55,21 +49,22 @@ loop-less : tie.Need-loop-less Inv-loop μ-loop
 loop-less c = search needs
 
 loop-again : tie.Need-loop-again Inv-loop μ-loop
-loop-again c =
-    let b = c .before .before .before in
-    let s = b .before .before .before in
-    let n = len s in
-    let w = s .pre .within .few in
-    (omega arith, adds-more (λ l. outerPart (s .args .a) (sideOf (s .args .a) (s .args .same)) (sideOf (s .args .a) (s .args .other)) (outerCoefficient (s .args .a) l) l) (s .args .a) (s .args .a + 1) (b .loop .k) (s .args .js .limits) _ (omega arith) (b .loop .inv .1) (c .push-part .ensures))
+loop-again c = let s = c .before .before .before .before .before .before in
+    let b = c .before .before .before .before .before .loop in
+    let m = c .before .before .before .limit-at in (
+      omega arith,
+      adds-more (part s) (s .args .words .now) (s .args .a + 1) (s .args .js .from) (s .args .a) (s .args .filling .now) 0 (b .k) (b .filling) (b .held) _ _ (b .inv .1)
+          (adds-same (s .args .a) (b .filling) (b .held) _ _ (ap (part s) (m .ensures .is)) (c .before .push-part .ensures)),
+    )
+
+same-length : tie.Need-same-length Inv-loop μ-loop
+same-length c = let s = c .before .before in c .before .loop .inv .1 .within .room ∙ sym (s .pre .room)
 
 returns : tie.Need-returns Inv-loop μ-loop
-unfolding sideOf
-returns c =
-    let b = c .before in
-    let s = b .before .before .before in
-    let e : b .loop .k ≡ s .args .js .count = omega arith in
-    let a = b .loop .inv .1 in
-    (rw e at (a .adds [] (b .before .empty .ensures .0 (s .args .a))), a .within)
+returns c = let s = c .before .before in
+    let b = c .before .loop in
+    let e : b .k ≡ s .args .js .count = omega arith in
+    (rw e at (b .inv .1 .adds [] (holds-none (s .args .a) (s .args .filling .now))), b .inv .1 .within)
 
 pub push-outer-spec : {M : Type 1} → statement M
 push-outer-spec =
@@ -77,12 +72,13 @@ push-outer-spec =
     (tie.spec
     Inv-loop
     μ-loop
-    empty-requires
+    add-n
     loop-holds
-    mul-l
-    array-copy-out-l
+    add-limit-at
+    limit-at-requires
     push-part-requires
     add-k
     loop-less
     loop-again
+    same-length
     returns)

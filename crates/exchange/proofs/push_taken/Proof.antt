@@ -3,16 +3,18 @@ use mathlib.Core.List.{[], _∷_}
 use Prim.Native.Nat.{_+_, _≤_}
 use native.Mathlib.Omega.{arith}
 use lib.IntN.{ℤ, pos}
-use lib.ListN.{length, getD}
+use lib.ListN.{getD}
 use mir.Syntax.{w32}
 use mir.Val.{toZ, ofZ}
-use borrow.Author.Needs.{needs}
 use Rattle.integers.specs.Difference.{size}
+use Rattle.nest.specs.Nested.{limitOf}
 use Rattle.limits.proofs.NumberLaws.{small-back}
 use Rattle.limits.proofs.RowLaws.{front-at}
 use Rattle.limits.proofs.LimitLaws.{numbers}
+use Rattle.sides.proofs.FillLaws.{adds-none, adds-same}
+use Rattle.exchange.proofs.SpanLaws.{wide-solved}
 use Rattle.exchange.proofs.SolveLaws.{coefficient-at, zero-bits, zero-test, flags-same, flags-differ, taken-zero, taken-same, taken-other}
-use Rattle.exchange.proofs.FillLaws.{adds-none, adds-same}
+use borrow.Author.Needs.{needs}
 use Rattle.exchange.proofs.push_taken.Statement.{statement}
 use Rattle.exchange.proofs.push_taken.Tie as tie
 
@@ -23,11 +25,8 @@ module _ (c : tie.After-c) where
   abbrev z : ℤ
   z = getD (c .before .before .args .l .coefficients) (c .before .before .args .a) (pos 0)
 
-  len : length (s .args .l .coefficients) ≡ 6
-  len = search needs
-
   at-c : size z ≤ 32767
-  at-c = front-at (s .args .a + 1) (s .args .l .coefficients) (s .args .a) (omega arith) (numbers (s .args .a + 1) (s .args .l) (s .pre .1) .coefficients)
+  at-c = front-at (s .args .a + 1) (s .args .l .coefficients) (s .args .a) (omega arith) (numbers (s .args .a + 1) (s .args .l) (s .pre .limit) .coefficients)
 
   reads-c : toZ w32 (ofZ w32 z) ≡ z
   reads-c = small-back _ at-c
@@ -42,30 +41,31 @@ array-copy-out-c : tie.Need-array-copy-out-c
 array-copy-out-c c = search needs
 
 returns : tie.Need-returns
-returns c = let s = c .before .before .before in adds-same (s .args .a + 1) (sym (taken-zero (s .args .positive) (s .args .a) (s .args .l) (zero-bits (z (c .before)) (at-c (c .before)) (c .if1 .taken)))) (adds-none (s .args .a + 1) (s .args .f) (s .pre .2))
+returns c = let s = c .before .before .before in adds-same (s .args .a + 1) (s .args .filling .now) (s .args .count) (s .args .filling .now) (s .args .count) (sym (taken-zero (s .args .positive) (s .args .a) (s .args .l) (zero-bits (z (c .before)) (at-c (c .before)) (c .if1 .taken)))) (adds-none (s .args .a + 1) (s .args .filling .now) (s .args .count) (s .pre .filled))
 
 solved-requires : tie.Need-solved-requires
-solved-requires c κs = let s = c .before .before .before .before in (s .pre .0, s .pre .1, λ e. not-zero (c .before) (sym (coefficient-at (s .args .a) (s .args .l)) ∙ e))
+solved-requires c κs = let s = c .before .before .before .before in (s .pre .place, s .pre .limit, λ e. not-zero (c .before) (sym (coefficient-at (s .args .a) (s .args .l)) ∙ e))
 
 add-push : tie.Need-add-push
 add-push c = search needs
 
 push-requires : tie.Need-push-requires
-push-requires c κs = let s = c .before .before .before .before .before in record { place = omega arith; within = s .pre .2; limit = c .solved .ensures .within }
+push-requires c κs = let s = c .before .before .before .before .before .before in record { wide = wide-solved (s .args .a) (limitOf (s .args .a + 1) (s .args .l)) (c .before .solved .result) (s .pre .place) (s .pre .limit) (c .before .solved .ensures); filled = s .pre .filled }
+
+same-length : tie.Need-same-length
+same-length c = search needs
 
 returns-2 : tie.Need-returns-2
-returns-2 c =
-    let b = c .before .before .before in
-    let s = b .before .before .before in
-    adds-same (s .args .a + 1)
-    (ap (_∷ []) (c .before .solved .ensures .is) ∙ sym (taken-same (s .args .positive) (s .args .a) (s .args .l) (not-zero b) (flags-same _ _ (rw (reads-c (b .before)) at (c .before .before .if2 .taken)))))
-    (c .push .ensures)
+returns-2 c = let b = c .before .before .before .before .before in
+    let s = c .before .before .before .before .before .before .before .before in
+    adds-same (s .args .a + 1) (s .args .filling .now) (s .args .count) _ _
+    (ap (_∷ []) (c .before .before .before .solved .ensures .is) ∙ sym (taken-same (s .args .positive) (s .args .a) (s .args .l) (not-zero b) (flags-same _ _ (rw (reads-c (b .before)) at (c .before .before .before .before .if2 .taken)))))
+    (c .before .push .ensures)
 
 returns-3 : tie.Need-returns-3
-returns-3 c =
-    let b = c .before in
-    let s = b .before .before .before in
-    adds-same (s .args .a + 1) (sym (taken-other (s .args .positive) (s .args .a) (s .args .l) (not-zero b) (flags-differ _ _ (rw (reads-c (b .before)) at (c .if2 .left))))) (adds-none (s .args .a + 1) (s .args .f) (s .pre .2))
+returns-3 c = let b = c .before in
+    let s = c .before .before .before .before in
+    adds-same (s .args .a + 1) (s .args .filling .now) (s .args .count) (s .args .filling .now) (s .args .count) (sym (taken-other (s .args .positive) (s .args .a) (s .args .l) (not-zero b) (flags-differ _ _ (rw (reads-c (b .before)) at (c .if2 .left))))) (adds-none (s .args .a + 1) (s .args .filling .now) (s .args .count) (s .pre .filled))
 
 pub push-taken-spec : {M : Type 1} → statement M
 push-taken-spec =
@@ -77,5 +77,6 @@ push-taken-spec =
     solved-requires
     add-push
     push-requires
+    same-length
     returns-2
     returns-3)

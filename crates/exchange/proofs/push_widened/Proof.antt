@@ -1,46 +1,42 @@
-use mathlib.Core.Path.{_≡_, ap}
-use mathlib.Core.List.{[], _∷_, map, flatMap}
+use mathlib.Core.Path.{_≡_, sym, ap, _∙_}
+use mathlib.Core.List.{[], _∷_, flatMap}
 use Prim.Native.Nat.{_+_, _-_, _≤_}
 use native.Mathlib.Omega.{arith}
-use lib.ListN.{length, take}
 use borrow.Author.Needs.{needs}
 use Rattle.lists.proofs.FlatMapLaws.{flatMap-single}
 use Rattle.model.specs.Limits.{widened}
-use Rattle.nest.specs.Nested.{limitOf, sideOf}
-use Rattle.exchange.specs.Filling.{Adds}
-use Rattle.exchange.proofs.FillLaws.{adds-same, adds-start, adds-more}
+use Rattle.bounds.specs.Flat.{limitsAt}
+use Rattle.sides.specs.Filling.{Adds}
+use Rattle.sides.proofs.FillLaws.{holds-none, filled-none, adds-same, adds-start, adds-more}
+use Rattle.exchange.proofs.SpanLaws.{span-at, read-small, wide-widened}
 use Rattle.exchange.proofs.push_widened.Statement.{statement}
 use Rattle.exchange.proofs.push_widened.Tie as tie
 
 abbrev Inv-loop : tie.InvT-loop
-Inv-loop n count limits g₀ k₀ g k = (k ≤ count) × Adds (n + 1) g₀ (flatMap (λ l. widened l ∷ []) (map (limitOf n) (take k limits))) g
+Inv-loop filling₀ words a from many n held₀ k₀ filling held k = (k ≤ many) × Adds (a + 1) filling₀ 0 (flatMap (λ l. widened l ∷ []) (limitsAt words a from k)) filling held
 
 abbrev μ-loop : tie.MeasureT-loop
-μ-loop n count limits g₀ k₀ g k = count - k
+μ-loop filling₀ words a from many n held₀ k₀ filling held k = many - k
 
-len : (c : tie.Start Inv-loop μ-loop) → length (c .args .side .limits) ≡ 16
-len c = search needs
-
-empty-requires : tie.Need-empty-requires Inv-loop μ-loop
-empty-requires c κs = search needs
+add-n : tie.Need-add-n Inv-loop μ-loop
+add-n c = search needs
 
 loop-holds : tie.Need-loop-holds Inv-loop μ-loop
-loop-holds c = let s = c .before .before in (omega arith, adds-start (λ l. widened l ∷ []) (s .args .n + 1) (s .args .n) (s .args .side .limits) (c .empty .result) (c .empty .ensures .1))
+loop-holds c = (omega arith, adds-start (λ l. widened l ∷ []) (c .args .words .now) (c .args .a) (c .args .side .from) (c .args .a + 1) (c .args .filling .now) 0 (filled-none (c .args .filling .now) (c .pre .1)))
 
-mul-l : tie.Need-mul-l Inv-loop μ-loop
-mul-l c = search needs
+add-limit-at : tie.Need-add-limit-at Inv-loop μ-loop
+add-limit-at c = let s = c .before .before in let i = s .pre .2 .inside in omega arith
 
-array-copy-out-l : tie.Need-array-copy-out-l Inv-loop μ-loop
-array-copy-out-l c = search needs
+limit-at-requires : tie.Need-limit-at-requires Inv-loop μ-loop
+limit-at-requires c κs = let s = c .before .before in let q = s .pre .0 in span-at (s .args .words .now) (s .args .side) (c .before .loop .k) (s .args .a) (s .pre .2) (omega arith) (omega arith)
 
 widened-requires : tie.Need-widened-requires Inv-loop μ-loop
 widened-requires c κs = search needs
 
-add-push : tie.Need-add-push Inv-loop μ-loop
-add-push c = search needs
-
 push-requires : tie.Need-push-requires Inv-loop μ-loop
-push-requires c κs = record { place = omega arith; within = c .before .before .before .loop .inv .1 .within; limit = c .widened .ensures .within }
+push-requires c κs = let s = c .before .before .before .before .before in
+    let m = c .before .before .limit-at in
+    record { wide = wide-widened (s .args .a) (m .result) (c .before .widened .result) (s .pre .0) (read-small (s .args .words .now) (s .args .a) (s .args .side .from + c .before .before .before .before .loop .k) (m .result) (s .pre .2 .small) (m .ensures)) (c .before .widened .ensures); filled = c .before .before .before .before .loop .inv .1 .within }
 
 add-k : tie.Need-add-k Inv-loop μ-loop
 add-k c = search needs
@@ -49,24 +45,23 @@ loop-less : tie.Need-loop-less Inv-loop μ-loop
 loop-less c = search needs
 
 loop-again : tie.Need-loop-again Inv-loop μ-loop
-loop-again c =
-    let b = c .before .before .before .before in
-    let s = b .before .before .before in
-    let n = len s in
-    let w = s .pre .1 .few in
-    let x = c .before .widened in (
+loop-again c = let s = c .before .before .before .before .before .before .before in
+    let b = c .before .before .before .before .before .before .loop in
+    let m = c .before .before .before .before .limit-at in
+    let x = c .before .before .before .widened in (
       omega arith,
-      adds-more (λ l. widened l ∷ []) (s .args .n + 1) (s .args .n) (b .loop .k) (s .args .side .limits) _ (omega arith) (b .loop .inv .1) (adds-same (s .args .n + 1) (ap (_∷ []) (x .ensures .is)) (c .push .ensures)),
+      adds-more (λ l. widened l ∷ []) (s .args .words .now) (s .args .a) (s .args .side .from) (s .args .a + 1) (s .args .filling .now) 0 (b .k) (b .filling) (b .held) _ _ (b .inv .1)
+          (adds-same (s .args .a + 1) (b .filling) (b .held) _ _ (ap (_∷ []) (x .ensures .is ∙ ap widened (m .ensures .is))) (c .before .push .ensures)),
     )
 
+same-length : tie.Need-same-length Inv-loop μ-loop
+same-length c = let s = c .before .before in c .before .loop .inv .1 .within .room ∙ sym (s .pre .1)
+
 returns : tie.Need-returns Inv-loop μ-loop
-unfolding sideOf
-returns c =
-    let b = c .before in
-    let s = b .before .before .before in
-    let e : b .loop .k ≡ s .args .side .count = omega arith in
-    let a = b .loop .inv .1 in
-    (simp (e, flatMap-single) at (a .adds [] (b .before .empty .ensures .0 (s .args .n + 1))), a .within)
+returns c = let s = c .before .before in
+    let b = c .before .loop in
+    let e : b .k ≡ s .args .side .count = omega arith in
+    (simp (e, flatMap-single) at (b .inv .1 .adds [] (holds-none (s .args .a + 1) (s .args .filling .now))), b .inv .1 .within)
 
 pub push-widened-spec : {M : Type 1} → statement M
 push-widened-spec =
@@ -74,14 +69,14 @@ push-widened-spec =
     (tie.spec
     Inv-loop
     μ-loop
-    empty-requires
+    add-n
     loop-holds
-    mul-l
-    array-copy-out-l
+    add-limit-at
+    limit-at-requires
     widened-requires
-    add-push
     push-requires
     add-k
     loop-less
     loop-again
+    same-length
     returns)

@@ -1,5 +1,5 @@
--- `receive`: the grammar, the sheet, refusals 7 and 8.
-use Rattle.intake.proofs.IntakeLaws.{decode-refused, lay-in, space-refused, received-out}
+-- `receive`: the grammar, then refusals 7 and 8.
+use Rattle.intake.proofs.IntakeLaws.{decode-refused, space-refused, received-out}
 use borrow.Author.Needs.{needs}
 use Rattle.intake.proofs.receive.Statement.{statement}
 use Rattle.intake.proofs.receive.Tie as tie
@@ -17,13 +17,10 @@ refused-requires : tie.Need-refused-requires
 refused-requires c κs = search needs
 
 returns : tie.Need-returns
-returns c = let d = c .before .before .before .before .before .decode in decode-refused _ (d .result) (d .ensures) _ (c .refused .result) (c .before .before .status .given .1) (c .refused .ensures)
-
-lay-requires : tie.Need-lay-requires
-lay-requires c κs = let d = c .before .before .before .before .before .before .decode in lay-in _ (d .result) (d .ensures) (c .before .before .before .enum-told .given .1)
+returns c = let d = c .before .before .before .before .before .before .decode in decode-refused _ (d .result) (d .ensures) _ (c .refused .result) (c .before .before .status .given .1) (c .refused .ensures)
 
 count-points-requires : tie.Need-count-points-requires
-count-points-requires c κs = c .lay .ensures .ok
+count-points-requires c κs = c .before .before .before .before .decode .ensures .sheet (c .enum-told .given .1)
 
 enum-known-n : tie.Need-enum-known-n
 enum-known-n c = search needs
@@ -35,10 +32,10 @@ refused-requires-2 : tie.Need-refused-requires-2
 refused-requires-2 c κs = search needs
 
 returns-2 : tie.Need-returns-2
-returns-2 c = let d = c .before .before .before .before .before .before .before .before .before .before .before .decode in let l = c .before .before .before .before .lay in let n = c .before .before .before .count-points in received-out _ (d .result) (d .ensures) (c .before .before .before .before .before .before .before .before .enum-told .given .1) (l .result) (l .ensures) (n .result) (n .ensures) _ (c .before .n .given .1)
+returns-2 c = let d = c .before .before .before .before .before .before .before .before .decode in let n = c .before .before .before .count-points in received-out _ (d .result) (d .ensures) (c .before .before .before .before .enum-told .given .1) (n .result) (n .ensures) _ (c .before .n .given .1)
 
 returns-3 : tie.Need-returns-3
-returns-3 c = let d = c .before .before .before .before .before .before .before .before .before .before .before .before .decode in let l = c .before .before .before .before .before .lay in let n = c .before .before .before .before .count-points in space-refused _ (d .result) (d .ensures) (c .before .before .before .before .before .before .before .before .before .enum-told .given .1) (l .result) (l .ensures) (n .result) (n .ensures) _ (c .refused2 .result) (c .before .before .r .given .1) (c .refused2 .ensures)
+returns-3 c = let d = c .before .before .before .before .before .before .before .before .before .decode in let n = c .before .before .before .before .count-points in space-refused _ (d .result) (d .ensures) (c .before .before .before .before .before .enum-told .given .1) (n .result) (n .ensures) _ (c .refused2 .result) (c .before .before .r .given .1) (c .refused2 .ensures)
 
 pub receive-spec : {M : Type 1} → statement M
 receive-spec =
@@ -49,7 +46,6 @@ receive-spec =
     enum-known-status
     refused-requires
     returns
-    lay-requires
     count-points-requires
     enum-known-n
     enum-known-r

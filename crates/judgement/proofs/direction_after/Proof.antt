@@ -37,16 +37,16 @@ sectioned-requires : tie.Need-sectioned-requires
 sectioned-requires c κs = let s = c .before .before .before in let v = c .before .step4 .given in let h = there (s .args .set) (s .args .step) (Strip (v .0 .0)) (v .1) (s .pre) in record { few = h .1; inside = h .0 }
 
 returns : tie.Need-returns
-returns c = let s = c .before .before .before .before in let v = c .before .before .step .given in vectors-are (s .args .set) (s .args .step) (Swap (v .0 .0)) (v .1) (c .exchanged .result) (c .exchanged .ensures)
+returns c = let s = c .before .before .before .before in let v = c .before .before .step .given in vectors-are (s .args .set) (s .args .step) (Swap (v .0 .0)) (v .1) (s .pre) (c .exchanged .result) (c .exchanged .ensures)
 
 returns-2 : tie.Need-returns-2
-returns-2 c = let s = c .before .before .before .before in let v = c .before .before .step2 .given in vectors-are (s .args .set) (s .args .step) (Reverse (v .0 .0)) (v .1) (c .reversed .result) (c .reversed .ensures)
+returns-2 c = let s = c .before .before .before .before in let v = c .before .before .step2 .given in vectors-are (s .args .set) (s .args .step) (Reverse (v .0 .0)) (v .1) (s .pre) (c .reversed .result) (c .reversed .ensures)
 
 returns-3 : tie.Need-returns-3
-returns-3 c = let s = c .before .before .before .before .before in let v = c .before .before .before .step3 .given in vectors-are (s .args .set) (s .args .step) (Lean (v .0 .0)) (v .1) (c .skewed .result) (skew-distance (s .args .set) (c .skewed .result) (v .0 .0 .outer) (v .0 .0 .distance) (v .0 .0 .forward) (c .skewed .ensures))
+returns-3 c = let s = c .before .before .before .before .before in let v = c .before .before .before .step3 .given in vectors-are (s .args .set) (s .args .step) (Lean (v .0 .0)) (v .1) (s .pre) (c .skewed .result) (skew-distance (s .args .set) (c .skewed .result) (v .0 .0 .outer) (v .0 .0 .distance) (v .0 .0 .forward) (c .skewed .ensures))
 
 returns-4 : tie.Need-returns-4
-returns-4 c = let s = c .before .before .before .before in let v = c .before .before .step4 .given in vectors-are (s .args .set) (s .args .step) (Strip (v .0 .0)) (v .1) (c .sectioned .result) (c .sectioned .ensures (v .0 .0 .width))
+returns-4 c = let s = c .before .before .before .before in let v = c .before .before .step4 .given in vectors-are (s .args .set) (s .args .step) (Strip (v .0 .0)) (v .1) (s .pre) (c .sectioned .result) (c .sectioned .ensures (v .0 .0 .width))
 
 pub direction-after-spec : {M : Type 1} → statement M
 direction-after-spec =

@@ -1,22 +1,50 @@
--- `access_words`: subscripts of one length.
+-- `access_words`: at most 3 subscripts of 7 words.
 use native.Mathlib.Omega.{arith}
-use Prim.Native.Nat.{_+_}
-use Rattle.lengths.proofs.LengthLaws.{product-most, access-length}
+use mathlib.Core.Path.{refl}
+use Rattle.lengths.specs.Lengths.{accessLength}
+use Rattle.lengths.proofs.SumLaws.{owner-ends, access-most}
 use borrow.Author.Needs.{needs}
 use Rattle.lengths.proofs.access_words.Statement.{statement}
 use Rattle.lengths.proofs.access_words.Tie as tie
 
+mul-array : tie.Need-mul-array
+mul-array c = search needs
+
+shared-slice-read-array : tie.Need-shared-slice-read-array
+shared-slice-read-array c = search needs
+
+mul-result : tie.Need-mul-result
+mul-result c = let s = c .before in let e = owner-ends (s .args .owners .now) (s .args .extents .now) (s .args .n) (s .args .k) (s .pre .0) (s .pre .1) in let f = s .pre .0 .arrays .few in search needs
+
+mul-result-2 : tie.Need-mul-result-2
+mul-result-2 c = let s = c .before in let e = owner-ends (s .args .owners .now) (s .args .extents .now) (s .args .n) (s .args .k) (s .pre .0) (s .pre .1) in let f = s .pre .0 .arrays .few in search needs
+
+shared-slice-read-result : tie.Need-shared-slice-read-result
+shared-slice-read-result c = let s = c .before .before in let e = owner-ends (s .args .owners .now) (s .args .extents .now) (s .args .n) (s .args .k) (s .pre .0) (s .pre .1) in omega arith
+
 add-result : tie.Need-add-result
 add-result c = search needs
 
-mul-result : tie.Need-mul-result
-mul-result c = let h = (c .before .pre) .0 in let p = product-most {a = 3} {b = 7} {y = 1 + (c .before .args) .n} ((c .before .pre) .1 .few) (omega arith) in search needs
+mul-result-3 : tie.Need-mul-result-3
+mul-result-3 c = let s = c .before .before in let m = access-most (s .args .owners .now) (s .args .extents .now) (s .args .n) (s .args .k) (s .pre .0) (s .pre .1) in search needs
 
 add-result-2 : tie.Need-add-result-2
-add-result-2 c = let h = (c .before .pre) .0 in let p = product-most {a = 3} {b = 7} {y = 1 + (c .before .args) .n} ((c .before .pre) .1 .few) (omega arith) in search needs
+add-result-2 c = let s = c .before .before in let m = access-most (s .args .owners .now) (s .args .extents .now) (s .args .n) (s .args .k) (s .pre .0) (s .pre .1) in search needs
 
 returns : tie.Need-returns
-returns c = let h = (c .before .pre) .0 in let p = product-most {a = 3} {b = 7} {y = 1 + (c .before .args) .n} ((c .before .pre) .1 .few) (omega arith) in (access-length _ _ h ((c .before .pre) .1), omega arith)
+unfolding accessLength
+returns c = let s = c .before .before in let m = access-most (s .args .owners .now) (s .args .extents .now) (s .args .n) (s .args .k) (s .pre .0) (s .pre .1) in (refl, omega arith)
 
 pub access-words-spec : {M : Type 1} → statement M
-access-words-spec = tie.close (tie.spec add-result mul-result add-result-2 returns)
+access-words-spec =
+    tie.close
+    (tie.spec
+    mul-array
+    shared-slice-read-array
+    mul-result
+    mul-result-2
+    shared-slice-read-result
+    add-result
+    mul-result-3
+    add-result-2
+    returns)

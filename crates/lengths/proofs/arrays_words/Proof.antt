@@ -1,47 +1,49 @@
--- `arrays_words`: the count and k arrays are counted.
-use Rattle.model.specs.Encode.{arrayWords}
-use Rattle.arrays.specs.Arrays.{shapeOf, ShapeIn}
-use native.Mathlib.Omega.{arith}
-use Prim.Native.Nat.{_-_}
-use Rattle.writing.proofs.WritingLaws.{all-at}
-use Rattle.lengths.proofs.LengthLaws.{Counting, count-start, count-more, count-done}
-use Rattle.writing.proofs.SectionLaws.{arrays-parts}
+-- `arrays_words`: i arrays are counted.
 use borrow.Author.Needs.{needs}
+use mathlib.Core.Path.{refl}
+use Prim.Native.Nat.{_-_}
+use native.Mathlib.Omega.{arith}
+use Rattle.lengths.specs.Lengths.{arrayLength}
+use Rattle.lengths.proofs.SumLaws.{Summing, sum-start, sum-more, sum-done, sum-small, array-ends, few-arrays}
 use Rattle.lengths.proofs.arrays_words.Statement.{statement}
 use Rattle.lengths.proofs.arrays_words.Tie as tie
 
 abbrev Inv-loop : tie.InvT-loop
-Inv-loop count shapes total₀ k₀ total k = Counting (λ _ a. arrayWords (shapeOf a)) 258 count shapes total k
+Inv-loop extents count total₀ i₀ total i = Summing (arrayLength extents) 4 count total i
 
 abbrev μ-loop : tie.MeasureT-loop
-μ-loop count shapes total₀ k₀ total k = count - k
+μ-loop extents count total₀ i₀ total i = count - i
 
 loop-holds : tie.Need-loop-holds Inv-loop μ-loop
-loop-holds c = let a = (c .before .pre) .few in let b = (c .before .pre) .room in count-start (omega arith)
+loop-holds c = sum-start _ _ _
 
-mul-a : tie.Need-mul-a Inv-loop μ-loop
-mul-a c = search needs
+mul-total : tie.Need-mul-total Inv-loop μ-loop
+mul-total c = let s = c .before .before in let e = array-ends (s .args .extents .now) (c .before .loop .i) (c .loop-test .taken) in let f = s .pre .few in search needs
 
-array-copy-out-a : tie.Need-array-copy-out-a Inv-loop μ-loop
-array-copy-out-a c = search needs
+mul-total-2 : tie.Need-mul-total-2 Inv-loop μ-loop
+mul-total-2 c = let s = c .before .before in let e = array-ends (s .args .extents .now) (c .before .loop .i) (c .loop-test .taken) in let f = s .pre .few in search needs
 
-shape-words-requires : tie.Need-shape-words-requires Inv-loop μ-loop
-shape-words-requires c κs = let i = (c .before .before .loop) .inv in let t = (c .before .loop-test) .taken in all-at ShapeIn _ _ _ _ (i .room) t ((c .before .before .before .before .pre) .each)
+shared-slice-read-total : tie.Need-shared-slice-read-total Inv-loop μ-loop
+shared-slice-read-total c = let s = c .before .before .before in let e = array-ends (s .args .extents .now) (c .before .before .loop .i) (c .before .loop-test .taken) in omega arith
 
 add-total : tie.Need-add-total Inv-loop μ-loop
-add-total c = let i = (c .before .before .before .loop) .inv in let t = (c .before .before .loop-test) .taken in let b = i .most in let a = (c .before .before .before .before .before .pre) .few in let e = (c .shape-words) .ensures .1 in search needs
+add-total c = let d = c .before .before .before .pre .dimensions (c .before .before .loop .i) (c .before .loop-test .taken) in search needs
 
-add-k : tie.Need-add-k Inv-loop μ-loop
-add-k c = search needs
+add-total-2 : tie.Need-add-total-2 Inv-loop μ-loop
+add-total-2 c = let s = c .before .before .before in let d = s .pre .dimensions (c .before .before .loop .i) (c .before .loop-test .taken) in let i = sum-small (c .before .before .loop .inv) 4 (few-arrays (s .args .extents .now) (s .pre)) in search needs
+
+add-i : tie.Need-add-i Inv-loop μ-loop
+add-i c = let t = few-arrays (c .before .before .before .args .extents .now) (c .before .before .before .pre) in search needs
 
 loop-less : tie.Need-loop-less Inv-loop μ-loop
 loop-less c = search needs
 
 loop-again : tie.Need-loop-again Inv-loop μ-loop
-loop-again c = let t = (c .before .before .loop-test) .taken in count-more ((c .before .before .before .loop) .inv) _ t ((c .shape-words) .ensures .0) (let e = (c .shape-words) .ensures .1 in omega arith)
+unfolding arrayLength
+loop-again c = let d = c .before .before .before .pre .dimensions (c .before .before .loop .i) (c .before .loop-test .taken) in sum-more (c .before .before .loop .inv) (c .before .loop-test .taken) refl (omega arith)
 
 returns : tie.Need-returns Inv-loop μ-loop
-returns c = let i = (c .before .loop) .inv in let b = i .most in let q = i .low in let a = (c .before .before .before .pre) .few in (count-done (arrays-parts ((c .before .before .before .args) .arrays) (c .before .before .before .pre)) i ((c .loop-test) .left), omega arith)
+returns c = let i = c .before .loop .inv in let s = c .before .before in (sum-done i (c .loop-test .left), sum-small i 4 (few-arrays (s .args .extents .now) (s .pre)))
 
 pub arrays-words-spec : {M : Type 1} → statement M
 arrays-words-spec =
@@ -50,11 +52,12 @@ arrays-words-spec =
     Inv-loop
     μ-loop
     loop-holds
-    mul-a
-    array-copy-out-a
-    shape-words-requires
+    mul-total
+    mul-total-2
+    shared-slice-read-total
     add-total
-    add-k
+    add-total-2
+    add-i
     loop-less
     loop-again
     returns)

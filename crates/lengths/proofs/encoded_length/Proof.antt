@@ -1,5 +1,5 @@
 -- `encoded_length`: the words of the sections and the count of steps, two bytes each.
-use Rattle.lengths.proofs.LengthLaws.{length-sum}
+use Rattle.lengths.specs.Lengths.{nestLength}
 use borrow.Author.Needs.{needs}
 use Rattle.lengths.proofs.encoded_length.Statement.{statement}
 use Rattle.lengths.proofs.encoded_length.Tie as tie
@@ -10,23 +10,30 @@ loops-words-requires c κs = search needs
 arrays-words-requires : tie.Need-arrays-words-requires
 arrays-words-requires c κs = search needs
 
+accesses-words-requires : tie.Need-accesses-words-requires
+accesses-words-requires c κs = search needs
+
 add-result : tie.Need-add-result
 add-result c = search needs
-
-statements-words-requires : tie.Need-statements-words-requires
-statements-words-requires c κs = search needs
 
 add-result-2 : tie.Need-add-result-2
 add-result-2 c = search needs
 
-add-result-3 : tie.Need-add-result-3
-add-result-3 c = search needs
-
 mul-result : tie.Need-mul-result
 mul-result c = search needs
 
+add-result-3 : tie.Need-add-result-3
+add-result-3 c = search needs
+
+add-result-4 : tie.Need-add-result-4
+add-result-4 c = search needs
+
+mul-result-2 : tie.Need-mul-result-2
+mul-result-2 c = search needs
+
 returns : tie.Need-returns
-returns c = let a = (c .before .before .loops-words) .ensures .0 in let b = (c .before .arrays-words) .ensures .0 in let d = (c .statements-words) .ensures .0 in let s = (c .before .before .before .args) in length-sum (s .nest) (s .arrays) (s .body) _ _ _ a b d
+unfolding nestLength
+returns c = search needs
 
 pub encoded-length-spec : {M : Type 1} → statement M
 encoded-length-spec =
@@ -34,9 +41,11 @@ encoded-length-spec =
     (tie.spec
     loops-words-requires
     arrays-words-requires
+    accesses-words-requires
     add-result
-    statements-words-requires
     add-result-2
-    add-result-3
     mul-result
+    add-result-3
+    add-result-4
+    mul-result-2
     returns)

@@ -1,23 +1,62 @@
--- `loop_words`: two sides.
-use mathlib.Core.Path.{sym, ap₂, _∙_}
+-- `loop_words`: at most 32 limits of 7 words.
 use native.Mathlib.Omega.{arith}
-use Prim.Native.Nat.{_+_}
-use Rattle.lengths.proofs.LengthLaws.{loop-length}
+use mathlib.Core.Path.{refl}
+use Rattle.lengths.specs.Lengths.{loopLength}
+use Rattle.lengths.proofs.SumLaws.{loop-most}
 use borrow.Author.Needs.{needs}
 use Rattle.lengths.proofs.loop_words.Statement.{statement}
 use Rattle.lengths.proofs.loop_words.Tie as tie
 
-side-words-requires : tie.Need-side-words-requires
-side-words-requires c κs = search needs
+mul-result : tie.Need-mul-result
+mul-result c = search needs
 
-side-words-requires-2 : tie.Need-side-words-requires-2
-side-words-requires-2 c κs = search needs
+mul-result-2 : tie.Need-mul-result-2
+mul-result-2 c = search needs
+
+shared-slice-read-result : tie.Need-shared-slice-read-result
+shared-slice-read-result c = search needs
+
+mul-result-3 : tie.Need-mul-result-3
+mul-result-3 c = search needs
 
 add-result : tie.Need-add-result
 add-result c = search needs
 
+mul-result-4 : tie.Need-mul-result-4
+mul-result-4 c = search needs
+
+shared-slice-read-result-2 : tie.Need-shared-slice-read-result-2
+shared-slice-read-result-2 c = search needs
+
+add-result-2 : tie.Need-add-result-2
+add-result-2 c = let s = c .before .before in let l = s .pre .lower (s .args .k) (omega arith) in let u = s .pre .upper (s .args .k) (omega arith) in search needs
+
+add-result-3 : tie.Need-add-result-3
+add-result-3 c = search needs
+
+mul-result-5 : tie.Need-mul-result-5
+mul-result-5 c = let s = c .before .before in let m = loop-most (s .args .counts .now) (s .args .k) (s .pre) in search needs
+
+add-result-4 : tie.Need-add-result-4
+add-result-4 c = let s = c .before .before in let m = loop-most (s .args .counts .now) (s .args .k) (s .pre) in search needs
+
 returns : tie.Need-returns
-returns c = let a = (c .before .side-words) .ensures in let b = (c .side-words2) .ensures in (ap₂ _+_ (a .0) (b .0) ∙ sym (loop-length _ _), let x = a .1 in let y = b .1 in omega arith)
+unfolding loopLength
+returns c = let s = c .before .before in let m = loop-most (s .args .counts .now) (s .args .k) (s .pre) in (refl, omega arith)
 
 pub loop-words-spec : {M : Type 1} → statement M
-loop-words-spec = tie.close (tie.spec side-words-requires side-words-requires-2 add-result returns)
+loop-words-spec =
+    tie.close
+    (tie.spec
+    mul-result
+    mul-result-2
+    shared-slice-read-result
+    mul-result-3
+    add-result
+    mul-result-4
+    shared-slice-read-result-2
+    add-result-2
+    add-result-3
+    mul-result-5
+    add-result-4
+    returns)

@@ -1,35 +1,25 @@
--- `loops_words`: the count and k loops are counted.
-use Rattle.model.specs.Encode.{loopWords}
-use Rattle.nest.specs.Nested.{loopOf, LoopIn}
-use native.Mathlib.Omega.{arith}
-use Prim.Native.Nat.{_-_}
-use Rattle.writing.proofs.WritingLaws.{all-at}
-use Rattle.lengths.proofs.LengthLaws.{Counting, count-start, count-more, count-done}
-use Rattle.writing.proofs.SectionLaws.{loops-parts}
+-- `loops_words`: k loops are counted.
 use borrow.Author.Needs.{needs}
+use Prim.Native.Nat.{_-_}
+use Rattle.lengths.specs.Lengths.{loopLength}
+use Rattle.lengths.proofs.SumLaws.{Summing, sum-start, sum-more, sum-done, sum-small, counts-less}
 use Rattle.lengths.proofs.loops_words.Statement.{statement}
 use Rattle.lengths.proofs.loops_words.Tie as tie
 
 abbrev Inv-loop : tie.InvT-loop
-Inv-loop depth loops total₀ k₀ total k = Counting (λ j l. loopWords (loopOf j l)) 258 depth loops total k
+Inv-loop counts depth total₀ k₀ total k = Summing (loopLength counts) 258 depth total k
 
 abbrev μ-loop : tie.MeasureT-loop
-μ-loop depth loops total₀ k₀ total k = depth - k
+μ-loop counts depth total₀ k₀ total k = depth - k
 
 loop-holds : tie.Need-loop-holds Inv-loop μ-loop
-loop-holds c = let a = (c .before .pre) .few in let b = (c .before .pre) .room in count-start (omega arith)
-
-mul-l : tie.Need-mul-l Inv-loop μ-loop
-mul-l c = search needs
-
-array-copy-out-l : tie.Need-array-copy-out-l Inv-loop μ-loop
-array-copy-out-l c = search needs
+loop-holds c = sum-start _ _ _
 
 loop-words-requires : tie.Need-loop-words-requires Inv-loop μ-loop
-loop-words-requires c κs = let i = (c .before .before .loop) .inv in let t = (c .before .loop-test) .taken in let a = (c .before .before .before .before .pre) .few in (omega arith, all-at LoopIn _ _ _ _ (i .room) t ((c .before .before .before .before .pre) .each))
+loop-words-requires c κs = let s = c .before .before .before in counts-less (s .args .counts .now) (s .args .depth) (c .before .loop .k) (s .pre) (c .loop-test .taken)
 
 add-total : tie.Need-add-total Inv-loop μ-loop
-add-total c = let i = (c .before .before .before .loop) .inv in let t = (c .before .before .loop-test) .taken in let b = i .most in let a = (c .before .before .before .before .before .pre) .few in let e = (c .loop-words) .ensures .1 in search needs
+add-total c = let i = sum-small (c .before .before .loop .inv) 6 (c .before .before .before .before .pre .shallow) in let e = c .loop-words .ensures .1 in search needs
 
 add-k : tie.Need-add-k Inv-loop μ-loop
 add-k c = search needs
@@ -38,10 +28,10 @@ loop-less : tie.Need-loop-less Inv-loop μ-loop
 loop-less c = search needs
 
 loop-again : tie.Need-loop-again Inv-loop μ-loop
-loop-again c = let t = (c .before .before .loop-test) .taken in count-more ((c .before .before .before .loop) .inv) _ t ((c .loop-words) .ensures .0) (let e = (c .loop-words) .ensures .1 in omega arith)
+loop-again c = sum-more (c .before .before .loop .inv) (c .before .loop-test .taken) (c .loop-words .ensures .0) (c .loop-words .ensures .1)
 
 returns : tie.Need-returns Inv-loop μ-loop
-returns c = let i = (c .before .loop) .inv in let b = i .most in let q = i .low in let a = (c .before .before .before .pre) .few in (count-done (loops-parts ((c .before .before .before .args) .nest) (c .before .before .before .pre)) i ((c .loop-test) .left), omega arith)
+returns c = let i = c .before .loop .inv in (sum-done i (c .loop-test .left), sum-small i 6 (c .before .before .before .pre .shallow))
 
 pub loops-words-spec : {M : Type 1} → statement M
 loops-words-spec =
@@ -50,8 +40,6 @@ loops-words-spec =
     Inv-loop
     μ-loop
     loop-holds
-    mul-l
-    array-copy-out-l
     loop-words-requires
     add-total
     add-k

@@ -60,7 +60,7 @@ enum-known-change-6 : tie.Need-enum-known-change-6
 enum-known-change-6 c = search needs
 
 section-upper-requires : tie.Need-section-upper-requires
-section-upper-requires c κs = let s = c .before .before .before .before in unfold Allowed in let a = allowed (s .args .change) (Up (c .before .change6 .given .0 .0)) (s .args .n) (c .before .change6 .given .1) (s .pre .0) in (a, s .pre .1)
+section-upper-requires c κs = let s = c .before .before .before .before in unfold Allowed in let a = allowed (s .args .change) (Up (c .before .change6 .given .0 .0)) (s .args .n) (c .before .change6 .given .1) (s .pre .0) in (a .1, s .pre .1)
 
 enum-known-change-7 : tie.Need-enum-known-change-7
 enum-known-change-7 c = search needs

@@ -1,8 +1,13 @@
--- `mark_lines`: numbers for 4 accesses, or for 20.
+-- `mark_lines`: numbers for a small nest, for a larger one, or for the largest.
+use lib.ListN.{length}
 use native.Mathlib.Omega.{arith}
+use Rattle.lines.proofs.MarkLaws.{few-numbers}
 use borrow.Author.Needs.{needs}
 use Rattle.lines.proofs.mark_lines.Statement.{statement}
 use Rattle.lines.proofs.mark_lines.Tie as tie
+
+mul-needed : tie.Need-mul-needed
+mul-needed c = let s = c .before .before in let f = few-numbers (s .args .sheet) _ _ _ (s .pre) in omega arith
 
 slice-aggregate-mark-by : tie.Need-slice-aggregate-mark-by
 slice-aggregate-mark-by c = search needs
@@ -20,7 +25,7 @@ slice-aggregate-mark-by-2 : tie.Need-slice-aggregate-mark-by-2
 slice-aggregate-mark-by-2 c = search needs
 
 mark-by-requires-2 : tie.Need-mark-by-requires-2
-mark-by-requires-2 c κs = let s = c .before .before .before .before .before in let f = s .pre .stray .sheet .few-accesses in (s .pre, omega arith)
+mark-by-requires-2 c κs = search needs
 
 same-length-2 : tie.Need-same-length-2
 same-length-2 c = search needs
@@ -28,10 +33,23 @@ same-length-2 c = search needs
 returns-2 : tie.Need-returns-2
 returns-2 c = search needs
 
+slice-aggregate-mark-by-3 : tie.Need-slice-aggregate-mark-by-3
+slice-aggregate-mark-by-3 c = search needs
+
+mark-by-requires-3 : tie.Need-mark-by-requires-3
+mark-by-requires-3 c κs = let s = c .before .before .before .before .before .before in (s .pre, few-numbers (s .args .sheet) _ _ _ (s .pre))
+
+same-length-3 : tie.Need-same-length-3
+same-length-3 c = search needs
+
+returns-3 : tie.Need-returns-3
+returns-3 c = search needs
+
 pub mark-lines-spec : {M : Type 1} → statement M
 mark-lines-spec =
     tie.close
     (tie.spec
+    mul-needed
     slice-aggregate-mark-by
     mark-by-requires
     same-length
@@ -39,4 +57,8 @@ mark-lines-spec =
     slice-aggregate-mark-by-2
     mark-by-requires-2
     same-length-2
-    returns-2)
+    returns-2
+    slice-aggregate-mark-by-3
+    mark-by-requires-3
+    same-length-3
+    returns-3)

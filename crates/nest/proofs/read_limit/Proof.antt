@@ -6,7 +6,6 @@ use native.Mathlib.Omega.{arith}
 use lib.IntN.{ℤ}
 use lib.ListN.{take}
 use Rattle.model.specs.Answer.{accepted, refused}
-use Rattle.model.specs.Ticket as Model
 use Rattle.model.specs.Grammar.{natural, number, times, limit, done}
 use Rattle.reading.specs.Words.{naturalAnswer, OnNatural, numberAnswer, OnNumber}
 use Rattle.reading.proofs.ReaderLaws.{seen, known-of, read-value, read-refusal, refused-here, after-value, after-refusal}

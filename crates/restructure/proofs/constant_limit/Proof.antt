@@ -16,7 +16,6 @@ use Rattle.restructure.proofs.constant_limit.Statement.{statement}
 use Rattle.restructure.proofs.constant_limit.Tie as tie
 
 zeros : (a m : ℕ) → a ≤ m → take a (replicate m (pos 0)) ≡ replicate a (pos 0)
-unfolding replicate
 zeros zero m h = refl
 zeros (suc a) zero h = absurd (omega arith)
 zeros (suc a) (suc m) h = ap (pos 0 ∷_) (zeros a m (omega arith))

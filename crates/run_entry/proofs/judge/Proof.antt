@@ -5,10 +5,10 @@ use Rattle.run_entry.proofs.judge.Statement.{statement}
 use Rattle.run_entry.proofs.judge.Tie as tie
 
 directions-in-requires : tie.Need-directions-in-requires
-directions-in-requires c κs = let s = c in admitted-in (s .args .ticket) (s .args .sheet) (s .args .points .now) (s .args .count) (s .pre)
+directions-in-requires c κs = let s = c in admitted-in (s .args .sheet) (s .args .steps) (s .args .points .now) (s .args .count) (s .pre)
 
 judge-ticket-requires : tie.Need-judge-ticket-requires
-judge-ticket-requires c κs = let s = c .before in let d = c .directions-in in judge-in (s .args .ticket) (s .args .sheet) (s .args .points .now) (s .args .count) (s .pre) (d .result) (d .ensures)
+judge-ticket-requires c κs = let s = c .before in let d = c .directions-in in judge-in (s .args .sheet) (s .args .steps) (s .args .points .now) (s .args .count) (s .pre) (d .result) (d .ensures)
 
 returns : tie.Need-returns
 returns c = search needs

@@ -5,13 +5,13 @@ use Rattle.store.proofs.first.Statement.{statement}
 use Rattle.store.proofs.first.Tie as tie
 
 returns : tie.Need-returns
-returns c = let s = c .before .before .before in first-none (s .args .numbers .now) (s .args .x) (s .args .store .now) (s .args .k) (s .args .n) (c .if1 .taken)
+returns c = let s = c .before .before .before in first-none (s .args .numbers .now) (s .args .count) (s .args .x) (s .args .store .now) (s .args .k) (s .args .n) (c .if1 .taken)
 
 word-at-requires : tie.Need-word-at-requires
 word-at-requires c κs = let s = c .before .before .before in first-read (s .pre) (c .if1 .left)
 
 returns-2 : tie.Need-returns-2
-returns-2 c = let s = c .before .before .before .before in c .word-at .ensures ∙ first-some (s .args .numbers .now) (s .args .x) (s .args .store .now) (s .args .k) (s .args .n) (c .before .if1 .left)
+returns-2 c = let s = c .before .before .before .before in c .word-at .ensures ∙ first-some (s .args .numbers .now) (s .args .count) (s .args .x) (s .args .store .now) (s .args .k) (s .args .n) (c .before .if1 .left)
 
 pub first-spec : {M : Type 1} → statement M
 first-spec = tie.close (tie.spec returns word-at-requires returns-2)

@@ -10,13 +10,13 @@ use Rattle.store.proofs.largest.Statement.{statement}
 use Rattle.store.proofs.largest.Tie as tie
 
 abbrev Inv-loop : tie.InvT-loop
-Inv-loop constant numbers store k n x r₀ i₀ r i = (i ≤ n) × (r ≡ most constant (fetched numbers x store k i))
+Inv-loop constant numbers count store k n x r₀ i₀ r i = (i ≤ n) × (r ≡ most constant (fetched numbers count x store k i))
 
 abbrev μ-loop : tie.MeasureT-loop
-μ-loop constant numbers store k n x r₀ i₀ r i = n - i
+μ-loop constant numbers count store k n x r₀ i₀ r i = n - i
 
 loop-holds : tie.Need-loop-holds Inv-loop μ-loop
-loop-holds c = let s = c .before .before in (omega arith, most-none (s .args .numbers .now) (s .args .x) (s .args .store .now) (s .args .k) (s .args .constant))
+loop-holds c = let s = c .before .before in (omega arith, most-none (s .args .numbers .now) (s .args .count) (s .args .x) (s .args .store .now) (s .args .k) (s .args .constant))
 
 add-word-at : tie.Need-add-word-at Inv-loop μ-loop
 add-word-at c = let s = c .before .before .before .before in let f = s .pre .few in let t = c .loop-test .taken in omega arith
@@ -33,13 +33,13 @@ loop-less c = let t = c .before .before .loop-test .taken in omega arith
 loop-again : tie.Need-loop-again Inv-loop μ-loop
 loop-again c = let s = c .before .before .before .before .before .before in let l = c .before .before .before .loop in let t = c .before .before .loop-test .taken in let v = c .before .word-at in (
   omega arith,
-  ⊎-elim (λ w. w .1 ∙ most-new (s .args .numbers .now) (s .args .x) (s .args .store .now) (s .args .k) (s .args .constant) (l .i) (l .r) (v .result) (l .inv .1) (v .ensures) (w .0 .taken))
-      (λ w. w .1 ∙ most-old (s .args .numbers .now) (s .args .x) (s .args .store .now) (s .args .k) (s .args .constant) (l .i) (l .r) (v .result) (l .inv .1) (v .ensures) (w .0 .left))
+  ⊎-elim (λ w. w .1 ∙ most-new (s .args .numbers .now) (s .args .count) (s .args .x) (s .args .store .now) (s .args .k) (s .args .constant) (l .i) (l .r) (v .result) (l .inv .1) (v .ensures) (w .0 .taken))
+      (λ w. w .1 ∙ most-old (s .args .numbers .now) (s .args .count) (s .args .x) (s .args .store .now) (s .args .k) (s .args .constant) (l .i) (l .r) (v .result) (l .inv .1) (v .ensures) (w .0 .left))
       (c .if1 .came),
 )
 
 returns : tie.Need-returns Inv-loop μ-loop
-returns c = let s = c .before .before .before .before in let l = c .before .loop in let e : l .i ≡ s .args .n = omega (arith, l .inv .0, c .loop-test .left) in l .inv .1 ∙ ap (λ (j : ℕ). most (s .args .constant) (fetched (s .args .numbers .now) (s .args .x) (s .args .store .now) (s .args .k) j)) e
+returns c = let s = c .before .before .before .before in let l = c .before .loop in let e : l .i ≡ s .args .n = omega (arith, l .inv .0, c .loop-test .left) in l .inv .1 ∙ ap (λ (j : ℕ). most (s .args .constant) (fetched (s .args .numbers .now) (s .args .count) (s .args .x) (s .args .store .now) (s .args .k) j)) e
 
 pub largest-spec : {M : Type 1} → statement M
 largest-spec =

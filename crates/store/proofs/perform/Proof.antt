@@ -1,7 +1,7 @@
 -- `perform`: a store through the part that begins at the array is a store at the place in the whole.
 use native.Mathlib.Omega.{arith}
 use borrow.Author.Needs.{needs}
-use Rattle.store.proofs.BodyLaws.{reads-in, write-inside, through-part}
+use Rattle.store.proofs.BodyLaws.{reads-in, write-numbered, write-inside, through-part}
 use Rattle.store.proofs.perform.Statement.{statement}
 use Rattle.store.proofs.perform.Tie as tie
 
@@ -21,7 +21,7 @@ base-of-requires : tie.Need-base-of-requires
 base-of-requires c κs = let s = c .before .before .before .before .before .before .before in let h = s .pre .1 in s .pre .0 .arrays (s .args .k) (omega arith)
 
 place-of-requires : tie.Need-place-of-requires
-place-of-requires c κs = search needs
+place-of-requires c κs = let s = c .before .before .before .before .before .before .before .before in write-numbered (s .pre .0) (s .args .k) (s .args .n) (s .pre .1)
 
 sub-at : tie.Need-sub-at
 sub-at c = let s = c .before .before .before .before .before .before .before .before .before in let h = write-inside (s .pre .0) (s .args .k) (s .args .n) (s .pre .1) (c .before .base-of .result) (c .place-of .result) (c .before .base-of .ensures) (c .place-of .ensures) in omega arith
@@ -46,7 +46,7 @@ same-length c = search needs
 
 returns : tie.Need-returns
 returns c = let s = c .before .before .before .before .before .before .before .before .before .before .before .before .before in let b = c .before .before .before .before .before .base-of in let r = c .before .before .before .before .place-of in
-    through-part (s .args .numbers .now) (s .args .store .now) (s .args .x) (s .args .rule) (s .args .constant) (s .args .k) (s .args .n) (b .result) (r .result) (c .before .before .before .before .before .before .before .value .result) _
+    through-part (s .args .numbers .now) (s .args .store .now) (s .args .count) (s .args .x) (s .args .rule) (s .args .constant) (s .args .k) (s .args .n) (b .result) (r .result) (c .before .before .before .before .before .before .before .value .result) _
     (write-inside (s .pre .0) (s .args .k) (s .args .n) (s .pre .1) (b .result) (r .result) (b .ensures) (r .ensures)) (r .ensures) (c .before .before .before .before .before .before .before .value .ensures) (c .before .before .put .ensures)
 
 pub perform-spec : {M : Type 1} → statement M

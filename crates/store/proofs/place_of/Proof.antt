@@ -18,7 +18,7 @@ shared-slice-read-result : tie.Need-shared-slice-read-result
 shared-slice-read-result c = search needs
 
 cast-result : tie.Need-cast-result
-cast-result c = omega (arith, c .shared-slice-known .given (c .before .args .k * 4096 + c .before .args .x))
+cast-result c = omega (arith, c .shared-slice-known .given (c .before .args .k * c .before .args .count + c .before .args .x))
 
 returns : tie.Need-returns
 returns c = search needs

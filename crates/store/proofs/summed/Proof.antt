@@ -9,13 +9,13 @@ use Rattle.store.proofs.summed.Statement.{statement}
 use Rattle.store.proofs.summed.Tie as tie
 
 abbrev Inv-loop : tie.InvT-loop
-Inv-loop constant numbers store k n x r₀ i₀ r i = (i ≤ n) × (r ≡ (constant + sum (fetched numbers x store k i)) % 2 ^ 32)
+Inv-loop constant numbers count store k n x r₀ i₀ r i = (i ≤ n) × (r ≡ (constant + sum (fetched numbers count x store k i)) % 2 ^ 32)
 
 abbrev μ-loop : tie.MeasureT-loop
-μ-loop constant numbers store k n x r₀ i₀ r i = n - i
+μ-loop constant numbers count store k n x r₀ i₀ r i = n - i
 
 loop-holds : tie.Need-loop-holds Inv-loop μ-loop
-loop-holds c = let s = c .before .before in (omega arith, sum-none (s .args .numbers .now) (s .args .x) (s .args .store .now) (s .args .k) (s .args .constant) (s .fits .constant .fits))
+loop-holds c = let s = c .before .before in (omega arith, sum-none (s .args .numbers .now) (s .args .count) (s .args .x) (s .args .store .now) (s .args .k) (s .args .constant) (s .fits .constant .fits))
 
 add-word-at : tie.Need-add-word-at Inv-loop μ-loop
 add-word-at c = let s = c .before .before .before .before in let f = s .pre .few in let t = c .loop-test .taken in omega arith
@@ -33,10 +33,10 @@ loop-less : tie.Need-loop-less Inv-loop μ-loop
 loop-less c = let t = c .before .before .loop-test .taken in omega arith
 
 loop-again : tie.Need-loop-again Inv-loop μ-loop
-loop-again c = let s = c .before .before .before .before .before .before in let l = c .before .before .before .loop in let t = c .before .before .loop-test .taken in (omega arith, sum-next (s .args .numbers .now) (s .args .x) (s .args .store .now) (s .args .k) (s .args .constant) (l .i) (l .r) (c .before .word-at .result) (c .wrapping-add-u32 .result) (l .inv .1) (c .before .word-at .ensures) (c .wrapping-add-u32 .ensures))
+loop-again c = let s = c .before .before .before .before .before .before in let l = c .before .before .before .loop in let t = c .before .before .loop-test .taken in (omega arith, sum-next (s .args .numbers .now) (s .args .count) (s .args .x) (s .args .store .now) (s .args .k) (s .args .constant) (l .i) (l .r) (c .before .word-at .result) (c .wrapping-add-u32 .result) (l .inv .1) (c .before .word-at .ensures) (c .wrapping-add-u32 .ensures))
 
 returns : tie.Need-returns Inv-loop μ-loop
-returns c = let s = c .before .before .before .before in let l = c .before .loop in let e : l .i ≡ s .args .n = omega (arith, l .inv .0, c .loop-test .left) in l .inv .1 ∙ ap (λ (j : ℕ). (s .args .constant + sum (fetched (s .args .numbers .now) (s .args .x) (s .args .store .now) (s .args .k) j)) % 2 ^ 32) e
+returns c = let s = c .before .before .before .before in let l = c .before .loop in let e : l .i ≡ s .args .n = omega (arith, l .inv .0, c .loop-test .left) in l .inv .1 ∙ ap (λ (j : ℕ). (s .args .constant + sum (fetched (s .args .numbers .now) (s .args .count) (s .args .x) (s .args .store .now) (s .args .k) j)) % 2 ^ 32) e
 
 pub summed-spec : {M : Type 1} → statement M
 summed-spec =

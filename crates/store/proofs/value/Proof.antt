@@ -16,16 +16,16 @@ first-requires : tie.Need-first-requires
 first-requires c κs = search needs
 
 returns : tie.Need-returns
-returns c = let s = c .before .before .before .before in c .summed .ensures ∙ made-one (s .args .rule) (s .args .constant) (fetched (s .args .numbers .now) (s .args .x) (s .args .store .now) (s .args .k) (s .args .n)) (c .before .match .keys1)
+returns c = let s = c .before .before .before .before in c .summed .ensures ∙ made-one (s .args .rule) (s .args .constant) (fetched (s .args .numbers .now) (s .args .count) (s .args .x) (s .args .store .now) (s .args .k) (s .args .n)) (c .before .match .keys1)
 
 returns-2 : tie.Need-returns-2
-returns-2 c = let s = c .before .before .before .before in c .largest .ensures ∙ made-two (s .args .rule) (s .args .constant) (fetched (s .args .numbers .now) (s .args .x) (s .args .store .now) (s .args .k) (s .args .n)) (c .before .match .keys2)
+returns-2 c = let s = c .before .before .before .before in c .largest .ensures ∙ made-two (s .args .rule) (s .args .constant) (fetched (s .args .numbers .now) (s .args .count) (s .args .x) (s .args .store .now) (s .args .k) (s .args .n)) (c .before .match .keys2)
 
 returns-3 : tie.Need-returns-3
-returns-3 c = let s = c .before .before .before .before in c .first .ensures ∙ made-three (s .args .rule) (s .args .constant) (fetched (s .args .numbers .now) (s .args .x) (s .args .store .now) (s .args .k) (s .args .n)) (c .before .match .keys3)
+returns-3 c = let s = c .before .before .before .before in c .first .ensures ∙ made-three (s .args .rule) (s .args .constant) (fetched (s .args .numbers .now) (s .args .count) (s .args .x) (s .args .store .now) (s .args .k) (s .args .n)) (c .before .match .keys3)
 
 returns-4 : tie.Need-returns-4
-returns-4 c = let s = c .before .before .before in made-none (s .args .rule) (s .args .constant) (fetched (s .args .numbers .now) (s .args .x) (s .args .store .now) (s .args .k) (s .args .n)) (c .match .rest .0 .0 .1) (c .match .rest .0 .1) (c .match .rest .1)
+returns-4 c = let s = c .before .before .before in made-none (s .args .rule) (s .args .constant) (fetched (s .args .numbers .now) (s .args .count) (s .args .x) (s .args .store .now) (s .args .k) (s .args .n)) (c .match .rest .0 .0 .1) (c .match .rest .0 .1) (c .match .rest .1)
 
 pub value-spec : {M : Type 1} → statement M
 value-spec =

@@ -3,7 +3,7 @@ use borrow.Author.Needs.{needs}
 use Rattle.model.specs.Grammar.{depthAfter}
 use Rattle.model.specs.Limits.{coefficientsAfter}
 use Rattle.steps.specs.declared.Step.the-variants.{Swap, Reverse, Lean, Strip}
-use Rattle.subscripts.proofs.SubscriptLaws.{there, row-is, row-longer}
+use Rattle.subscripts.proofs.StepLaws.{there, row-is, row-longer}
 use Rattle.subscripts.proofs.row_after.Statement.{statement}
 use Rattle.subscripts.proofs.row_after.Tie as tie
 
@@ -36,19 +36,19 @@ split-requires c κs = let s = c .before .before .before .before in let v = c .b
 
 returns : tie.Need-returns
 unfolding depthAfter coefficientsAfter
-returns c = let s = c .before .before .before .before in let v = c .before .before .step .given in row-is (s .args .step) (Swap (v .0 .0)) (s .args .n) (v .1) (s .args .cs) (c .swapped .result) (c .swapped .ensures)
+returns c = let s = c .before .before .before .before in let v = c .before .before .step .given in row-is (s .args .step) (Swap (v .0 .0)) (s .args .n) (v .1) (s .args .cs) (c .swapped .result) (c .swapped .ensures .is) (c .swapped .ensures .room)
 
 returns-2 : tie.Need-returns-2
 unfolding depthAfter coefficientsAfter
-returns-2 c = let s = c .before .before .before .before in let v = c .before .before .step2 .given in row-is (s .args .step) (Reverse (v .0 .0)) (s .args .n) (v .1) (s .args .cs) (c .turned .result) (c .turned .ensures)
+returns-2 c = let s = c .before .before .before .before in let v = c .before .before .step2 .given in row-is (s .args .step) (Reverse (v .0 .0)) (s .args .n) (v .1) (s .args .cs) (c .turned .result) (c .turned .ensures .is) (c .turned .ensures .room)
 
 returns-3 : tie.Need-returns-3
 unfolding depthAfter coefficientsAfter
-returns-3 c = let s = c .before .before .before .before in let v = c .before .before .step3 .given in row-is (s .args .step) (Lean (v .0 .0)) (s .args .n) (v .1) (s .args .cs) (c .skewed .result) (c .skewed .ensures)
+returns-3 c = let s = c .before .before .before .before in let v = c .before .before .step3 .given in row-is (s .args .step) (Lean (v .0 .0)) (s .args .n) (v .1) (s .args .cs) (c .skewed .result) (c .skewed .ensures .is) (c .skewed .ensures .room)
 
 returns-4 : tie.Need-returns-4
 unfolding depthAfter coefficientsAfter
-returns-4 c = let s = c .before .before .before .before .before in let v = c .before .before .before .step4 .given in row-is (s .args .step) (Strip (v .0 .0)) (s .args .n) (v .1) (s .args .cs) (c .split .result) (row-longer (s .args .n) (c .split .result) _ (c .split .ensures))
+returns-4 c = let s = c .before .before .before .before .before in let v = c .before .before .before .step4 .given in row-is (s .args .step) (Strip (v .0 .0)) (s .args .n) (v .1) (s .args .cs) (c .split .result) (row-longer (s .args .n) (c .split .result) _ (c .split .ensures .is)) (c .split .ensures .room)
 
 pub row-after-spec : {M : Type 1} → statement M
 row-after-spec =

@@ -1,50 +1,98 @@
--- `decode`: the sections, and nothing after them.
-use mathlib.Core.Path.{sym}
-use Rattle.reading.proofs.ReaderLaws.{read-value, read-refusal}
-use Rattle.ticket.proofs.SectionLaws.{decode-refused, decode-overhang, decode-accepted}
+-- `decode`: each section from where the one before it ended, laid over zeros; the first refusal decides.
+use mathlib.Core.Path.{refl, sym}
+use native.Mathlib.Omega.{arith}
+use Rattle.ticket.proofs.DecodeLaws.{zeros-room, extents-used, arrays-in, decodes}
 use borrow.Author.Needs.{needs}
 use Rattle.ticket.proofs.decode.Statement.{statement}
 use Rattle.ticket.proofs.decode.Tie as tie
 
-read-sections-requires : tie.Need-read-sections-requires
-read-sections-requires c κs = search needs
+slice-aggregate-read-nest : tie.Need-slice-aggregate-read-nest
+slice-aggregate-read-nest c = search needs
 
-enum-told : tie.Need-enum-told
-enum-told c = search needs
+slice-aggregate-read-nest-2 : tie.Need-slice-aggregate-read-nest-2
+slice-aggregate-read-nest-2 c = search needs
 
-enum-known-status : tie.Need-enum-known-status
-enum-known-status c = search needs
+read-nest-requires : tie.Need-read-nest-requires
+read-nest-requires c κs = (record { counted = omega arith; there = omega arith }, zeros-room)
+
+slice-aggregate-read-arrays : tie.Need-slice-aggregate-read-arrays
+slice-aggregate-read-arrays c = search needs
+
+read-arrays-requires : tie.Need-read-arrays-requires
+read-arrays-requires c κs = search needs
+
+mul-extents : tie.Need-mul-extents
+mul-extents c = search needs
+
+array-share-prefix-extents : tie.Need-array-share-prefix-extents
+array-share-prefix-extents c = search needs
+
+slice-aggregate-read-body : tie.Need-slice-aggregate-read-body
+slice-aggregate-read-body c = sym (extents-used _ _ _ _ (c .before .before .read-arrays .ensures))
+
+slice-aggregate-read-body-2 : tie.Need-slice-aggregate-read-body-2
+slice-aggregate-read-body-2 c = search needs
+
+slice-aggregate-read-body-3 : tie.Need-slice-aggregate-read-body-3
+slice-aggregate-read-body-3 c = search needs
+
+slice-aggregate-read-body-4 : tie.Need-slice-aggregate-read-body-4
+slice-aggregate-read-body-4 c = search needs
+
+slice-aggregate-read-body-5 : tie.Need-slice-aggregate-read-body-5
+slice-aggregate-read-body-5 c = search needs
+
+slice-aggregate-read-body-6 : tie.Need-slice-aggregate-read-body-6
+slice-aggregate-read-body-6 c = search needs
+
+read-body-requires : tie.Need-read-body-requires
+read-body-requires c κs = let n = c .before .before .before .before .before .before .before .before .before .before .before .read-nest .ensures in
+    let a = c .before .before .before .before .before .before .before .read-arrays .ensures in
+    (record { reached = a .reads .reached; shallow = omega (arith, n .shallow); arrays = arrays-in _ _ _ _ a; words = refl; owners = refl }, refl, refl, refl)
+
+read-steps-requires : tie.Need-read-steps-requires
+read-steps-requires c κs = search needs
+
+first-of-requires : tie.Need-first-of-requires
+first-of-requires c κs = search needs
+
+first-of-requires-2 : tie.Need-first-of-requires-2
+first-of-requires-2 c κs = search needs
+
+first-of-requires-3 : tie.Need-first-of-requires-3
+first-of-requires-3 c κs = search needs
+
+end-of-requires : tie.Need-end-of-requires
+end-of-requires c κs = search needs
 
 returns : tie.Need-returns
-returns c =
-    let e = read-refusal (c .before .status .given .1) (c .before .before .before .before .read-sections .ensures .reads) in
-    record { same = sym (decode-refused _ _ _ e); within = c .before .before .before .before .read-sections .ensures .within }
-
-sub-if1 : tie.Need-sub-if1
-sub-if1 c = search needs
-
-mul-if1 : tie.Need-mul-if1
-mul-if1 c = search needs
-
-returns-2 : tie.Need-returns-2
-returns-2 c =
-    let e = read-value (c .before .enum-told .given .1) (c .before .before .before .before .read-sections .ensures .reads) in
-    record { same = sym (decode-overhang _ _ _ e (c .if1 .taken)); within = c .before .before .before .before .read-sections .ensures .within }
-
-returns-3 : tie.Need-returns-3
-returns-3 c =
-    let e = read-value (c .before .enum-told .given .1) (c .before .before .before .before .read-sections .ensures .reads) in
-    record { same = sym (decode-accepted _ _ _ e (c .if1 .left)); within = c .before .before .before .before .read-sections .ensures .within }
+returns c = let k = c .before .before .before .before .before .before .before .before .before .before .before .read-body .kept in
+    decodes _ _ (c .before .before .before .before .before .before .before .before .before .before .before .before .before .before .before .before .before .before .before .before .before .before .before .read-nest .result) (c .before .before .before .before .before .before .before .before .before .before .before .before .before .before .before .before .before .before .before .read-arrays .result) (c .before .before .before .before .before .before .before .before .before .before .before .read-body .result) (c .before .before .before .before .before .read-steps .result)
+    (c .before .before .before .before .before .before .before .before .before .before .before .before .before .before .before .before .before .before .before .before .before .before .before .read-nest .ensures) (c .before .before .before .before .before .before .before .before .before .before .before .before .before .before .before .before .before .before .before .read-arrays .ensures) (c .before .before .before .before .before .before .before .before .before .before .before .read-body .ensures) (c .before .before .before .before .before .read-steps .ensures) refl refl refl refl _ _ _ _
+    (c .before .before .before .before .first-of .ensures) (c .before .before .before .first-of2 .ensures) (c .before .before .first-of3 .ensures) (c .before .end-of .ensures)
+    (k .1 .1 .1 .1 .1 .1 .1 .0) (k .1 .1 .1 .1 .1 .1 .1 .1 .0) (k .1 .1 .1 .1 .1 .1 .1 .1 .1 .0) (k .1 .1 .1 .1 .1 .1 .0)
 
 pub decode-spec : {M : Type 1} → statement M
 decode-spec =
     tie.close
     (tie.spec
-    read-sections-requires
-    enum-told
-    enum-known-status
-    returns
-    sub-if1
-    mul-if1
-    returns-2
-    returns-3)
+    slice-aggregate-read-nest
+    slice-aggregate-read-nest-2
+    read-nest-requires
+    slice-aggregate-read-arrays
+    read-arrays-requires
+    mul-extents
+    array-share-prefix-extents
+    slice-aggregate-read-body
+    slice-aggregate-read-body-2
+    slice-aggregate-read-body-3
+    slice-aggregate-read-body-4
+    slice-aggregate-read-body-5
+    slice-aggregate-read-body-6
+    read-body-requires
+    read-steps-requires
+    first-of-requires
+    first-of-requires-2
+    first-of-requires-3
+    end-of-requires
+    returns)

@@ -33,7 +33,7 @@ same-length-2 : tie.Need-same-length-2
 same-length-2 c = search needs
 
 returns-2 : tie.Need-returns-2
-returns-2 c = let s = c .before .before .before .before .before .before .before .before .before .before .before .before .before in let a = c .before .before .before .before .before .before .before .before .admit in let j = c .before .before .judge-ticket in decided _ _ _ (withStatus (a .result) (s .args .all)) (a .ensures) (c .before .before .before .before .before .enum-told .given .1) (j .result) (j .ensures)
+returns-2 c = let s = c .before .before .before .before .before .before .before .before .before .before .before .before in let a = c .before .before .before .before .before .before .before .admit in let j = c .before .judge-ticket in decided _ _ _ (withStatus (a .result) (s .args .all)) (a .ensures) (c .before .before .before .before .enum-told .given .1) (j .result) (j .ensures)
 
 pub decide-by-spec : {M : Type 1} → statement M
 decide-by-spec =

@@ -16,8 +16,8 @@ enum-known-status c = search needs
 returns : tie.Need-returns
 returns c = let d = c .before .before .before .decide in write-refused _ (d .result) (d .ensures) _ _ (c .before .status .given .1)
 
-encode-nest-requires : tie.Need-encode-nest-requires
-encode-nest-requires c κs = let d = c .before .before .before .before .before .before .before .decide in encodable _ (d .result) (d .ensures) (c .before .before .before .before .before .before .before .before .before .before .args .out .now) (c .before .before .before .before .before .enum-told .given .1)
+encode-sheet-requires : tie.Need-encode-sheet-requires
+encode-sheet-requires c κs = let d = c .before .before .before .before .decide in encodable _ (d .result) (d .ensures) (c .before .before .before .before .before .before .before .args .out .now) (c .before .before .enum-told .given .1)
 
 enum-known-n : tie.Need-enum-known-n
 enum-known-n c = search needs
@@ -29,13 +29,13 @@ same-length : tie.Need-same-length
 same-length c = search needs
 
 returns-2 : tie.Need-returns-2
-returns-2 c = let d = c .before .before .before .before .before .before .before .before .before .before .before .before .before .decide in let g = c .before .before .before .before .before .encode-nest in write-complete _ (d .result) (d .ensures) _ (c .before .before .before .before .before .before .before .before .before .before .before .enum-told .given .1) _ (g .result) (g .ensures) _ (c .before .n .given .1)
+returns-2 c = let d = c .before .before .before .before .before .before .before .before .before .before .decide in let g = c .before .before .before .before .before .encode-sheet in write-complete _ (d .result) (d .ensures) _ (c .before .before .before .before .before .before .before .before .enum-told .given .1) _ (g .result) (g .ensures) _ (c .before .n .given .1)
 
 same-length-2 : tie.Need-same-length-2
 same-length-2 c = search needs
 
 returns-3 : tie.Need-returns-3
-returns-3 c = let d = c .before .before .before .before .before .before .before .before .before .before .before .before .decide in let g = c .before .before .before .before .encode-nest in write-short _ (d .result) (d .ensures) _ (c .before .before .before .before .before .before .before .before .before .before .enum-told .given .1) _ (g .result) (g .ensures) _ (c .enum-told2 .given .1)
+returns-3 c = let d = c .before .before .before .before .before .before .before .before .before .decide in let g = c .before .before .before .before .encode-sheet in write-short _ (d .result) (d .ensures) _ (c .before .before .before .before .before .before .before .enum-told .given .1) _ (g .result) (g .ensures) _ (c .enum-told2 .given .1)
 
 pub write-spec : {M : Type 1} → statement M
 write-spec =
@@ -45,7 +45,7 @@ write-spec =
     enum-told
     enum-known-status
     returns
-    encode-nest-requires
+    encode-sheet-requires
     enum-known-n
     enum-told-2
     same-length

@@ -1,25 +1,62 @@
 -- `put_loop`: the lower side, the upper side.
-use mathlib.Core.List.{[]}
-use Rattle.writing.proofs.WritingLaws.{written-length, writable-left, writable-right, written-both}
-use Rattle.model.specs.Encode.{counted, limitWords, loopWords}
-use Rattle.nest.specs.Nested.{sideOf, loopOf}
+use Rattle.writing.proofs.SectionLaws.{lower-in, upper-in, lower-room, upper-room, loop-written}
+use borrow.Author.Needs.{needs}
 use Rattle.writing.proofs.put_loop.Statement.{statement}
 use Rattle.writing.proofs.put_loop.Tie as tie
 
+mul-lower : tie.Need-mul-lower
+mul-lower c = search needs
+
+mul-lower-2 : tie.Need-mul-lower-2
+mul-lower-2 c = search needs
+
+shared-slice-read-lower : tie.Need-shared-slice-read-lower
+shared-slice-read-lower c = search needs
+
+mul-upper : tie.Need-mul-upper
+mul-upper c = search needs
+
+add-upper : tie.Need-add-upper
+add-upper c = search needs
+
+mul-upper-2 : tie.Need-mul-upper-2
+mul-upper-2 c = search needs
+
+shared-slice-read-upper : tie.Need-shared-slice-read-upper
+shared-slice-read-upper c = search needs
+
+mul-first : tie.Need-mul-first
+mul-first c = search needs
+
+add-second : tie.Need-add-second
+add-second c = search needs
+
 put-side-requires : tie.Need-put-side-requires
-unfolding loopWords loopOf
-put-side-requires c κs = (writable-left (counted limitWords (sideOf _ _)) (counted limitWords (sideOf _ _)) ((c .before .before .before .before .pre) .0), (c .before .before .before .before .pre) .1, (c .before .before .before .before .pre) .2 .lower)
+put-side-requires c κs = let s = c .before .before .before .before .before in let p = s .pre .1 in (lower-room _ _ _ p (s .pre .0), lower-in _ _ _ p)
 
 put-side-requires-2 : tie.Need-put-side-requires-2
-unfolding loopWords loopOf
-put-side-requires-2 c κs = (writable-right (counted limitWords (sideOf _ _)) (counted limitWords (sideOf _ _)) ((c .before .before .before .before .before .before .before .before .pre) .0) ((c .before .before .before .put-side) .ensures), (c .before .before .before .before .before .before .before .before .pre) .1, (c .before .before .before .before .before .before .before .before .pre) .2 .upper)
-
-returns : tie.Need-returns
-unfolding loopWords loopOf
-returns c = written-both (counted limitWords (sideOf _ _)) (counted limitWords (sideOf _ _)) ((c .before .before .before .before .before .before .before .before .before .before .before .pre) .0) ((c .before .before .before .before .before .before .put-side) .ensures) ((c .before .before .put-side2) .ensures)
+put-side-requires-2 c κs = let s = c .before .before .before .before .before .before .before .before .before in let p = s .pre .1 in (upper-room _ _ _ p (s .pre .0) (c .before .before .before .put-side .ensures), upper-in _ _ _ p)
 
 same-length : tie.Need-same-length
-same-length c = written-length ((c .before .before .before .before .before .before .before .before .before .before .before .pre) .0) (returns c)
+same-length c = search needs
+
+returns : tie.Need-returns
+returns c = let s = c .before .before .before .before .before .before .before .before .before .before .before .before in loop-written (s .args .limits .now) (s .args .counts .now) (s .args .k) (s .pre .1) (s .pre .0) (c .before .before .before .before .before .before .put-side .ensures) (c .before .before .put-side2 .ensures)
 
 pub put-loop-spec : {M : Type 1} → statement M
-put-loop-spec = tie.close (tie.spec put-side-requires put-side-requires-2 same-length returns)
+put-loop-spec =
+    tie.close
+    (tie.spec
+    mul-lower
+    mul-lower-2
+    shared-slice-read-lower
+    mul-upper
+    add-upper
+    mul-upper-2
+    shared-slice-read-upper
+    mul-first
+    add-second
+    put-side-requires
+    put-side-requires-2
+    same-length
+    returns)

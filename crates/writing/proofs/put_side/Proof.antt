@@ -1,35 +1,36 @@
 -- `put_side`: k limits are written behind their count.
 use borrow.Author.Needs.{needs}
-use mathlib.Core.List.{[]}
 use Prim.Native.Nat.{_-_}
-use native.Mathlib.Omega.{arith}
-use Rattle.writing.proofs.WritingLaws.{written-length, Filling, fill-next, fill-more, head-room, head-start, head-done, all-at}
 use Rattle.model.specs.Encode.{limitWords}
-use Rattle.nest.specs.Nested.{limitOf, LimitIn}
-use Rattle.writing.proofs.SectionLaws.{side-parts}
+use Rattle.bounds.specs.Flat.{limitAt}
+use Rattle.writing.proofs.WritingLaws.{written-length, Filling, fill-next, fill-more, head-room, head-start, head-done}
+use Rattle.writing.proofs.SectionLaws.{side-spans, limit-room, limit-writable, limit-written}
 use Rattle.writing.proofs.put_side.Statement.{statement}
 use Rattle.writing.proofs.put_side.Tie as tie
 
 abbrev Inv-loop : tie.InvT-loop
-Inv-loop out₀ at outer count limits next₀ k₀ out next k = Filling (λ _ l. limitWords (limitOf outer l)) out₀ next₀ count limits out next k
+Inv-loop out₀ at limits outer j n next₀ k₀ out next k = Filling (λ i. limitWords (limitAt limits outer i)) out₀ next₀ j n out next k
 
 abbrev μ-loop : tie.MeasureT-loop
-μ-loop out₀ at outer count limits next₀ k₀ out next k = count - k
+μ-loop out₀ at limits outer j n next₀ k₀ out next k = n - k
 
 put-natural-requires : tie.Need-put-natural-requires Inv-loop μ-loop
-put-natural-requires c κs = head-room (side-parts ((c .before .before .before .args) .outer) ((c .before .before .before .args) .s) ((c .before .before .before .pre) .2)) ((c .before .before .before .pre) .0)
+put-natural-requires c κs = let s = c .before .before in head-room (side-spans (s .args .limits .now) (s .args .outer) (s .args .j) (s .args .n)) (s .pre .0)
 
 loop-holds : tie.Need-loop-holds Inv-loop μ-loop
-loop-holds c = let a = ((c .before .before .before .before .before .before .pre) .2) .few in let b = ((c .before .before .before .before .before .before .pre) .2) .room in head-start (side-parts ((c .before .before .before .before .before .before .args) .outer) ((c .before .before .before .before .before .before .args) .s) ((c .before .before .before .before .before .before .pre) .2)) ((c .before .before .before .before .before .before .pre) .0) (omega arith) ((c .before .before .put-natural) .ensures)
+loop-holds c = let s = c .before .before .before .before .before in head-start (side-spans (s .args .limits .now) (s .args .outer) (s .args .j) (s .args .n)) (s .pre .0) (c .before .before .put-natural .ensures)
 
-mul-l : tie.Need-mul-l Inv-loop μ-loop
-mul-l c = search needs
+add-put-words : tie.Need-add-put-words Inv-loop μ-loop
+add-put-words c = let s = c .before .before .before .before .before .before .before .before in let h = s .pre .1 .inside in let t = c .before .loop-test .taken in search needs
 
-array-copy-out-l : tie.Need-array-copy-out-l Inv-loop μ-loop
-array-copy-out-l c = search needs
+mul-put-words : tie.Need-mul-put-words Inv-loop μ-loop
+mul-put-words c = let s = c .before .before .before .before .before .before .before .before in let h = s .pre .1 .inside in let t = c .before .loop-test .taken in search needs
 
-put-limit-requires : tie.Need-put-limit-requires Inv-loop μ-loop
-put-limit-requires c κs = let i = (c .before .before .before .loop) .inv in let t = (c .before .before .loop-test) .taken in (fill-next i _ t, (c .before .before .before .before .before .before .before .before .before .before .pre) .1, all-at LimitIn _ _ _ _ (i .room) t ((c .before .before .before .before .before .before .before .before .before .before .pre) .2 .each))
+add-put-words-2 : tie.Need-add-put-words-2 Inv-loop μ-loop
+add-put-words-2 c = let s = c .before .before .before .before .before .before .before .before in let h = s .pre .1 .outside in search needs
+
+put-words-requires : tie.Need-put-words-requires Inv-loop μ-loop
+put-words-requires c κs = let s = c .before .before .before .before .before .before .before .before in let l = c .before .before .loop in let t = c .before .loop-test .taken in (limit-writable (s .args .limits .now) (s .args .outer) (s .args .j) (s .args .n) (l .k) (s .pre .1) t (fill-next (l .inv) t), limit-room (s .args .limits .now) (s .args .outer) (s .args .j) (s .args .n) (l .k) (s .pre .1) t)
 
 add-k : tie.Need-add-k Inv-loop μ-loop
 add-k c = search needs
@@ -38,13 +39,13 @@ loop-less : tie.Need-loop-less Inv-loop μ-loop
 loop-less c = search needs
 
 loop-again : tie.Need-loop-again Inv-loop μ-loop
-loop-again c = fill-more ((c .before .before .before .before .before .before .loop) .inv) _ ((c .before .before .before .before .before .loop-test) .taken) ((c .before .before .put-limit) .ensures)
+loop-again c = let s = c .before .before .before .before .before .before .before .before .before .before .before in let l = c .before .before .before .before .before .loop in let t = c .before .before .before .before .loop-test .taken in fill-more (l .inv) t (limit-written (s .args .limits .now) (s .args .outer) (s .args .j) (s .args .n) (l .k) (s .pre .1) t (c .before .before .put-words .ensures))
 
 returns : tie.Need-returns Inv-loop μ-loop
-returns c = head-done (side-parts ((c .before .before .before .before .before .before .before .before .args) .outer) ((c .before .before .before .before .before .before .before .before .args) .s) ((c .before .before .before .before .before .before .before .before .pre) .2)) ((c .before .before .before .before .before .before .before .before .pre) .0) ((c .before .before .before .before .put-natural) .ensures) ((c .before .loop) .inv) ((c .loop-test) .left)
+returns c = let s = c .before .before .before .before .before .before .before in head-done (side-spans (s .args .limits .now) (s .args .outer) (s .args .j) (s .args .n)) (s .pre .0) (c .before .before .before .before .put-natural .ensures) (c .before .loop .inv) (c .loop-test .left)
 
 same-length : tie.Need-same-length Inv-loop μ-loop
-same-length c = written-length ((c .before .before .before .before .before .before .before .before .pre) .0) (returns c)
+same-length c = written-length (c .before .before .before .before .before .before .before .pre .0) (returns c)
 
 pub put-side-spec : {M : Type 1} → statement M
 put-side-spec =
@@ -54,9 +55,10 @@ put-side-spec =
     μ-loop
     put-natural-requires
     loop-holds
-    mul-l
-    array-copy-out-l
-    put-limit-requires
+    add-put-words
+    mul-put-words
+    add-put-words-2
+    put-words-requires
     add-k
     loop-less
     loop-again

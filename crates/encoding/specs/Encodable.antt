@@ -1,0 +1,43 @@
+-- What may be written: counts within the slices, and all words within ±32767.
+use mathlib.Core.List.{List}
+use Prim.Native.Nat.{ℕ, _+_, _≤_}
+use lib.IntN.{ℤ}
+use lib.ListN.{length}
+use Rattle.lists.specs.Membership.{All}
+use Rattle.model.specs.Encode.{nestWords}
+use Rattle.model.specs.Shape.{WellFormed}
+use Rattle.model.specs.Store.{sum}
+use Rattle.model.specs.Ranges.{Small, NestRanges}
+use Rattle.elements.specs.Layout.{AccessesOk}
+use Rattle.sheet.specs.declared.Sheet.{Sheet}
+use Rattle.sheet.specs.Sheets.{nestOf, SheetIn}
+use Rattle.lengths.specs.Slices.{nestAt, SlicesIn}
+
+-- m accesses from access k on, in a nest of n loops
+pub record AccessesIn (w : List ℤ) (o a : List ℕ) (n k m : ℕ) : Type 0 where
+  pub accesses : AccessesOk w o a n
+  pub there : k + m ≤ length o
+
+-- a statement that has them
+pub record StatementIn (w : List ℤ) (o a : List ℕ) (n k m : ℕ) : Type 0 where
+  pub all : AccessesIn w o a n k m
+  pub some : 1 ≤ m
+
+-- statements of sizes ms, with rules rs and constants es
+pub record StatementsIn (w : List ℤ) (o a : List ℕ) (n : ℕ) (ms rs es : List ℕ) : Type 0 where
+  pub accesses : AccessesOk w o a n
+  pub all-accesses : sum ms ≤ length o
+  pub each : All (λ m. 1 ≤ m) ms
+  pub few : length ms ≤ 4
+  pub rules : length ms ≤ length rs
+  pub constants : length ms ≤ length es
+
+pub record Encodable (s : List ℤ) (c : List ℕ) (n : ℕ) (a ms rs es o : List ℕ) (w : List ℤ) : Type 0 where
+  pub held : SlicesIn s c n a ms rs es o w
+  pub small : All Small (nestWords (nestAt s c n a ms rs es o w))
+
+-- every nest of up to 6 loops and 16 limits a side whose numbers are in their ranges
+pub record SheetEncodable (P : Sheet) : Type 0 where
+  pub sheet : SheetIn P
+  pub ranges : NestRanges 6 16 (nestOf P)
+  pub formed : WellFormed (nestOf P)

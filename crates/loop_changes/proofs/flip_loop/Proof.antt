@@ -1,0 +1,103 @@
+use native.Mathlib.Omega.{arith}
+use lib.ListN.{length-set}
+use Rattle.loop_changes.proofs.FlipLaws.{flip-is}
+use borrow.Author.Needs.{needs}
+use Rattle.loop_changes.proofs.flip_loop.Statement.{statement}
+use Rattle.loop_changes.proofs.flip_loop.Tie as tie
+
+mul-lower : tie.Need-mul-lower
+mul-lower c = search needs
+
+mul-lower-2 : tie.Need-mul-lower-2
+mul-lower-2 c = search needs
+
+slice-read-lower : tie.Need-slice-read-lower
+slice-read-lower c = search needs
+
+mul-upper : tie.Need-mul-upper
+mul-upper c = search needs
+
+add-upper : tie.Need-add-upper
+add-upper c = search needs
+
+mul-upper-2 : tie.Need-mul-upper-2
+mul-upper-2 c = search needs
+
+slice-read-upper : tie.Need-slice-read-upper
+slice-read-upper c = search needs
+
+larger-requires : tie.Need-larger-requires
+larger-requires c κs = search needs
+
+mul-trade-words : tie.Need-mul-trade-words
+mul-trade-words c = search needs
+
+mul-trade-words-2 : tie.Need-mul-trade-words-2
+mul-trade-words-2 c = search needs
+
+add-trade-words : tie.Need-add-trade-words
+add-trade-words c = search needs
+
+mul-trade-words-3 : tie.Need-mul-trade-words-3
+mul-trade-words-3 c = search needs
+
+trade-words-requires : tie.Need-trade-words-requires
+trade-words-requires c κs = search needs
+
+mul-counts : tie.Need-mul-counts
+mul-counts c = search needs
+
+mul-counts-2 : tie.Need-mul-counts-2
+mul-counts-2 c = search needs
+
+slice-write-counts : tie.Need-slice-write-counts
+slice-write-counts c = search needs
+
+mul-counts-3 : tie.Need-mul-counts-3
+mul-counts-3 c = search needs
+
+add-counts : tie.Need-add-counts
+add-counts c = search needs
+
+mul-counts-4 : tie.Need-mul-counts-4
+mul-counts-4 c = search needs
+
+slice-write-counts-2 : tie.Need-slice-write-counts-2
+slice-write-counts-2 c = let p = c .before .before .before .before .before .before .before .pre .counts in let d = c .before .before .before .before .before .before .before .pre .deep in simp length-set (omega arith)
+
+same-length : tie.Need-same-length
+same-length c = search needs
+
+same-length-2 : tie.Need-same-length-2
+same-length-2 c = search needs
+
+returns : tie.Need-returns
+returns c = let s = c .before .before .before .before .before .before .before in let a = s .args in let m = c .before .before .before .larger in flip-is (a .limits .now) (a .counts .now) (a .k) (m .result) (s .pre) (m .ensures .0) (m .ensures .1) (m .ensures .2) _ (c .before .trade-words .ensures)
+
+pub flip-loop-spec : {M : Type 1} → statement M
+flip-loop-spec =
+    tie.close
+    (tie.spec
+    mul-lower
+    mul-lower-2
+    slice-read-lower
+    mul-upper
+    add-upper
+    mul-upper-2
+    slice-read-upper
+    larger-requires
+    mul-trade-words
+    mul-trade-words-2
+    add-trade-words
+    mul-trade-words-3
+    trade-words-requires
+    mul-counts
+    mul-counts-2
+    slice-write-counts
+    mul-counts-3
+    add-counts
+    mul-counts-4
+    slice-write-counts-2
+    same-length
+    same-length-2
+    returns)

@@ -1,2 +1,0 @@
--- Flat slices with the loops of a nest laid over them.
-pub mod Limits

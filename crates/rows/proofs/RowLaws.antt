@@ -1,0 +1,85 @@
+-- A number as it is read from 16 bits to 32 and written back; a row read and written number by number.
+use mathlib.Core.Path.{_≡_, refl, sym, ap, ap₂, _∙_}
+use mathlib.Core.Bool.{Bool, true, false}
+use mathlib.Core.List.{List, [], _∷_, _++_}
+use Prim.Native.Nat.{ℕ, _+_, _≤_, _<_}
+use native.Mathlib.Omega.{arith}
+use native.Mathlib.Numerals.{add-one}
+use lib.IntN.{ℤ, pos}
+use lib.ListN.{length, getD, take, drop, set, length-drop}
+use lib.Seq.{take-suc, take-length, take-suc-set, length-take-le, getD-drop}
+use mir.Syntax.{w16, w32}
+use mir.Val.{SFits, toZ, ofZ}
+use mir.Facts.{toZ-ofZ}
+use Rattle.lists.specs.Parts.{put}
+use Rattle.lists.specs.Tests.{all}
+use Rattle.lists.proofs.PartLaws.{length-put, set-put}
+use Rattle.lists.proofs.TestLaws.{true-T}
+use Rattle.integers.specs.Difference.{size}
+use Rattle.integers.specs.Affine.{Within}
+use Rattle.integers.proofs.RangeLaws.{sfits-up, sfits-down, sfits, word-fits}
+use Rattle.integers.proofs.AffineLaws.{within-at}
+use Rattle.model.specs.Judge.{small}
+use Rattle.rows.specs.Rows.{Tried}
+use Rattle.rows.proofs.SmallLaws.{row-small}
+
+-- ---- one word
+
+pub word-wide : {z : ℤ} → SFits w16 z → SFits w32 z
+word-wide {z} h = let u = sfits-up w16 z h in let d = sfits-down w16 z h in sfits (omega arith)
+
+module _ (z : ℤ) (h : size z ≤ 32767) where
+  -- as it is read, and as it is written
+  pub number-read : toZ w32 (ofZ w32 z) ≡ z
+  number-read = toZ-ofZ (sfits (omega arith))
+
+  pub number-fits : SFits w16 (toZ w32 (ofZ w32 z))
+  number-fits = rw number-read (word-fits h)
+
+  pub number-written : toZ w16 (ofZ w16 (toZ w32 (ofZ w32 z))) ≡ z
+  number-written = toZ-ofZ number-fits ∙ number-read
+
+-- ---- a row that is read: the first k numbers are there
+
+pub read-more : (w : List ℤ) (at k : ℕ) (r : List ℤ) (z : ℤ) → k < length r → at + k < length w → take k r ≡ take k (drop at w) → z ≡ getD w (at + k) (pos 0)
+    → take (k + 1) (set r k z) ≡ take (k + 1) (drop at w)
+read-more w at k r z h g e q = let d = length-drop at w in
+    rw add-one (take-suc-set r k z h ∙ ap₂ (λ (x : List ℤ) (y : ℤ). x ++ (y ∷ [])) e (q ∙ sym (getD-drop at w k (pos 0))) ∙ sym (take-suc (drop at w) k (pos 0) (omega arith)))
+
+-- ---- a row that is written
+
+module _ (o row : List ℤ) (at : ℕ) (p : (at + length row ≤ length o) × Within 32767 row) where
+  near : (j : ℕ) → size (getD row j (pos 0)) ≤ 32767
+  near j = within-at 32767 row (p .1) j
+
+  pub narrow-in : (j : ℕ) → size (toZ w32 (ofZ w32 (getD row j (pos 0)))) ≤ 32767
+  narrow-in j = rw (number-read (getD row j (pos 0)) (near j)) (near j)
+
+  module _ (out : List ℤ) (j : ℕ) (e : out ≡ put o at (take j row)) where
+    pub row-room : j ≤ length row → length out ≡ length o
+    row-room h = let n = length-take-le j row h in let q = p .0 in ap length e ∙ length-put o at (take j row) (omega arith)
+
+    pub row-more : j < length row → {z : ℤ} → z ≡ toZ w32 (ofZ w32 (getD row j (pos 0))) → set out (at + j) (toZ w16 (ofZ w16 z)) ≡ put o at (take (j + 1) row)
+    row-more h q =
+        let n : length (take j row) ≡ j = length-take-le j row (omega arith) in
+        let g = p .0 in
+        ap (set out (at + j)) (ap (λ (x : ℤ). toZ w16 (ofZ w16 x)) q ∙ number-written (getD row j (pos 0)) (near j))
+        ∙ ap (λ (w : List ℤ). set w (at + j) (getD row j (pos 0))) e
+        ∙ ap (λ (m : ℕ). set (put o at (take j row)) (at + m) (getD row j (pos 0))) (sym n)
+        ∙ set-put o at (take j row) (getD row j (pos 0)) (omega arith)
+        ∙ ap (put o at) (sym (take-suc row j (pos 0) h) ∙ ap (λ (m : ℕ). take m row) (sym (add-one j)))
+
+    pub row-done : j ≡ length row → out ≡ put o at row
+    row-done h = e ∙ ap (put o at) (ap (λ (m : ℕ). take m row) h ∙ take-length row)
+
+-- ---- words tried
+
+module _ (test : Bool) (s : List ℤ) (at : ℕ) (xs : List ℤ) where
+  pub tried-no : (r : Bool) → r ≡ test → r ≡ false → Tried test s at xs false s
+  tried-no r e f = record { passed = sym f ∙ e; made = λ n. absurd (let z : _≡_ {A = ℕ} 0 1 = cc in omega arith); kept = λ _. refl; room = refl }
+
+  pub tried-yes : (r : Bool) (t : List ℤ) → r ≡ test → r ≡ true → at + length xs ≤ length s → t ≡ put s at xs → Tried test s at xs true t
+  tried-yes r t e f h q = record { passed = sym f ∙ e; made = λ _. q; kept = λ n. absurd (let z : _≡_ {A = ℕ} 0 1 = cc in omega arith); room = ap length q ∙ length-put s at xs h }
+
+pub passed-small : (r : Bool) (cs : List ℤ) → r ≡ all small cs → r ≡ true → Within 32767 cs
+passed-small r cs e f = row-small cs (true-T (all small cs) (sym e ∙ f))

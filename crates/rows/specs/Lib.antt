@@ -1,0 +1,2 @@
+-- What the contracts on rows speak of.
+pub mod Rows

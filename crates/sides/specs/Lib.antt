@@ -1,0 +1,2 @@
+-- What the contracts on sides under way speak of.
+pub mod Filling

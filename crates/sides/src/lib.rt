@@ -1,0 +1,149 @@
+// A side that is filled limit by limit, in wide numbers. n is the number of loops outside.
+ghost use mathlib.Core.Path.{_≡_};
+ghost use mathlib.Core.Bool.{true};
+ghost use mathlib.Core.List.{[], _∷_};
+ghost use Prim.Native.Nat.{_+_, _*_, _<_, _≤_};
+ghost use lib.ListN.{length, take, drop};
+ghost use Rattle.integers.specs.Sign.{eqZ};
+ghost use Rattle.lists.specs.Parts.{put};
+ghost use Rattle.lists.specs.Tests.{all, any, sameBy};
+ghost use Rattle.model.specs.Encode.{limitWords};
+ghost use Rattle.model.specs.Judge.{small};
+ghost use Rattle.model.specs.Limits.{sameLimit};
+ghost use Rattle.nest.specs.Nested.{limitOf};
+ghost use Rattle.bounds.specs.Flat.{limitAt, limitsAt};
+ghost use Rattle.sides.specs.Filling.{Adds, WideIn, SameIn, PushIn, PutIn, SidePut};
+use nest::Limit;
+
+// ---- equal limits
+
+fn equal(x: i32, y: i32) -> bool
+    ensures { λ r. ⌜ r ≡ eqZ x y ⌝ }
+{
+    x == y
+}
+
+// A row, and the numbers from place `at` on.
+fn same_row(xs: [i32; 6], numbers: &[i32], at: usize, n: usize) -> bool
+    requires { ⌜ (n ≤ 6) × (at + n ≤ length (now numbers)) ⌝ }
+    ensures { λ r. ⌜ r ≡ sameBy eqZ (take n xs) (take n (drop at (now (numbers .entry)))) ⌝ }
+{
+    let mut k = 0;
+    while k < n {
+        let x = xs[k];
+        if !equal(x, numbers[at + k]) {
+            return false;
+        }
+        k += 1;
+    }
+    true
+}
+
+// Limit k of a side under way.
+fn same_limit(x: Limit, filling: &[i32], k: usize, n: usize) -> bool
+    requires { ⌜ SameIn n (now filling) k x ⌝ }
+    ensures { λ r. ⌜ r ≡ sameLimit (limitOf n x) (limitAt (now (filling .entry)) n k) ⌝ }
+{
+    let at = k * 8;
+    if !equal(x.multiplier as i32, filling[at]) {
+        return false;
+    }
+    if !equal(x.constant, filling[at + 1]) {
+        return false;
+    }
+    let xs = x.coefficients;
+    same_row(xs, filling, at + 2, n)
+}
+
+fn has(filling: &[i32], count: usize, x: Limit, n: usize) -> bool
+    requires { ⌜ PushIn n (now filling) count x × (count ≤ 16) ⌝ }
+    ensures { λ r. ⌜ r ≡ any (sameLimit (limitOf n x)) (limitsAt (now (filling .entry)) n 0 count) ⌝ }
+{
+    let mut k = 0;
+    while k < count {
+        if same_limit(x, filling, k, n) {
+            return true;
+        }
+        k += 1;
+    }
+    false
+}
+
+// ---- sides that are filled limit by limit
+
+// Writes a row from place `at` on.
+fn put_row(numbers: &mut [i32], at: usize, row: &[i32])
+    requires { ⌜ at + length (now row) ≤ length (now numbers) ⌝ }
+    ensures { λ _. ⌜ now (numbers .exit) ≡ put (now (numbers .entry)) at (now (row .entry)) ⌝ }
+{
+    let mut k = 0;
+    while k < row.len() {
+        numbers[at + k] = row[k];
+        k += 1;
+    }
+}
+
+fn put_limit(filling: &mut [i32], k: usize, x: Limit, n: usize)
+    requires { ⌜ WideIn n x × (length (now filling) ≡ 128) × (k < 16) ⌝ }
+    ensures { λ _. ⌜ now (filling .exit) ≡ put (now (filling .entry)) (k * 8) (limitWords (limitOf n x)) ⌝ }
+{
+    let at = k * 8;
+    let multiplier = x.multiplier as i32;
+    let constant = x.constant;
+    let coefficients = x.coefficients;
+    filling[at] = multiplier;
+    filling[at + 1] = constant;
+    put_row(filling, at + 2, &coefficients[..n]);
+}
+
+// A limit more, unless it is there; 17 where a seventeenth comes, and from then on.
+pub fn push(filling: &mut [i32], count: usize, x: Limit, n: usize) -> usize
+    requires { ⌜ PushIn n (now filling) count x ⌝ }
+    ensures { λ r. ⌜ Adds n (now (filling .entry)) count (limitOf n x ∷ []) (now (filling .exit)) r ⌝ }
+{
+    if 16 < count {
+        return count;
+    }
+    if has(filling, count, x, n) {
+        return count;
+    }
+    if count == 16 {
+        return 17;
+    }
+    put_limit(filling, count, x, n);
+    count + 1
+}
+
+// ---- a side put among the words of a nest
+
+// A row from place `at` on; false as soon as a number is not within ±32767.
+fn put_words(words: &mut [i16], at: usize, row: &[i32]) -> bool
+    requires { ⌜ at + length (now row) ≤ length (now words) ⌝ }
+    ensures { λ r. ⌜ (r ≡ all small (now (row .entry))) × (r ≡ true → now (words .exit) ≡ put (now (words .entry)) at (now (row .entry))) ⌝ }
+{
+    let mut k = 0;
+    while k < row.len() {
+        if !rows::small_number(row[k]) {
+            return false;
+        }
+        words[at + k] = rows::narrow(row[k]);
+        k += 1;
+    }
+    true
+}
+
+// The limits of a side, from limit j on; false as soon as one has a number that is not within ±32767.
+pub fn put_side(words: &mut [i16], j: usize, filling: &[i32], count: usize, n: usize) -> bool
+    requires { ⌜ PutIn (length (now words)) j (now filling) count n ⌝ }
+    ensures { λ r. ⌜ SidePut (now (words .entry)) j (limitsAt (now (filling .entry)) n 0 count) r (now (words .exit)) ⌝ }
+{
+    let mut k = 0;
+    while k < count {
+        let from = k * 8;
+        if !put_words(words, (j + k) * 8, &filling[from..from + 2 + n]) {
+            return false;
+        }
+        k += 1;
+    }
+    true
+}

@@ -1,2 +1,0 @@
--- Laws over plain lists that the proofs of the crate's functions cite.
-pub mod SmallLaws

@@ -1,0 +1,96 @@
+-- `step_loops`: the change that the step's match found.
+use native.Mathlib.Omega.{arith}
+use Rattle.steps.specs.declared.Step.the-variants.{Swap, Reverse, Lean, Strip}
+use Rattle.stepping.proofs.TakingLaws.{there, loops-are}
+use borrow.Author.Needs.{needs}
+use Rattle.stepping.proofs.step_loops.Statement.{statement}
+use Rattle.stepping.proofs.step_loops.Tie as tie
+
+enum-known-step : tie.Need-enum-known-step
+enum-known-step c = search needs
+
+exchanged-requires : tie.Need-exchanged-requires
+exchanged-requires c κs = let s = c .before .before .before .before .before .before in let v = c .before .before .before .step .given in let h = there _ _ (s .args .depth) (s .args .step) (Swap (v .0 .0)) (v .1) (s .pre) in record { nest = s .pre .nest; place = omega arith }
+
+enum-known-step-2 : tie.Need-enum-known-step-2
+enum-known-step-2 c = search needs
+
+reversed-requires : tie.Need-reversed-requires
+reversed-requires c κs = let s = c .before .before .before .before .before .before in let v = c .before .before .before .step2 .given in let h = there _ _ (s .args .depth) (s .args .step) (Reverse (v .0 .0)) (v .1) (s .pre) in record { nest = s .pre .nest; place = h }
+
+enum-known-step-3 : tie.Need-enum-known-step-3
+enum-known-step-3 c = search needs
+
+skewed-requires : tie.Need-skewed-requires
+skewed-requires c κs = let s = c .before .before .before .before .before .before in let v = c .before .before .before .step3 .given in let h = there _ _ (s .args .depth) (s .args .step) (Lean (v .0 .0)) (v .1) (s .pre) in record { nest = s .pre .nest; place = omega arith }
+
+enum-known-step-4 : tie.Need-enum-known-step-4
+enum-known-step-4 c = search needs
+
+cast-w : tie.Need-cast-w
+cast-w c = let s = c .before .before .before .before .before in let v = c .before .before .step4 .given in let h = there _ _ (s .args .depth) (s .args .step) (Strip (v .0 .0)) (v .1) (s .pre) in let w = h .2 .high in record { fits = omega arith }
+
+sectioned-requires : tie.Need-sectioned-requires
+sectioned-requires c κs = let s = c .before .before .before .before .before .before .before in let v = c .before .before .before .before .step4 .given in let h = there _ _ (s .args .depth) (s .args .step) (Strip (v .0 .0)) (v .1) (s .pre) in let w = h .2 .low in record { nest = s .pre .nest; place = h .0; room = h .1; positive = omega arith; narrow = h .2 .high }
+
+same-length : tie.Need-same-length
+same-length c = search needs
+
+same-length-2 : tie.Need-same-length-2
+same-length-2 c = search needs
+
+returns : tie.Need-returns
+returns c = let s = c .before .before .before .before .before .before .before .before .before .before in let v = c .before .before .before .before .before .before .before .step .given in let r = c .before .before .before .exchanged in loops-are _ _ (s .args .depth) (s .args .step) (Swap (v .0 .0)) (v .1) (r .result) _ _ (r .ensures)
+
+same-length-3 : tie.Need-same-length-3
+same-length-3 c = search needs
+
+same-length-4 : tie.Need-same-length-4
+same-length-4 c = search needs
+
+returns-2 : tie.Need-returns-2
+returns-2 c = let s = c .before .before .before .before .before .before .before .before .before .before in let v = c .before .before .before .before .before .before .before .step2 .given in let r = c .before .before .before .reversed in loops-are _ _ (s .args .depth) (s .args .step) (Reverse (v .0 .0)) (v .1) (r .result) _ _ (r .ensures)
+
+same-length-5 : tie.Need-same-length-5
+same-length-5 c = search needs
+
+same-length-6 : tie.Need-same-length-6
+same-length-6 c = search needs
+
+returns-3 : tie.Need-returns-3
+returns-3 c = let s = c .before .before .before .before .before .before .before .before .before .before in let v = c .before .before .before .before .before .before .before .step3 .given in let r = c .before .before .before .skewed in loops-are _ _ (s .args .depth) (s .args .step) (Lean (v .0 .0)) (v .1) (r .result) _ _ (r .ensures)
+
+same-length-7 : tie.Need-same-length-7
+same-length-7 c = search needs
+
+same-length-8 : tie.Need-same-length-8
+same-length-8 c = search needs
+
+returns-4 : tie.Need-returns-4
+returns-4 c = let s = c .before .before .before .before .before .before .before .before .before .before .before in let v = c .before .before .before .before .before .before .before .before .step4 .given in let r = c .before .before .before .sectioned in loops-are _ _ (s .args .depth) (s .args .step) (Strip (v .0 .0)) (v .1) (r .result) _ _ (r .ensures)
+
+pub step-loops-spec : {M : Type 1} → statement M
+step-loops-spec =
+    tie.close
+    (tie.spec
+    enum-known-step
+    exchanged-requires
+    enum-known-step-2
+    reversed-requires
+    enum-known-step-3
+    skewed-requires
+    enum-known-step-4
+    cast-w
+    sectioned-requires
+    same-length
+    same-length-2
+    returns
+    same-length-3
+    same-length-4
+    returns-2
+    same-length-5
+    same-length-6
+    returns-3
+    same-length-7
+    same-length-8
+    returns-4)

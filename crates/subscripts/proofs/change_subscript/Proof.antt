@@ -1,0 +1,48 @@
+-- `change_subscript`: a row read, changed, tried and put back.
+use native.Mathlib.Omega.{arith}
+use borrow.Author.Needs.{needs}
+use Rattle.subscripts.proofs.ChangeLaws.{change-shallow, row-in, change-tried}
+use Rattle.subscripts.proofs.change_subscript.Statement.{statement}
+use Rattle.subscripts.proofs.change_subscript.Tie as tie
+
+mul-at : tie.Need-mul-at
+mul-at c = search needs
+
+add-at : tie.Need-add-at
+add-at c = search needs
+
+row-at-requires : tie.Need-row-at-requires
+row-at-requires c κs = search needs
+
+row-after-requires : tie.Need-row-after-requires
+row-after-requires c κs =
+    let s = c .before .before in
+    (s .pre .step, row-in (s .args .words .now) (s .args .j) (s .args .n) (s .pre .small) (c .row-at .result) (c .row-at .ensures))
+
+put-row-requires : tie.Need-put-row-requires
+put-row-requires c κs =
+    let s = c .before .before .before .before in
+    let m = change-shallow (s .args .words .now) (s .args .j) 1 (s .args .n) (s .args .m) (s .args .step) (s .pre) in
+    let i = s .pre .inside in
+    (omega arith, omega arith)
+
+same-length : tie.Need-same-length
+same-length c = search needs
+
+returns : tie.Need-returns
+returns c =
+    let s = c .before .before .before .before .before .before in
+    change-tried (s .args .words .now) (s .args .j) (s .args .n) (s .args .m) (s .args .step) (s .pre) (c .before .before .before .before .row-at .result) (c .before .before .before .row-after .result)
+    (c .before .before .before .before .row-at .ensures) (c .before .before .before .row-after .ensures) _ (c .before .put-row .result) (c .before .put-row .ensures)
+
+pub change-subscript-spec : {M : Type 1} → statement M
+change-subscript-spec =
+    tie.close
+    (tie.spec
+    mul-at
+    add-at
+    row-at-requires
+    row-after-requires
+    put-row-requires
+    same-length
+    returns)

@@ -1,0 +1,14 @@
+-- `wide`: 16 bits are a part of 32.
+use mir.Facts.{toZ-ofZ}
+use Rattle.writing.proofs.WritingLaws.{word-wide}
+use Rattle.writing.proofs.wide.Statement.{statement}
+use Rattle.writing.proofs.wide.Tie as tie
+
+cast-result : tie.Need-cast-result
+cast-result c = rw (toZ-ofZ (c .fits .x)) (word-wide (c .fits .x))
+
+returns : tie.Need-returns
+returns c = rw (toZ-ofZ (c .fits .x)) (toZ-ofZ (word-wide (c .fits .x)))
+
+pub wide-spec : {M : Type 1} → statement M
+wide-spec = tie.close (tie.spec cast-result returns)
