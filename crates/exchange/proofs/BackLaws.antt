@@ -1,4 +1,4 @@
--- Limits laid over words leave what stands behind them, and limits that stand there are read as before. The same of what stands in front is in `loop_layout`.
+-- Limits laid over words leave what stands behind them, and limits that stand there are read as before. The same of what stands in front is in `nest` (LimitLaws, LoopLaws).
 use mathlib.Core.Path.{_≡_, refl, sym, ap, ap₂, _∙_, subst}
 use mathlib.Core.List.{List, [], _∷_, List·Memᴰ·head, List·Memᴰ·tail}
 use Prim.Native.Nat.{ℕ, zero, suc, _+_, _*_, _-_, _≤_, _<_}
