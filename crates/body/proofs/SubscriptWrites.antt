@@ -14,7 +14,7 @@ use Rattle.integers.specs.Difference.{size}
 use Rattle.integers.specs.Affine.{Within}
 use Rattle.integers.proofs.RangeLaws.{size-natAbs}
 use Rattle.nest.proofs.LimitLaws.{small-within}
-use Rattle.nest.proofs.WriteLaws.{number-fits, number-written}
+use Rattle.rows.proofs.RowLaws.{number-fits, number-written}
 use Rattle.body.specs.Laid.{subscriptWords}
 use Rattle.body.specs.Statements.{subscriptOf, LaySubscriptIn}
 use Rattle.body.specs.declared.Subscript.{Subscript}

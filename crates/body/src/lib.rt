@@ -104,7 +104,7 @@ fn lay_subscript(words: &mut [i16], j: usize, subscript: Subscript, depth: usize
     let constant = subscript.constant;
     let coefficients = subscript.coefficients;
     words[at] = constant as i16;
-    nest::lay_row(words, at + 1, &coefficients[..depth]);
+    rows::lay_row(words, at + 1, &coefficients[..depth]);
 }
 
 // Access k: the number of an array, from 1, and a subscript for each of its dimensions.

@@ -24,7 +24,8 @@ use Rattle.model.specs.Shape.{Runs}
 use Rattle.model.proofs.Steps.RunsLaws.{runs-after}
 use Rattle.bounds.specs.Flat.{limitAt, limitsAt, loopAt, Positive}
 use Rattle.sides.proofs.FlatLaws.{limits-length, limits-all}
-use Rattle.exchange.specs.Pair.{LoopOk, PairIn, outerOf, innerOf, fewIn}
+use Rattle.limits.specs.Words.{LoopOk}
+use Rattle.exchange.specs.Pair.{PairIn, outerOf, innerOf, fewIn}
 
 -- ---- limits on both sides, with positive multipliers
 

@@ -18,7 +18,8 @@ use Rattle.nest.specs.Laid.{layLimits, layLoop, layCount, layLoops, layCounts}
 use Rattle.nest.proofs.PutLaws.{getD-front}
 use Rattle.nest.proofs.LimitLaws.{lay-length, limits-front, positive-front}
 use Rattle.nest.proofs.LoopLaws.{Laid, LaidAll, Fit, loop-front, loop-length, count-front, loops-length, loops-within, loops-laid}
-use Rattle.exchange.specs.Pair.{LoopOk, PairIn, PairMade}
+use Rattle.limits.specs.Words.{LoopOk}
+use Rattle.exchange.specs.Pair.{PairIn, PairMade}
 use Rattle.exchange.proofs.BackLaws.{lay-back, getD-back, limits-back, positive-back}
 
 -- ---- a nest and its loops

@@ -20,9 +20,10 @@ use Rattle.nest.specs.Laid.{layLimits, layLoop, layCount}
 use Rattle.sides.specs.Filling.{Holds, SidePut}
 use Rattle.sides.proofs.FlatLaws.{limits-length}
 use Rattle.sides.proofs.PutLaws.{untrue}
+use Rattle.limits.specs.Words.{LoopOk}
 use Rattle.exchange.specs.declared.Span.{Span}
 use Rattle.exchange.specs.declared.Held.{Held}
-use Rattle.exchange.specs.Pair.{takenOf, limitsOf, SpanIn, lowerSpan, upperSpan, ThreeIn, LoopHeld, loopIn, PutLoopIn, LoopPut, LoopOk, PairIn, fewIn}
+use Rattle.exchange.specs.Pair.{takenOf, limitsOf, SpanIn, lowerSpan, upperSpan, ThreeIn, LoopHeld, loopIn, PutLoopIn, LoopPut, PairIn, fewIn}
 
 -- ---- I and J as they are read
 

@@ -19,6 +19,7 @@ use Rattle.sides.specs.Filling.{Holds, Filled}
 use Rattle.exchange.specs.declared.Span.{Span}
 use Rattle.exchange.specs.declared.Held.{Held}
 use Rattle.exchange.specs.declared.Exchanged.{Exchanged}
+use Rattle.limits.specs.Words.{LoopOk}
 
 -- p J against e + c I, solved for |c| I
 unfoldable pub solved : ℕ → ℤ → Model.Limit → Model.Limit
@@ -79,13 +80,6 @@ pub record ThreeIn (a : ℕ) (f : List ℤ) (s : List ℤ) (p q r : Span) : Type
   pub third : SpanIn s r
 
 -- ---- the pair
-
--- what a judged nest has of loop k
-pub record LoopOk (s : List ℤ) (c : List ℕ) (k : ℕ) : Type 0 where
-  pub lower-count : (1 ≤ getD c (k * 2) 0) × (getD c (k * 2) 0 ≤ 16)
-  pub upper-count : (1 ≤ getD c (k * 2 + 1) 0) × (getD c (k * 2 + 1) 0 ≤ 16)
-  pub lower-positive : Positive s (k * 32) (getD c (k * 2) 0)
-  pub upper-positive : Positive s (k * 32 + 16) (getD c (k * 2 + 1) 0)
 
 pub record PairIn (s : List ℤ) (c : List ℕ) (a : ℕ) : Type 0 where
   pub words : length s ≡ 1536

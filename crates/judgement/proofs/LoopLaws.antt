@@ -14,6 +14,7 @@ use Rattle.model.specs.Ranges.{StepThere, StepsThere}
 use Rattle.model.specs.Steps.{somePointsBack}
 use Rattle.model.specs.Judge.{judgeSteps, directionsOf}
 use Rattle.model.proofs.Verdict.SameVectorsLaws.{judgeSteps-same}
+use Rattle.reading.proofs.ReaderLaws.{not-fine}
 use Rattle.reading.specs.declared.Refusal.{Refusal}
 use Rattle.reading.specs.declared.Refusal.the-variants.{DependenceReversed}
 use Rattle.reading.specs.declared.Status.{Status}
@@ -29,7 +30,7 @@ use Rattle.directions.specs.declared.DirectionSet.{DirectionSet}
 use Rattle.ticket.specs.Ticket.{ticketOn}
 use Rattle.judgement.specs.Judgement.{unless, judgedAs, StepJudged, JudgeIn, JudgesSteps}
 use Rattle.judgement.specs.declared.Judged.{Judged}
-use Rattle.judgement.proofs.StepLaws.{not-fine, moved, judged-back, judged-step, sheet-goes-on, level-goes-on}
+use Rattle.judgement.proofs.StepLaws.{moved, judged-back, judged-step, sheet-goes-on, level-goes-on}
 
 -- ---- the step at a place
 
@@ -138,7 +139,7 @@ module _ (P : Sheet) (S : Steps) (s₀ : DirectionSet) (i : JudgeIn P S s₀) wh
   by-directions = judgeSteps-same 1 (stepsOf S) (nestOf P) (i .vectors)
 
   pub steps-stop : (r : Judged) (y : Refusal) → r .status ≡ Refused y → judgedAs (r .status) (nestOf (r .sheet)) ≡ judgeSteps 1 (stepsOf S) (vectorsOf s₀) (nestOf P) → JudgesSteps P S r
-  steps-stop r y e h = record { same = h ∙ by-directions; sheet = λ f. not-fine y (sym e ∙ f) }
+  steps-stop r y e h = record { same = h ∙ by-directions; sheet = λ f. not-fine (r .status) e f }
 
   pub steps-pass : (Q : Sheet) (s : DirectionSet) (k : ℕ) → SoFar S P s₀ Q s k → S .count ≤ k → JudgesSteps P S (record { status = Fine; sheet = Q })
   steps-pass Q s k v h = record { same = sym (all-judged S P s₀ Q s k v h) ∙ by-directions; sheet = λ _. v .sheet }

@@ -19,7 +19,7 @@ use Rattle.model.specs.Limits.{loopsAfter, accessAfter, nestAfter}
 use Rattle.model.specs.Judge.{fewLimits, smallLoop, smallAccess, smallNumbers, judgeSteps}
 use Rattle.model.proofs.Verdict.SameVectorsLaws.{pointsBack-same, judgeSteps-same}
 use Rattle.reading.specs.Refusals.{refusal}
-use Rattle.reading.specs.declared.Refusal.{Refusal}
+use Rattle.reading.proofs.ReaderLaws.{not-fine}
 use Rattle.reading.specs.declared.Refusal.the-variants.{DependenceReversed, TooManyLimits, NumberOutOfRange}
 use Rattle.reading.specs.declared.Status.{Status}
 use Rattle.reading.specs.declared.Status.the-variants.{Fine, Refused}
@@ -38,14 +38,6 @@ use Rattle.subscripts.specs.Relaid.{Relaid}
 use Rattle.subscripts.proofs.SheetLaws.{nest-after, small-nest, sheet-after, accesses-moved, accesses-held}
 use Rattle.stepping.specs.Taking.{TakingIn}
 use Rattle.judgement.specs.Judgement.{unless, DirectionIn, stepStatus, StepJudged}
-
--- a refusal is not fine
-pub not-fine : {A : Type 0} (r : Refusal) → Refused r ≡ Fine → A
-not-fine r e = absurd (subst isRefused e tt)
-  where
-    isRefused : Status → Type 0
-    isRefused Fine = ⊥
-    isRefused (Refused q) = Unit {0}
 
 -- ---- the step that a match found
 
@@ -193,8 +185,8 @@ module _ (P : Sheet) (h : SheetIn P) (s : DirectionSet) (level : s .depth ≡ P 
         passes y = go (r .full) (r .small) refl refl (sym (g .status) ∙ y)
           where
             go : (f n : Bool) → r .full ≡ f → r .small ≡ n → stepStatus f n k ≡ Fine → (r .full ≡ false) × (r .small ≡ true)
-            go true n ef en x = not-fine (TooManyLimits k) x
-            go false false ef en x = not-fine (NumberOutOfRange k) x
+            go true n ef en x = not-fine (Refused (TooManyLimits k)) refl x
+            go false false ef en x = not-fine (Refused (NumberOutOfRange k)) refl x
             go false true ef en x = (ef, en)
 
         pub sheet-goes-on : z ≡ Fine → SheetIn Q

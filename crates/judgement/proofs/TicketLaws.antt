@@ -12,6 +12,7 @@ use Rattle.model.specs.Judge.{judgeSteps, directionsOf, judgeTicket}
 use Rattle.model.proofs.Answers.PassLaws.{bind-pass, bind-stop}
 use Rattle.model.proofs.Verdict.JudgeLaws.{StepsPass, judgeSteps-accepted}
 use Rattle.model.proofs.Promise.WrittenLaws.{new-formed, new-ranges}
+use Rattle.reading.proofs.ReaderLaws.{not-fine}
 use Rattle.reading.specs.declared.Refusal.{Refusal}
 use Rattle.reading.specs.declared.Refusal.the-variants.{NewNestTooLarge}
 use Rattle.reading.specs.declared.Status.{Status}
@@ -28,7 +29,6 @@ use Rattle.directions.specs.declared.DirectionSet.{DirectionSet}
 use Rattle.ticket.specs.Ticket.{ticketOn}
 use Rattle.judgement.specs.Judgement.{judgedAs, SurveyedNew, JudgeIn, JudgesSteps, Judges}
 use Rattle.judgement.specs.declared.Judged.{Judged}
-use Rattle.judgement.proofs.StepLaws.{not-fine}
 
 -- ---- refusal 13
 
@@ -65,7 +65,7 @@ module _ (P : Sheet) (S : Steps) (s : DirectionSet) (i : JudgeIn P S s) (r : Jud
   unfolding judgeTicket ticketOn
   steps-refused x q e f = record {
     same = ap (λ (z : Status). judgedAs z (record { ticket = ticketOn P S; new = nestOf (q .sheet) })) f ∙ sym (bind-stop verdict (sym (g .same) ∙ ap (λ (z : Status). judgedAs z new) e));
-    fine = λ h. not-fine x (sym f ∙ h);
+    fine = λ h. not-fine (q .status) f h;
   }
 
   module _ (e : r .status ≡ Fine) where

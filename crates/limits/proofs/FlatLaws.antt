@@ -71,15 +71,6 @@ module _ (s : List ℤ) (j k : ℕ) (l : Limit) (shallow : k ≤ 6) (e : length 
 
 -- ---- small words
 
-within-append : (n : ℕ) (l m : List ℤ) → Within n l → Within n m → Within n (l ++ m)
-within-append n [] m p q = q
-within-append n (x ∷ l) m p q = (p .0, within-append n l m (p .1) q)
-
-pub within-put : (n : ℕ) (o : List ℤ) (p : ℕ) (xs : List ℤ) → Within n o → Within n xs → Within n (put o p xs)
-unfolding put
-within-put n o p xs g h =
-    within-append n (take p o) (xs ++ drop (p + length xs) o) (within-take n o p g) (within-append n xs (drop (p + length xs) o) h (within-drop n o (p + length xs) g))
-
 pub limit-near : (s : List ℤ) (k j : ℕ) → Within 32767 s → SmallLimit (limitAt s k j)
 unfolding limitAt
 limit-near s k j w = record {

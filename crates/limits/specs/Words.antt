@@ -5,6 +5,7 @@ use lib.Signed.{_<ℤ_}
 use lib.ListN.{length, getD}
 use mathlib.Core.List.{List}
 use Rattle.integers.specs.Affine.{Within}
+use Rattle.bounds.specs.Flat.{Positive}
 
 -- limit j, of a loop with n loops outside
 pub record LimitRoom (s : List ℤ) (j n : ℕ) : Type 0 where
@@ -15,3 +16,10 @@ pub record LimitThere (s : List ℤ) (j n : ℕ) : Type 0 where
   pub room : LimitRoom s j n
   pub small : Within 32767 s
   pub positive : pos 0 <ℤ getD s (j * 8) (pos 0)
+
+-- what `NestOk` says of loop k
+pub record LoopOk (s : List ℤ) (c : List ℕ) (k : ℕ) : Type 0 where
+  pub lower-count : (1 ≤ getD c (k * 2) 0) × (getD c (k * 2) 0 ≤ 16)
+  pub upper-count : (1 ≤ getD c (k * 2 + 1) 0) × (getD c (k * 2 + 1) 0 ≤ 16)
+  pub lower-positive : Positive s (k * 32) (getD c (k * 2) 0)
+  pub upper-positive : Positive s (k * 32 + 16) (getD c (k * 2 + 1) 0)

@@ -17,8 +17,9 @@ use Rattle.model.specs.Ticket as Model
 use Rattle.model.specs.Judge.{smallLimit, smallLoop}
 use Rattle.bounds.specs.Flat.{limitsAt, loopAt, Positive}
 use Rattle.limits.specs.Change.{changeOf}
+use Rattle.limits.specs.Words.{LoopOk}
 use Rattle.loop_changes.specs.Sides.{SideIn, SideMade, changedSide}
-use Rattle.loop_changes.specs.Loops.{LoopOk, onSides, LoopIn, LoopMade}
+use Rattle.loop_changes.specs.Loops.{onSides, LoopIn, LoopMade}
 use Rattle.limits.specs.declared.Change.{Change}
 use Rattle.limits.proofs.FlatLaws.{limit-same}
 

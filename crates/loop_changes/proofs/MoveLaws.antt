@@ -16,7 +16,8 @@ use Rattle.model.specs.Limits.{onLimits}
 use Rattle.model.specs.Judge.{smallLoop}
 use Rattle.bounds.specs.Flat.{loopAt}
 use Rattle.limits.specs.Change.{changeOf}
-use Rattle.loop_changes.specs.Loops.{LoopOk, onSides, LoopIn, LoopMade, LoopsIn, LoopsMade}
+use Rattle.limits.specs.Words.{LoopOk}
+use Rattle.loop_changes.specs.Loops.{onSides, LoopIn, LoopMade, LoopsIn, LoopsMade}
 use Rattle.limits.specs.declared.Change.{Change}
 use Rattle.loop_changes.proofs.RunLaws.{loops-map, loops-pass, loops-fail}
 use Rattle.loop_changes.proofs.LoopLaws.{loop-same, ok-same}

@@ -31,7 +31,8 @@ use Rattle.limits.specs.Change.{changeOf, outerAfter, Allowed}
 use Rattle.loop_changes.specs.Sides.{Beside, SideIn, SideMade, changedSide}
 use Rattle.limits.specs.declared.Change.{Change}
 use Rattle.limits.specs.declared.Change.the-variants.{Negate, Turn, Swap, Lean, Skew, Low, Up, Element, Split}
-use Rattle.limits.proofs.FlatLaws.{limit-same, limit-put, head-put, put-before, put-after, within-put, limit-near, limit-small, words-within}
+use Rattle.nest.proofs.PutLaws.{within-put}
+use Rattle.limits.proofs.FlatLaws.{limit-same, limit-put, head-put, put-before, put-after, limit-near, limit-small, words-within}
 use Rattle.loop_changes.proofs.RunLaws.{limits-map, limits-pass, limits-fail}
 
 -- ---- multipliers stay positive

@@ -7,8 +7,9 @@ use lib.ListN.{length, getD}
 use Rattle.integers.specs.Affine.{Within}
 use Rattle.model.specs.Ticket.{Loop}
 use Rattle.bounds.specs.Flat.{loopAt}
+use Rattle.limits.specs.Words.{LoopOk}
 use Rattle.loop_changes.specs.Sides.{Beside}
-use Rattle.loop_changes.specs.Loops.{LoopOk, LoopIs}
+use Rattle.loop_changes.specs.Loops.{LoopIs}
 
 -- ---- words
 

@@ -14,13 +14,7 @@ use Rattle.bounds.specs.Flat.{loopAt, loopsFrom, Positive}
 use Rattle.limits.specs.Change.{changeOf, outerAfter, Allowed}
 use Rattle.loop_changes.specs.Sides.{Beside}
 use Rattle.limits.specs.declared.Change.{Change}
-
--- what `NestOk` says of loop k
-pub record LoopOk (s : List ℤ) (c : List ℕ) (k : ℕ) : Type 0 where
-  pub lower-count : (1 ≤ getD c (k * 2) 0) × (getD c (k * 2) 0 ≤ 16)
-  pub upper-count : (1 ≤ getD c (k * 2 + 1) 0) × (getD c (k * 2 + 1) 0 ≤ 16)
-  pub lower-positive : Positive s (k * 32) (getD c (k * 2) 0)
-  pub upper-positive : Positive s (k * 32 + 16) (getD c (k * 2 + 1) 0)
+use Rattle.limits.specs.Words.{LoopOk}
 
 -- ---- loop `to` becomes L
 

@@ -1,4 +1,4 @@
--- A number that is written as a word of 16 bits, and a row of them; then what `lay_limit` writes: two words, and the coefficients after them.
+-- What `lay_limit` writes: two words, and the coefficients after them.
 use mathlib.Core.Path.{_≡_, sym, ap, ap₂, _∙_}
 use mathlib.Core.List.{List, [], _∷_}
 use Prim.Native.Nat.{ℕ, _+_, _*_, _≤_, _<_}
@@ -14,44 +14,11 @@ use Rattle.lists.proofs.PartLaws.{put-put, set-is-put, set-put, length-put}
 use Rattle.integers.specs.Difference.{size}
 use Rattle.integers.specs.Affine.{Within}
 use Rattle.integers.proofs.RangeLaws.{size-fits, size-natAbs, sfits, word-fits}
-use Rattle.integers.proofs.AffineLaws.{within-at}
-use Rattle.space.proofs.StoreLaws.{copy-more}
 use Rattle.model.specs.Encode.{limitWords}
+use Rattle.rows.proofs.RowLaws.{number-fits, number-written}
 use Rattle.nest.specs.declared.Limit.{Limit}
 use Rattle.nest.specs.Nested.{limitOf, LayLimitIn}
 use Rattle.nest.proofs.LimitLaws.{small-within}
-
--- ---- one word
-
-module _ (z : ℤ) (h : size z ≤ 32767) where
-  wide-fits : SFits w32 z
-  wide-fits = sfits (omega arith)
-
-  -- as it is read, and as it is written
-  pub number-read : toZ w32 (ofZ w32 z) ≡ z
-  number-read = toZ-ofZ wide-fits
-
-  pub number-fits : SFits w16 (toZ w32 (ofZ w32 z))
-  number-fits = rw number-read (word-fits h)
-
-  pub number-written : toZ w16 (ofZ w16 (toZ w32 (ofZ w32 z))) ≡ z
-  number-written = toZ-ofZ number-fits ∙ number-read
-
--- ---- a row
-
-module _ (o row : List ℤ) (at : ℕ) (p : (at + length row ≤ length o) × Within 32767 row) where
-  small : (j : ℕ) → size (getD row j (pos 0)) ≤ 32767
-  small j = within-at 32767 row (p .1) j
-
-  pub narrow-in : (j : ℕ) → size (toZ w32 (ofZ w32 (getD row j (pos 0)))) ≤ 32767
-  narrow-in j = rw (number-read (getD row j (pos 0)) (small j)) (small j)
-
-  pub row-more : (out : List ℤ) (j : ℕ) → out ≡ put o at (take j row) → j < length row → {z : ℤ} → z ≡ toZ w32 (ofZ w32 (getD row j (pos 0)))
-      → set out (at + j) (toZ w16 (ofZ w16 z)) ≡ put o at (take (j + 1) row)
-  row-more out j e h q = let s = small j in let f : SFits w64 (getD row j (pos 0)) = size-fits s (omega arith) in
-      ap (set out (at + j)) (ap (λ (x : ℤ). toZ w16 (ofZ w16 x)) q ∙ number-written (getD row j (pos 0)) s ∙ sym (toZ-ofZ f)) ∙ copy-more o row at (p .0) out j e h f
-
--- ---- a limit
 
 -- two words and a row are written as one part
 two-and-row : (o : List ℤ) (p : ℕ) (a b : ℤ) (xs : List ℤ) → p + 2 ≤ length o → put (set (set o p a) (p + 1) b) (p + 2) xs ≡ put o p (a ∷ b ∷ xs)

@@ -3,8 +3,6 @@ ghost use mathlib.Core.Path.{_≡_};
 ghost use Prim.Native.Nat.{_+_, _*_, _<_, _≤_};
 ghost use lib.ListN.{length};
 ghost use Rattle.lists.specs.Parts.{put};
-ghost use Rattle.integers.specs.Difference.{size};
-ghost use Rattle.integers.specs.Affine.{Within};
 ghost use Rattle.model.specs.Encode.{limitWords};
 ghost use Rattle.reading.specs.Refusals.{Reached};
 ghost use Rattle.reading.specs.declared.Status.the-variants.{Refused};
@@ -93,25 +91,6 @@ pub fn read_limit(s: &[u8], at: usize, outer: usize) -> LimitRead
     }
 }
 
-fn narrow(x: i32) -> i16
-    requires { ⌜ size x ≤ 32767 ⌝ }
-    ensures { λ r. ⌜ r ≡ x ⌝ }
-{
-    x as i16
-}
-
-// Writes a row of small numbers into out from place at on.
-pub fn lay_row(out: &mut [i16], at: usize, row: &[i32])
-    requires { ⌜ (at + length (now row) ≤ length (now out)) × Within 32767 (now row) ⌝ }
-    ensures { λ _. ⌜ now (out .exit) ≡ put (now (out .entry)) at (now (row .entry)) ⌝ }
-{
-    let mut j = 0;
-    while j < row.len() {
-        out[at + j] = narrow(row[j]);
-        j += 1;
-    }
-}
-
 // Limit j of all, of a loop with `outer` loops outside.
 fn lay_limit(words: &mut [i16], j: usize, limit: Limit, outer: usize)
     requires { ⌜ LayLimitIn (length (now words)) j outer limit ⌝ }
@@ -122,7 +101,7 @@ fn lay_limit(words: &mut [i16], j: usize, limit: Limit, outer: usize)
     let coefficients = limit.coefficients;
     words[at] = limit.multiplier as i16;
     words[at + 1] = constant as i16;
-    lay_row(words, at + 2, &coefficients[..outer]);
+    rows::lay_row(words, at + 2, &coefficients[..outer]);
 }
 
 // A count from 1 to 4 and as many limits, laid from limit j on.

@@ -22,7 +22,7 @@ use Rattle.bounds.specs.Flat.{limitAt, limitsAt, loopAt, loopsFrom, NestOk}
 use Rattle.limits.specs.Change.{changeOf}
 use Rattle.limits.specs.declared.Change.{Change}
 use Rattle.limits.proofs.FlatLaws.{limit-near, small-passes}
-use Rattle.loop_changes.specs.Loops.{LoopOk}
+use Rattle.limits.specs.Words.{LoopOk}
 use Rattle.loop_changes.proofs.RunLaws.{limits-pass, loops-pass}
 use Rattle.restructure.specs.After.{After}
 use Rattle.restructure.proofs.HeldLaws.{HeldAll, ok-at, nest-loops, nest-ok}

@@ -23,7 +23,8 @@ use Rattle.bounds.specs.Flat.{limitAt, limitsAt, loopAt, Positive}
 use Rattle.rows.specs.Rows.{Tried}
 use Rattle.limits.specs.Change.{changeOf, outerAfter, Allowed}
 use Rattle.limits.specs.declared.Change.the-variants.{Element}
-use Rattle.limits.proofs.FlatLaws.{limit-same, limit-put, head-put, put-before, put-after, within-put, limit-small, words-within}
+use Rattle.nest.proofs.PutLaws.{within-put}
+use Rattle.limits.proofs.FlatLaws.{limit-same, limit-put, head-put, put-before, put-after, limit-small, words-within}
 use Rattle.loop_changes.specs.Sides.{SideIn, SideMade, changedSide}
 use Rattle.loop_changes.specs.Loops.{LoopMade}
 use Rattle.loop_changes.proofs.LoopLaws.{limits-same, positive-same, lower-stops, upper-stops, loop-ends}

@@ -17,7 +17,8 @@ use Rattle.limits.specs.Change.{changeOf, outerAfter, Allowed}
 use Rattle.limits.specs.declared.Change.{Change}
 use Rattle.limits.specs.declared.Slant.{Slant}
 use Rattle.limits.specs.declared.Change.the-variants.{Negate, Turn, Lean, Skew}
-use Rattle.loop_changes.specs.Loops.{LoopOk, LoopIn, onSides, LoopMade, LoopsIn, LoopsMade}
+use Rattle.limits.specs.Words.{LoopOk}
+use Rattle.loop_changes.specs.Loops.{LoopIn, onSides, LoopMade, LoopsIn, LoopsMade}
 use Rattle.loop_changes.specs.Flips.{FlipIn, flipped, Flipped}
 use Rattle.loop_changes.proofs.LoopLaws.{loop-same, ok-same}
 use Rattle.restructure.specs.After.{After, ReversalIn, SkewIn}

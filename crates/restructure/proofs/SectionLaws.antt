@@ -19,7 +19,8 @@ use Rattle.bounds.specs.Flat.{loopAt, loopsFrom}
 use Rattle.limits.specs.Change.{changeOf, outerAfter, Allowed}
 use Rattle.limits.specs.declared.Cut.{Cut}
 use Rattle.limits.specs.declared.Change.the-variants.{Low, Up, Split}
-use Rattle.loop_changes.specs.Loops.{LoopOk, LoopIn, onSides, LoopMade, LoopsIn, LoopsMade}
+use Rattle.limits.specs.Words.{LoopOk}
+use Rattle.loop_changes.specs.Loops.{LoopIn, onSides, LoopMade, LoopsIn, LoopsMade}
 use Rattle.loop_changes.proofs.LoopLaws.{loop-same, ok-same}
 use Rattle.restructure.specs.After.{After, SectionIn}
 use Rattle.restructure.specs.Sections.{elementSide, elementLoop, ElementLoopIn}

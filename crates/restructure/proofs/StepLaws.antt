@@ -17,7 +17,8 @@ use Rattle.model.specs.Judge.{smallLoop}
 use Rattle.bounds.specs.Flat.{loopAt, loopsFrom, NestOk}
 use Rattle.limits.specs.Change.{changeOf}
 use Rattle.limits.specs.declared.Change.{Change}
-use Rattle.loop_changes.specs.Loops.{LoopOk, LoopIs, LoopMade, LoopsAre, LoopsMade}
+use Rattle.limits.specs.Words.{LoopOk}
+use Rattle.loop_changes.specs.Loops.{LoopIs, LoopMade, LoopsAre, LoopsMade}
 use Rattle.restructure.specs.After.{After}
 use Rattle.restructure.proofs.HeldLaws.{HeldAll, ok-at, held-there, held-kept, held-append, held-run}
 use Rattle.restructure.proofs.AfterLaws.{few, length-loops, settled}

@@ -4,11 +4,11 @@ use Prim.Native.Nat.{ℕ, _+_, _*_, _-_, _≤_, _<_}
 use mathlib.Core.Path.{_≡_}
 use lib.IntN.{ℤ}
 use lib.ListN.{length, getD}
+use Rattle.limits.specs.Words.{LoopOk}
 use Rattle.integers.specs.Affine.{Within}
 use Rattle.model.specs.Ticket.{Limit, Loop}
 use Rattle.model.specs.Limits.{elementLimit, constantLimit}
 use Rattle.bounds.specs.Flat.{Positive}
-use Rattle.loop_changes.specs.Loops.{LoopOk}
 
 -- a side of E: the constant v, then each old limit with w × S moved across
 unfoldable pub elementSide : ℕ → ℕ → ℕ → List Limit → List Limit

@@ -13,7 +13,6 @@ use lib.Seq.{length-take-le}
 use Rattle.integers.specs.Affine.{Within}
 use Rattle.integers.proofs.AffineLaws.{within-at, within-take}
 use Rattle.integers.proofs.RangeLaws.{size-natAbs}
-use Rattle.bounds.proofs.LimitLaws.{within-drop}
 use Rattle.lists.specs.Parts.{put}
 use Rattle.lists.specs.Tests.{all}
 use Rattle.lists.proofs.PartLaws.{length-put, take-put, drop-put}
@@ -26,6 +25,8 @@ use Rattle.elements.specs.Layout.{formAt, formsFrom}
 use Rattle.steps.specs.Steps.{stepOf}
 use Rattle.steps.specs.declared.Step.{Step}
 use Rattle.steps.specs.declared.Step.the-variants.{Swap, Reverse, Lean, Strip}
+use Rattle.bounds.proofs.LimitLaws.{within-drop}
+use Rattle.nest.proofs.PutLaws.{within-put}
 use Rattle.rows.specs.Rows.{RowIs, Tried}
 use Rattle.rows.proofs.SmallLaws.{row-small}
 use Rattle.subscripts.specs.After.{smallSubscript, StepFits, ChangeIn, subscriptsAfter, Changed, Changes}
@@ -87,15 +88,6 @@ module _ (t : Model.Step) (n : ℕ) where
         ap (tests w first) q ∙ tests-join w first a (1 + r) ∙ ap (tests w first a &&_) (tests-join w (first + a) 1 r ∙ ap (_&& tests w (first + a + 1) r) f) ∙ and-false (tests w first a)
 
 -- ---- one
-
-within-append : (n : ℕ) (l m : List ℤ) → Within n l → Within n m → Within n (l ++ m)
-within-append n [] m p q = q
-within-append n (x ∷ l) m p q = (p .0, within-append n l m (p .1) q)
-
-within-put : (n : ℕ) (o : List ℤ) (p : ℕ) (xs : List ℤ) → Within n o → Within n xs → Within n (put o p xs)
-unfolding put
-within-put n o p xs g h =
-    within-append n (take p o) (xs ++ drop (p + length xs) o) (within-take n o p g) (within-append n xs (drop (p + length xs) o) h (within-drop n o (p + length xs) g))
 
 small-at : (w : List ℤ) (i : ℕ) → Within 32767 w → small (getD w i (pos 0)) ≡ true
 unfolding small

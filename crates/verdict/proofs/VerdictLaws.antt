@@ -6,6 +6,7 @@ use lib.IntN.{ℤ}
 use Rattle.model.specs.Answer.{_>>=_}
 use Rattle.model.specs.Ticket as Model
 use Rattle.model.specs.Judge.{judgeTicket, judged}
+use Rattle.reading.proofs.ReaderLaws.{not-fine}
 use Rattle.reading.specs.declared.Refusal.{Refusal}
 use Rattle.reading.specs.declared.Status.{Status}
 use Rattle.reading.specs.declared.Status.the-variants.{Fine, Refused}
@@ -20,15 +21,6 @@ use Rattle.judgement.specs.Judgement.{judgedAs, JudgeIn, Judges}
 use Rattle.verdict.specs.declared.Decided.{Decided}
 use Rattle.verdict.specs.Verdicts.{Decides}
 
--- ---- a refusal, whatever stands beside it
-
-not-fine : {A : Type 0} (r : Refusal) → Refused r ≡ Fine → A
-not-fine r e = absurd (subst isRefused e tt)
-  where
-    isRefused : Status → Type 0
-    isRefused Fine = ⊥
-    isRefused (Refused q) = Unit {0}
-
 module _ (b : List ℕ) (o e : List ℤ) (a : Intake) (h : Admits b o e a) where
   abbrev T : Model.Ticket
   T = ticketOn (a .sheet) (a .steps)
@@ -42,8 +34,8 @@ module _ (b : List ℕ) (o e : List ℤ) (a : Intake) (h : Admits b o e a) where
   not-admitted r s q z = record {
     ticket = T;
     same = ap (λ (x : Status). judgedAs x (record { ticket = T; new = nestOf (q .sheet) })) z ∙ sym (ap (λ (x : Status). decoded x T >>= judgeTicket) s) ∙ whole;
-    count = λ f. not-fine r (sym z ∙ f);
-    new = λ f. not-fine r (sym z ∙ f);
+    count = λ f. not-fine (q .status) z f;
+    new = λ f. not-fine (q .status) z f;
   }
 
   module _ (s : a .status ≡ Fine) where
