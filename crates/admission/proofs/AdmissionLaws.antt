@@ -17,8 +17,7 @@ use Rattle.space.specs.declared.Verdict.{Verdict}
 use Rattle.space.specs.declared.Verdict.the-variants.{Admitted, FarIndex, Crowded}
 use Rattle.space.proofs.ListLaws.{admitted-near, admitted-few}
 use Rattle.elements.specs.Search as Elements
-use Rattle.sheet.specs.declared.Sheet.{Sheet}
-use Rattle.sheet.specs.Sheets.{nestOf, SheetIn}
+use Rattle.sheet.specs.Sheets.{Sheet, nestOf, SheetIn}
 use Rattle.sheet.specs.Stages.{Surveyed, ListIn, PointsAre, StrayIn, Searched}
 use Rattle.sheet.proofs.StageLaws.{depth-is}
 use Rattle.admission.specs.declared.Counted.{Counted}

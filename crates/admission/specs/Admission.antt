@@ -10,8 +10,7 @@ use Rattle.model.specs.Bounds.{space, admitted}
 use Rattle.reading.specs.Refusals.{refusal}
 use Rattle.reading.specs.declared.Status.{Status}
 use Rattle.reading.specs.declared.Status.the-variants as Status
-use Rattle.sheet.specs.declared.Sheet.{Sheet}
-use Rattle.sheet.specs.Sheets.{nestOf, SheetIn}
+use Rattle.sheet.specs.Sheets.{Sheet, nestOf, SheetIn}
 use Rattle.sheet.specs.Stages.{PointsAre}
 use Rattle.admission.specs.declared.Counted.{Counted}
 use Rattle.admission.specs.declared.Counted.the-variants.{Points, Refused}

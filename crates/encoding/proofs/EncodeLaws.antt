@@ -16,8 +16,7 @@ use Rattle.model.specs.Ranges.{Small, nestSections}
 use Rattle.model.proofs.Grammar.RoundTripLaws.{encode-length, nest-small}
 use Rattle.bounds.specs.Flat.{loopsFrom}
 use Rattle.elements.specs.Layout.{arraysOf}
-use Rattle.sheet.specs.declared.Sheet.{Sheet}
-use Rattle.sheet.specs.Sheets.{extentsIn, sizesIn, ownersIn, wordsIn, statementsFrom, nestOf, SheetIn}
+use Rattle.sheet.specs.Sheets.{Sheet, extentsIn, sizesIn, ownersIn, wordsIn, statementsFrom, nestOf, SheetIn}
 use Rattle.sheet.proofs.SheetLaws.{owners-count, sizes-count}
 use Rattle.writing.specs.Writing.{Writable, Written}
 use Rattle.lengths.specs.Slices.{statementAt, statementsAt, nestAt, SlicesIn}

@@ -14,8 +14,7 @@ use Rattle.model.specs.Ranges.{InRange, Small, LimitRanges, LoopRanges, ArrayRa
 use Rattle.model.specs.Shape.{Runs, Fits, FitsAll, WellFormed}
 use Rattle.bounds.specs.Flat.{limitAt, limitsAt, loopAt, loopsFrom, NestOk}
 use Rattle.elements.specs.Layout.{extentsAt, arraysFrom, arraysOf, formAt, formsFrom, accessAt, accessesFrom, AccessesOk}
-use Rattle.sheet.specs.declared.Sheet.{Sheet}
-use Rattle.sheet.specs.Sheets.{wordsIn, ownersIn, extentsIn, statementsFrom, nestOf, SheetIn}
+use Rattle.sheet.specs.Sheets.{Sheet, wordsIn, ownersIn, extentsIn, statementsFrom, nestOf, SheetIn}
 use Rattle.encoding.specs.Encodable.{SheetEncodable}
 
 abbrev smallest : Sheet

@@ -9,8 +9,7 @@ use Rattle.model.specs.Shape.{WellFormed}
 use Rattle.model.specs.Store.{sum}
 use Rattle.model.specs.Ranges.{Small, NestRanges}
 use Rattle.elements.specs.Layout.{AccessesOk}
-use Rattle.sheet.specs.declared.Sheet.{Sheet}
-use Rattle.sheet.specs.Sheets.{nestOf, SheetIn}
+use Rattle.sheet.specs.Sheets.{Sheet, nestOf, SheetIn}
 use Rattle.lengths.specs.Slices.{nestAt, SlicesIn}
 
 -- m accesses from access k on, in a nest of n loops

@@ -1,13 +1,13 @@
 // A nest as a ticket's bytes in a lent buffer. `at` is a place in the buffer, and a writer answers the place behind what it wrote.
 ghost use Rattle.model.specs.Encode.{counted, arrayWords, accessWords, statementWords, nestWords};
 ghost use Rattle.elements.specs.Layout.{arraysOf, accessAt, accessesFrom};
-ghost use Rattle.sheet.specs.Sheets.{nestOf};
+ghost use Rattle.sheet.specs.Sheets.{sheetOf, nestOf};
 ghost use Rattle.writing.specs.Writing.{Writable, Written};
 ghost use Rattle.lengths.specs.Slices.{statementAt, statementsAt, nestAt, SlicesIn};
 ghost use Rattle.lengths.specs.Lengths.{ArraysIn};
 ghost use Rattle.encoding.specs.Encodable.{AccessesIn, StatementIn, StatementsIn, Encodable, SheetEncodable};
 ghost use Rattle.encoding.specs.Encoding.{Encodes};
-use sheet::Sheet;
+use sheet::Outline;
 
 // How many bytes were written, or how many there would be.
 pub enum Encoded {
@@ -205,27 +205,25 @@ pub fn encode_slices(
     Encoded::Complete(end)
 }
 
-// The bytes of the nest on a sheet.
-pub fn encode_sheet(sheet: Sheet, out: &mut [u8]) -> Encoded
-    requires { ⌜ SheetEncodable sheet ⌝ }
-    ensures { λ r. ⌜ Encodes (nestOf sheet) (now (out .entry)) (now (out .exit)) r ⌝ }
+// The bytes of the nest on a outline.
+pub fn encode_sheet(outline: Outline, limits: &[i16], words: &[i16], out: &mut [u8]) -> Encoded
+    requires { ⌜ SheetEncodable (sheetOf outline (now limits) (now words)) ⌝ }
+    ensures { λ r. ⌜ Encodes (nestOf (sheetOf outline (now (limits .entry)) (now (words .entry)))) (now (out .entry)) (now (out .exit)) r ⌝ }
 {
-    let limits = sheet.limits;
-    let counts = sheet.counts;
-    let depth = sheet.depth;
-    let extents = sheet.extents;
-    let sizes = sheet.sizes;
-    let rules = sheet.rules;
-    let constants = sheet.constants;
-    let owners = sheet.owners;
-    let words = sheet.words;
-    let accesses = sheet.accesses;
+    let counts = outline.counts;
+    let depth = outline.depth;
+    let extents = outline.extents;
+    let sizes = outline.sizes;
+    let rules = outline.rules;
+    let constants = outline.constants;
+    let owners = outline.owners;
+    let accesses = outline.accesses;
     encode_slices(
-        &limits,
+        limits,
         &counts,
         depth,
-        &extents[..sheet.arrays * 4],
-        &sizes[..sheet.statements],
+        &extents[..outline.arrays * 4],
+        &sizes[..outline.statements],
         &rules,
         &constants,
         &owners[..accesses],

@@ -30,8 +30,7 @@ use Rattle.model.proofs.Steps.WellFormedLaws.{well-formed-after-all}
 use Rattle.model.proofs.Promise.KeptLaws.{arrays-kept, statements-kept, constants-kept}
 use Rattle.model.proofs.Verdict.VerdictLaws.{admitted-accepted, judgeTicket-accepted}
 use Rattle.space.proofs.ListLaws.{admitted-few}
-use Rattle.sheet.specs.declared.Sheet.{Sheet}
-use Rattle.sheet.specs.Sheets.{nestOf, SheetIn}
+use Rattle.sheet.specs.Sheets.{Sheet, nestOf, SheetIn}
 use Rattle.execution.specs.Execution.{Executable, ExecuteIn}
 
 abbrev noStatement : Statement

@@ -10,8 +10,7 @@ use lib.Dec.{eqb}
 use lib.ListN.{length, getD}
 use Rattle.model.specs.Answer.{refused, require, _>>_, _>>=_}
 use Rattle.model.specs.Entries.{transparent}
-use Rattle.sheet.specs.declared.Sheet.{Sheet}
-use Rattle.sheet.specs.Sheets.{sizesIn, statementsFrom, nestOf, SheetIn}
+use Rattle.sheet.specs.Sheets.{Sheet, sizesIn, statementsFrom, nestOf, SheetIn}
 use Rattle.sheet.proofs.SheetLaws.{sizes-count}
 use Rattle.execution.specs.Execution.{opaqueAt, clearFrom}
 

@@ -13,8 +13,7 @@ use Rattle.model.specs.Bounds.{sprawl}
 use Rattle.model.specs.Machine.{element, bodyAt}
 use Rattle.model.specs.Store.{placeOf}
 use Rattle.space.proofs.SurveyLaws.{survey-near}
-use Rattle.sheet.specs.declared.Sheet.{Sheet}
-use Rattle.sheet.specs.Sheets.{sizesIn, statementsFrom, nestOf}
+use Rattle.sheet.specs.Sheets.{Sheet, sizesIn, statementsFrom, nestOf}
 use Rattle.sheet.specs.Stages.{ListIn, PointsAre, NumbersAre}
 use Rattle.sheet.proofs.SheetLaws.{sizes-count, access-is}
 use Rattle.store.specs.Runs.{RunIn}

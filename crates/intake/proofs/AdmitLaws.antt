@@ -19,6 +19,7 @@ use Rattle.reading.specs.declared.Status.the-variants.{Fine, Refused}
 use Rattle.reading.specs.Refusals.{refusal}
 use Rattle.ticket.specs.Ticket.{ticketOn, decoded}
 use Rattle.sheet.specs.Sheets as Sheet
+use Rattle.sheet.specs.Sheets.{sheetOf}
 use Rattle.sheet.specs.Stages.{PointsAre}
 use Rattle.sheet.proofs.StageLaws.{depth-is}
 use Rattle.admission.specs.Admission.{passed, EnumerateIn, Enumerates}
@@ -42,15 +43,15 @@ admit-goes-on b = go (decode b)
     go (accepted T) = at T (space (T .nest .loops))
     go (refused n p) = refl
 
-module _ (b : List ℕ) (q : Intake) (h : Receives b q) where
-  by-status : (s : Status) → q .status ≡ s → admit b ≡ (decoded s (ticketOn (q .sheet) (q .steps)) >>= rest)
-  by-status s e = admit-goes-on b ∙ ap (_>>= rest) (sym (h .same) ∙ ap (λ (x : Status). decoded x (ticketOn (q .sheet) (q .steps))) e)
+module _ (b : List ℕ) (q : Intake) (l w : List ℤ) (h : Receives b q l w) where
+  by-status : (s : Status) → q .status ≡ s → admit b ≡ (decoded s (ticketOn (sheetOf (q .outline) l w) (q .steps)) >>= rest)
+  by-status s e = admit-goes-on b ∙ ap (_>>= rest) (sym (h .same) ∙ ap (λ (x : Status). decoded x (ticketOn (sheetOf (q .outline) l w) (q .steps))) e)
 
   -- refused before its points are asked for
-  pub not-received : (r : Refusal) → q .status ≡ Refused r → Admits b [] [] q
+  pub not-received : (r : Refusal) → q .status ≡ Refused r → Admits b [] [] q l w
   unfolding _>>=_
   not-received r s = record {
-    same = ap (λ (x : Status). decoded x (ticketOn (q .sheet) (q .steps))) s ∙ sym (by-status (Refused r) s);
+    same = ap (λ (x : Status). decoded x (ticketOn (sheetOf (q .outline) l w) (q .steps))) s ∙ sym (by-status (Refused r) s);
     taken = λ f. not-fine (q .status) s f;
     room = refl;
   }
@@ -58,43 +59,43 @@ module _ (b : List ℕ) (q : Intake) (h : Receives b q) where
   -- ---- room for the points
 
   module _ (f : q .status ≡ Fine) where
-    pub waits-few : q .count ≤ 256 → Waits b q 1024
-    waits-few l = record { receives = h; fine = f; fits = omega arith }
+    pub waits-few : q .count ≤ 256 → Waits b q l w 1024
+    waits-few n = record { receives = h; fine = f; fits = omega arith }
 
-    pub waits : Waits b q 16384
+    pub waits : Waits b q l w 16384
     waits =
-        let l = h .laid f in let s = l .sheet .some in let d = depth-is (q .sheet) in
-        let n = admitted-few (Sheet.nestOf (q .sheet) .loops) (omega arith) (l .spacious) in
-        let c = l .count in record { receives = h; fine = f; fits = omega arith }
+        let g = h .laid f in let s = g .sheet .some in let d = depth-is (sheetOf (q .outline) l w) in
+        let n = admitted-few (Sheet.nestOf (sheetOf (q .outline) l w) .loops) (omega arith) (g .spacious) in
+        let c = g .count in record { receives = h; fine = f; fits = omega arith }
 
 -- ---- with its points
 
-module _ (b : List ℕ) (q : Intake) (o : List ℤ) (h : Waits b q (length o)) where
+module _ (b : List ℕ) (q : Intake) (l w : List ℤ) (o : List ℤ) (h : Waits b q l w (length o)) where
   abbrev T : Model.Ticket
-  T = ticketOn (q .sheet) (q .steps)
+  T = ticketOn (sheetOf (q .outline) l w) (q .steps)
 
-  laid : Laid (q .sheet) (q .steps) (q .count)
+  laid : Laid (sheetOf (q .outline) l w) (q .steps) (q .count)
   laid = h .receives .laid (h .fine)
 
-  pub enumerate-in : EnumerateIn (q .sheet) (length o)
+  pub enumerate-in : EnumerateIn (sheetOf (q .outline) l w) (length o)
   enumerate-in = record {
     sheet = laid .sheet;
     spacious = laid .spacious;
-    fits = let a = mul-le-mul-left (q .count) (laid .shallow) in let f = h .fits in subst (λ (n : ℕ). n * q .sheet .depth ≤ length o) (laid .count) (omega arith);
+    fits = let a = mul-le-mul-left (q .count) (laid .shallow) in let f = h .fits in subst (λ (n : ℕ). n * q .outline .depth ≤ length o) (laid .count) (omega arith);
   }
 
-  admits : admit b ≡ (admitted (Sheet.nestOf (q .sheet)) >> accepted T)
+  admits : admit b ≡ (admitted (Sheet.nestOf (sheetOf (q .outline) l w)) >> accepted T)
   unfolding admitted ticketOn _>>_ _>>=_
-  admits = by-status b q (h .receives) Fine (h .fine)
+  admits = by-status b q l w (h .receives) Fine (h .fine)
       ∙ sym (ap (λ (m : Answer (Unit {0})). (m >> inArrays (T .nest .arrays) (iterations (T .nest .loops)) 1 (T .nest .statements)) >> accepted T) (laid .spacious))
 
-  module _ (e : List ℤ) (s : Status) (g : Enumerates (q .sheet) o e s) where
+  module _ (e : List ℤ) (s : Status) (g : Enumerates (sheetOf (q .outline) l w) o e s) where
     with-ticket : (z : Status) → (passed z >> accepted T) ≡ decoded z T
     unfolding _>>_ _>>=_
     with-ticket Fine = refl
     with-ticket (Refused r) = refl
 
-    pub admitted-out : Admits b o e (withStatus s q)
+    pub admitted-out : Admits b o e (withStatus s q) l w
     admitted-out = record {
       same = sym (with-ticket s) ∙ ap (_>> accepted T) (g .same) ∙ sym admits;
       taken = λ f. record {
@@ -103,7 +104,7 @@ module _ (b : List ℕ) (q : Intake) (o : List ℤ) (h : Waits b q (length o)) w
         formed = laid .formed;
         admitted-is = sym (g .same) ∙ ap passed f;
         sheet = laid .sheet;
-        points-are = subst (PointsAre (q .sheet) e) (sym (laid .count)) (g .points);
+        points-are = subst (PointsAre (sheetOf (q .outline) l w) e) (sym (laid .count)) (g .points);
       };
       room = g .room;
     }

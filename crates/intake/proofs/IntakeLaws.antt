@@ -2,6 +2,7 @@
 use mathlib.Core.Path.{_≡_, sym, _∙_, ap, subst}
 use mathlib.Core.List.{List}
 use Prim.Native.Nat.{ℕ}
+use lib.IntN.{ℤ}
 use Rattle.model.specs.Answer.{accepted, _>>_, _>>=_}
 use Rattle.model.specs.Ticket as Model
 use Rattle.model.specs.Grammar.{decode}
@@ -14,6 +15,7 @@ use Rattle.reading.specs.Refusals.{refusal}
 use Rattle.reading.proofs.ReaderLaws.{not-fine}
 use Rattle.ticket.specs.declared.Decoded.{Decoded}
 use Rattle.ticket.specs.Ticket.{ticketOn, decoded, Decodes}
+use Rattle.sheet.specs.Sheets.{sheetOf}
 use Rattle.admission.specs.Admission.{answerOf, Counts}
 use Rattle.admission.specs.declared.Counted.{Counted}
 use Rattle.admission.specs.declared.Counted.the-variants as Counted
@@ -21,19 +23,19 @@ use Rattle.intake.specs.declared.Intake.{Intake}
 use Rattle.intake.specs.Intake.{received, Receives}
 
 -- a refusal, whatever stands beside it
-refuse : (b : List ℕ) (r : Refusal) (q : Intake) → q .status ≡ Refused r → refusal r ≡ received b → Receives b q
-refuse b r q s h = record {
-  same = ap (λ (x : Status). decoded x (ticketOn (q .sheet) (q .steps))) s ∙ h;
+refuse : (b : List ℕ) (r : Refusal) (q : Intake) (l w : List ℤ) → q .status ≡ Refused r → refusal r ≡ received b → Receives b q l w
+refuse b r q l w s h = record {
+  same = ap (λ (x : Status). decoded x (ticketOn (sheetOf (q .outline) l w) (q .steps))) s ∙ h;
   laid = λ f. not-fine (q .status) s f;
 }
 
-module _ (b : List ℕ) (d : Decoded) (h : Decodes b d) where
+module _ (b : List ℕ) (d : Decoded) (l w : List ℤ) (h : Decodes b d l w) where
   abbrev T : Model.Ticket
-  T = ticketOn (d .sheet) (d .steps)
+  T = ticketOn (sheetOf (d .outline) l w) (d .steps)
 
-  pub decode-refused : (r : Refusal) (q : Intake) → d .status ≡ Refused r → q .status ≡ Refused r → Receives b q
+  pub decode-refused : (r : Refusal) (q : Intake) → d .status ≡ Refused r → q .status ≡ Refused r → Receives b q l w
   unfolding received _>>=_
-  decode-refused r q s z = refuse b r q z (ap (_>>= (λ T. space (T .nest .loops) >> accepted T)) (sym (ap (λ (x : Status). decoded x T) s) ∙ h .same))
+  decode-refused r q s z = refuse b r q l w z (ap (_>>= (λ T. space (T .nest .loops) >> accepted T)) (sym (ap (λ (x : Status). decoded x T) s) ∙ h .same))
 
   module _ (s : d .status ≡ Fine) where
     is-ticket : decode b ≡ accepted T
@@ -43,16 +45,16 @@ module _ (b : List ℕ) (d : Decoded) (h : Decodes b d) where
     unfolding received _>>=_
     receives = ap (_>>= (λ T. space (T .nest .loops) >> accepted T)) is-ticket
 
-    module _ (a : Counted) (g : Counts (d .sheet) a) where
+    module _ (a : Counted) (g : Counts (sheetOf (d .outline) l w) a) where
       same-answer : answerOf a ≡ space (T .nest .loops)
       unfolding ticketOn
       same-answer = g .same
 
-      pub space-refused : (r : Refusal) (q : Intake) → a ≡ Counted.Refused r → q .status ≡ Refused r → Receives b q
+      pub space-refused : (r : Refusal) (q : Intake) → a ≡ Counted.Refused r → q .status ≡ Refused r → Receives b q l w
       unfolding _>>_ _>>=_
-      space-refused r q s z = refuse b r q z (ap (_>> accepted T) (sym (ap answerOf s) ∙ same-answer) ∙ sym receives)
+      space-refused r q s z = refuse b r q l w z (ap (_>> accepted T) (sym (ap answerOf s) ∙ same-answer) ∙ sym receives)
 
-      pub received-out : (n : ℕ) → a ≡ Counted.Points n → Receives b (record { status = Fine; steps = d .steps; sheet = d .sheet; count = n })
+      pub received-out : (n : ℕ) → a ≡ Counted.Points n → Receives b (record { status = Fine; steps = d .steps; outline = d .outline; count = n }) l w
       unfolding _>>_ _>>=_ ticketOn
       received-out n y = record {
         same = sym (ap (_>> accepted T) (sym same-answer ∙ ap answerOf y)) ∙ sym receives;

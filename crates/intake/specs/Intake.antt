@@ -18,9 +18,8 @@ use Rattle.reading.specs.declared.Status.the-variants.{Fine}
 use Rattle.steps.specs.Steps.{StepsIn}
 use Rattle.steps.specs.declared.Steps.{Steps}
 use Rattle.ticket.specs.Ticket.{ticketOn, decoded}
-use Rattle.sheet.specs.declared.Sheet.{Sheet}
 use Rattle.sheet.specs.Sheets as Sheet
-use Rattle.sheet.specs.Sheets.{SheetIn}
+use Rattle.sheet.specs.Sheets.{Sheet, sheetOf, SheetIn}
 use Rattle.sheet.specs.Stages.{PointsAre}
 use Rattle.intake.specs.declared.Intake.{Intake}
 
@@ -38,18 +37,19 @@ pub record Laid (P : Sheet) (S : Steps) (n : ℕ) : Type 0 where
   pub shallow : P .depth ≤ 4
   pub count : n ≡ length (iterations (Sheet.nestOf P .loops))
 
-pub record Receives (b : List ℕ) (r : Intake) : Type 0 where
-  pub same : decoded (r .status) (ticketOn (r .sheet) (r .steps)) ≡ received b
-  pub laid : r .status ≡ Fine → Laid (r .sheet) (r .steps) (r .count)
+-- of the bytes b: the slices that were lent became l and w
+pub record Receives (b : List ℕ) (r : Intake) (l w : List ℤ) : Type 0 where
+  pub same : decoded (r .status) (ticketOn (sheetOf (r .outline) l w) (r .steps)) ≡ received b
+  pub laid : r .status ≡ Fine → Laid (sheetOf (r .outline) l w) (r .steps) (r .count)
 
 -- what was received of the bytes waits for its points, for which there is room
-pub record Waits (b : List ℕ) (r : Intake) (room : ℕ) : Type 0 where
-  pub receives : Receives b r
+pub record Waits (b : List ℕ) (r : Intake) (l w : List ℤ) (room : ℕ) : Type 0 where
+  pub receives : Receives b r l w
   pub fine : r .status ≡ Fine
   pub fits : r .count * 4 ≤ room
 
 abbrev pub withStatus : Status → Intake → Intake
-withStatus s r = record { status = s; steps = r .steps; sheet = r .sheet; count = r .count }
+withStatus s r = record { status = s; steps = r .steps; outline = r .outline; count = r .count }
 
 -- an admitted ticket on its sheet, and its n points
 pub record Taken (P : Sheet) (S : Steps) (points : List ℤ) (n : ℕ) : Type 0 where
@@ -61,7 +61,7 @@ pub record Taken (P : Sheet) (S : Steps) (points : List ℤ) (n : ℕ) : Type 0 
   pub points-are : PointsAre P points n
 
 -- the slice o became e
-pub record Admits (b : List ℕ) (o e : List ℤ) (r : Intake) : Type 0 where
-  pub same : decoded (r .status) (ticketOn (r .sheet) (r .steps)) ≡ admit b
-  pub taken : r .status ≡ Fine → Taken (r .sheet) (r .steps) e (r .count)
+pub record Admits (b : List ℕ) (o e : List ℤ) (r : Intake) (l w : List ℤ) : Type 0 where
+  pub same : decoded (r .status) (ticketOn (sheetOf (r .outline) l w) (r .steps)) ≡ admit b
+  pub taken : r .status ≡ Fine → Taken (sheetOf (r .outline) l w) (r .steps) e (r .count)
   pub room : length e ≡ length o

@@ -3,60 +3,63 @@
 ghost use mathlib.Core.Path.{_≡_};
 ghost use lib.ListN.{length};
 ghost use Rattle.reading.specs.declared.Status.the-variants.{Refused};
+ghost use Rattle.ticket.specs.Ticket.{Lent};
 ghost use Rattle.intake.specs.Intake.{Receives, Waits, withStatus, Admits};
 use admission::Counted;
 use reading::Refusal;
 use reading::Status;
-use sheet::Sheet;
+use sheet::Outline;
 use steps::Steps;
 
-// The ticket's nest on its sheet, its steps and the number of its points where the status is Fine.
+// The ticket's nest, its steps and the number of its points where the status is Fine; its limits and the words of its accesses stand in the slices
+// that were lent.
 pub struct Intake {
     pub status: Status,
     pub steps: Steps,
-    pub sheet: Sheet,
+    pub outline: Outline,
     pub count: usize,
 }
 
-fn refused(r: Refusal, steps: Steps, sheet: Sheet) -> Intake
+fn refused(r: Refusal, steps: Steps, outline: Outline) -> Intake
     ensures { λ q. ⌜ q .status ≡ Refused r ⌝ }
 {
     Intake {
         status: Status::Refused(r),
         steps: steps,
-        sheet: sheet,
+        outline: outline,
         count: 0,
     }
 }
 
-pub fn receive(bytes: &[u8]) -> Intake
-    ensures { λ r. ⌜ Receives (now (bytes .entry)) r ⌝ }
+pub fn receive(bytes: &[u8], limits: &mut [i16], words: &mut [i16]) -> Intake
+    requires { ⌜ Lent (now limits) (now words) ⌝ }
+    ensures { λ r. ⌜ Receives (now (bytes .entry)) r (now (limits .exit)) (now (words .exit)) ⌝ }
 {
-    let d = ticket::decode(bytes);
+    let d = ticket::decode(bytes, limits, words);
     let steps = d.steps;
-    let sheet = d.sheet;
+    let outline = d.outline;
     let status = d.status;
     match status {
         Status::Fine => {}
-        Status::Refused(r) => return refused(r, steps, sheet),
+        Status::Refused(r) => return refused(r, steps, outline),
     }
-    match admission::count_points(sheet) {
+    match admission::count_points(outline, limits, words) {
         Counted::Points(n) => Intake {
             status: Status::Fine,
             steps: steps,
-            sheet: sheet,
+            outline: outline,
             count: n,
         },
-        Counted::Refused(r) => refused(r, steps, sheet),
+        Counted::Refused(r) => refused(r, steps, outline),
     }
 }
 
 // The points of a ticket that was received: at most four indices each. The bytes are lent for the contract alone.
-pub fn admit(bytes: &[u8], all: Intake, points: &mut [i64]) -> Status
-    requires { ⌜ Waits (now bytes) all (length (now points)) ⌝ }
-    ensures { λ r. ⌜ Admits (now (bytes .entry)) (now (points .entry)) (now (points .exit)) (withStatus r all) ⌝ }
+pub fn admit(bytes: &[u8], all: Intake, limits: &[i16], words: &[i16], points: &mut [i64]) -> Status
+    requires { ⌜ Waits (now bytes) all (now limits) (now words) (length (now points)) ⌝ }
+    ensures { λ r. ⌜ Admits (now (bytes .entry)) (now (points .entry)) (now (points .exit)) (withStatus r all) (now (limits .entry)) (now (words .entry)) ⌝ }
 {
-    admission::enumerate(all.sheet, points)
+    admission::enumerate(all.outline, limits, words, points)
 }
 
 // The answer of judge, write, list and run: a count of iterations or of bytes.

@@ -1,6 +1,7 @@
 -- The verdict's answer is the model's `judge`.
 use mathlib.Core.Path.{_≡_, sym, _∙_, ap}
 use mathlib.Core.List.{List}
+use lib.IntN.{ℤ}
 use lib.ListN.{length}
 use Rattle.model.specs.Answer.{accepted, _>>=_}
 use Rattle.model.specs.Points.{iterations}
@@ -11,21 +12,21 @@ use Rattle.reading.specs.declared.Refusal.{Refusal}
 use Rattle.reading.specs.declared.Status.{Status}
 use Rattle.reading.specs.declared.Status.the-variants.{Fine, Refused}
 use Rattle.reading.specs.Refusals.{refusal}
-use Rattle.sheet.specs.Sheets.{nestOf}
+use Rattle.sheet.specs.Sheets.{sheetOf, nestOf}
 use Rattle.judgement.specs.Judgement.{judgedAs}
 use Rattle.verdict.specs.declared.Decided.{Decided}
 use Rattle.verdict.specs.Verdicts.{Decides}
 
-module _ (b : List ℕ) (d : Decided) (h : Decides b d) where
-  whole : (judgedAs (d .status) (record { ticket = h .ticket; new = nestOf (d .sheet) }) >>= (λ (j : Judged). accepted (length (iterations (j .ticket .nest .loops))))) ≡ judge b
+module _ (b : List ℕ) (d : Decided) (l w : List ℤ) (h : Decides b d l w) where
+  whole : (judgedAs (d .status) (record { ticket = h .ticket; new = nestOf (sheetOf (d .outline) l w) }) >>= (λ (j : Judged). accepted (length (iterations (j .ticket .nest .loops))))) ≡ judge b
   unfolding judge
   whole = ap (_>>= (λ (j : Judged). accepted (length (iterations (j .ticket .nest .loops))))) (h .same)
 
   pub judge-refused : (r : Refusal) → d .status ≡ Refused r → refusal r ≡ judge b
   unfolding _>>=_
-  judge-refused r s = sym (ap (λ (x : Status). judgedAs x (record { ticket = h .ticket; new = nestOf (d .sheet) }) >>= (λ (j : Judged). accepted (length (iterations (j .ticket .nest .loops))))) s) ∙ whole
+  judge-refused r s = sym (ap (λ (x : Status). judgedAs x (record { ticket = h .ticket; new = nestOf (sheetOf (d .outline) l w) }) >>= (λ (j : Judged). accepted (length (iterations (j .ticket .nest .loops))))) s) ∙ whole
 
   pub judge-accepted : d .status ≡ Fine → accepted (d .count) ≡ judge b
   unfolding _>>=_
   judge-accepted s = ap accepted (h .count s)
-      ∙ sym (ap (λ (x : Status). judgedAs x (record { ticket = h .ticket; new = nestOf (d .sheet) }) >>= (λ (j : Judged). accepted (length (iterations (j .ticket .nest .loops))))) s) ∙ whole
+      ∙ sym (ap (λ (x : Status). judgedAs x (record { ticket = h .ticket; new = nestOf (sheetOf (d .outline) l w) }) >>= (λ (j : Judged). accepted (length (iterations (j .ticket .nest .loops))))) s) ∙ whole

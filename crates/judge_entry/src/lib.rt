@@ -10,7 +10,9 @@ use reading::Status;
 pub fn judge(ticket: &[u8]) -> Answer
     ensures { λ r. ⌜ answerOf r ≡ Entries.judge (now (ticket .entry)) ⌝ }
 {
-    let decided = verdict::decide(ticket);
+    let mut limits = [0i16; 1536];
+    let mut words = [0i16; 480];
+    let decided = verdict::decide(ticket, &mut limits, &mut words);
     let status = decided.status;
     match status {
         Status::Fine => Answer::Accepted(decided.count),

@@ -1,4 +1,4 @@
--- A judged ticket: refusals 15 and 16 of its own nest, then the run of the new one.
+-- A judged ticket: refusals 15 and 16 by what was found on its own nest, then the run of the new one.
 use mathlib.Core.Path.{_≡_}
 use mathlib.Core.List.{List}
 use Prim.Native.Nat.{ℕ}
@@ -9,25 +9,22 @@ use Rattle.model.specs.Ticket.{Nest}
 use Rattle.model.specs.Grammar.{total}
 use Rattle.model.specs.Points.{iterations}
 use Rattle.model.specs.Store.{runNest}
-use Rattle.model.specs.Entries.{transparent, Outcome}
-use Rattle.sheet.specs.declared.Sheet.{Sheet}
-use Rattle.sheet.specs.Sheets.{nestOf, SheetIn}
-use Rattle.execution.specs.Execution.{Executable}
+use Rattle.model.specs.Entries.{Outcome}
+use Rattle.sheet.specs.Sheets.{Sheet, nestOf, SheetIn}
+use Rattle.execution.specs.Execution.{opaqueAt, Executable}
 
--- 15 before 16
-unfoldable pub tested : Nest → List ℕ → Answer (Unit {0})
-tested N words = transparent 1 (N .statements) >> require (eqb (length words) (total (N .arrays))) 16 0
+-- 15 before 16, where `opaque` is the first opaque statement, from 1, or 0, and there are so many elements
+unfoldable pub tested : ℕ → ℕ → List ℕ → Answer (Unit {0})
+tested opaque elements words = opaqueAt opaque >> require (eqb (length words) elements) 16 0
 
--- N is the ticket's own nest, M the new one
-unfoldable pub outcome : Answer (Unit {0}) → Nest → Nest → List ℕ → Outcome
-outcome (refused n p) N M words = record { answer = refused n p; memory = words }
-outcome (accepted u) N M words = record { answer = accepted (length (iterations (N .loops))); memory = runNest M words }
+-- N is the new nest, `count` the number of iterations
+unfoldable pub outcome : Answer (Unit {0}) → ℕ → Nest → List ℕ → Outcome
+outcome (refused n p) count N words = record { answer = refused n p; memory = words }
+outcome (accepted u) count N words = record { answer = accepted count; memory = runNest N words }
 
--- the sheets of an accepted ticket, before and after its steps, and its count of iterations
-pub record RunIn (old new : Sheet) (count : ℕ) : Type 0 where
-  pub own : SheetIn old
-  pub other : SheetIn new
-  pub executable : Executable (nestOf new)
-  pub arrays : nestOf new .arrays ≡ nestOf old .arrays
-  pub as-many : length (iterations (nestOf new .loops)) ≡ length (iterations (nestOf old .loops))
-  pub counted : count ≡ length (iterations (nestOf old .loops))
+-- the sheet of an accepted ticket after its steps, the number of its elements and of its iterations
+pub record RunIn (elements : ℕ) (P : Sheet) (count : ℕ) : Type 0 where
+  pub sheet : SheetIn P
+  pub executable : Executable (nestOf P)
+  pub all-elements : elements ≡ total (nestOf P .arrays)
+  pub counted : count ≡ length (iterations (nestOf P .loops))

@@ -1,24 +1,31 @@
 // The run of an accepted ticket: refusals 15 and 16, then the new nest on the store.
-ghost use Rattle.sheet.specs.Sheets.{nestOf};
+ghost use Rattle.sheet.specs.Sheets.{sheetOf, nestOf};
 ghost use Rattle.intake.specs.Answers.{Hands};
 ghost use Rattle.judged_run.specs.Outcomes.{RunIn, tested, outcome};
 use intake::Answer;
 use reading::Refusal;
-use sheet::Sheet;
+use sheet::Outline;
 
-// Refusals 15 and 16 on the ticket's own sheet, then the run on the sheet of its new nest.
-pub fn run_judged(old: Sheet, new: Sheet, count: usize, store: &mut [u32]) -> Answer
-    requires { ⌜ RunIn old new count ⌝ }
-    ensures { λ r. ⌜ Hands (outcome (tested (nestOf old) (now (store .entry))) (nestOf old) (nestOf new) (now (store .entry))) r (now (store .exit)) ⌝ }
+// Refusals 15 and 16 by what was found on the ticket's own sheet before its steps were taken there: its first opaque statement, from 1, or 0, and
+// the number of its elements. Then the run on the sheet of its new nest.
+pub fn run_judged(
+    opaque: usize,
+    elements: usize,
+    outline: Outline,
+    limits: &[i16],
+    words: &[i16],
+    count: usize,
+    store: &mut [u32],
+) -> Answer
+    requires { ⌜ RunIn elements (sheetOf outline (now limits) (now words)) count ⌝ }
+    ensures { λ r. ⌜ Hands (outcome (tested opaque elements (now (store .entry))) count (nestOf (sheetOf outline (now (limits .entry)) (now (words .entry)))) (now (store .entry))) r (now (store .exit)) ⌝ }
 {
-    let opaque = execution::first_opaque(old);
-    let elements = sheet::elements_in(old);
     if 0 < opaque {
         return Answer::Refused(Refusal::OpaqueRule(opaque));
     }
     if store.len() != elements {
         return Answer::Refused(Refusal::WrongStoreLength);
     }
-    execution::execute(new, count, store);
+    execution::execute(outline, limits, words, count, store);
     Answer::Accepted(count)
 }

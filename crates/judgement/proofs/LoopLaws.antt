@@ -6,7 +6,7 @@ use Prim.Native.Nat.{ℕ, zero, suc, _+_, _*_, _≤_, _<_}
 use native.Mathlib.Omega.{arith}
 use native.Mathlib.Numerals.{add-one}
 use lib.IntN.{ℤ}
-use lib.ListN.{length, getD, take, drop}
+use lib.ListN.{length, getD, take, drop, length-append, take-append-drop}
 use Rattle.model.specs.Answer.{accepted}
 use Rattle.model.specs.Ticket as Model
 use Rattle.model.specs.Grammar.{depthAfter}
@@ -22,8 +22,8 @@ use Rattle.reading.specs.declared.Status.the-variants.{Fine, Refused}
 use Rattle.steps.specs.Steps.{stepOf, stepsOf, NumberedFrom, StepsIn}
 use Rattle.steps.specs.declared.Numbered.{Numbered}
 use Rattle.steps.specs.declared.Steps.{Steps}
-use Rattle.sheet.specs.declared.Sheet.{Sheet}
-use Rattle.sheet.specs.Sheets.{extentsIn, ownersIn, wordsIn, nestOf, SheetIn}
+use Rattle.sheet.specs.declared.Outline.{Outline}
+use Rattle.sheet.specs.Sheets.{Sheet, sheetOf, extentsIn, ownersIn, wordsIn, nestOf, SheetIn}
 use Rattle.sheet.proofs.StageLaws.{depth-is}
 use Rattle.directions.specs.Sets.{vectorsOf, After}
 use Rattle.directions.specs.declared.DirectionSet.{DirectionSet}
@@ -31,6 +31,10 @@ use Rattle.ticket.specs.Ticket.{ticketOn}
 use Rattle.judgement.specs.Judgement.{unless, judgedAs, StepJudged, JudgeIn, JudgesSteps}
 use Rattle.judgement.specs.declared.Judged.{Judged}
 use Rattle.judgement.proofs.StepLaws.{moved, judged-back, judged-step, sheet-goes-on, level-goes-on}
+
+-- a part that was lent came back as long as it was
+pub part-kept : (v w : List ℤ) (n : ℕ) → length v ≡ length (take n w) → length (v ++ drop n w) ≡ length w
+part-kept v w n e = length-append v (drop n w) ∙ ap (_+ length (drop n w)) e ∙ sym (length-append (take n w) (drop n w)) ∙ ap length (take-append-drop n w)
 
 -- ---- the step at a place
 
@@ -138,8 +142,8 @@ module _ (P : Sheet) (S : Steps) (s₀ : DirectionSet) (i : JudgeIn P S s₀) wh
   by-directions : judgeSteps 1 (stepsOf S) (vectorsOf s₀) (nestOf P) ≡ judgeSteps 1 (stepsOf S) (directionsOf (nestOf P)) (nestOf P)
   by-directions = judgeSteps-same 1 (stepsOf S) (nestOf P) (i .vectors)
 
-  pub steps-stop : (r : Judged) (y : Refusal) → r .status ≡ Refused y → judgedAs (r .status) (nestOf (r .sheet)) ≡ judgeSteps 1 (stepsOf S) (vectorsOf s₀) (nestOf P) → JudgesSteps P S r
-  steps-stop r y e h = record { same = h ∙ by-directions; sheet = λ f. not-fine (r .status) e f }
+  pub steps-stop : (r : Judged) (l w : List ℤ) (y : Refusal) → r .status ≡ Refused y → judgedAs (r .status) (nestOf (sheetOf (r .outline) l w)) ≡ judgeSteps 1 (stepsOf S) (vectorsOf s₀) (nestOf P) → JudgesSteps P S r l w
+  steps-stop r l w y e h = record { same = h ∙ by-directions; sheet = λ f. not-fine (r .status) e f }
 
-  pub steps-pass : (Q : Sheet) (s : DirectionSet) (k : ℕ) → SoFar S P s₀ Q s k → S .count ≤ k → JudgesSteps P S (record { status = Fine; sheet = Q })
-  steps-pass Q s k v h = record { same = sym (all-judged S P s₀ Q s k v h) ∙ by-directions; sheet = λ _. v .sheet }
+  pub steps-pass : (O : Outline) (l w : List ℤ) (s : DirectionSet) (k : ℕ) → SoFar S P s₀ (sheetOf O l w) s k → S .count ≤ k → JudgesSteps P S (record { status = Fine; outline = O }) l w
+  steps-pass O l w s k v h = record { same = sym (all-judged S P s₀ (sheetOf O l w) s k v h) ∙ by-directions; sheet = λ _. v .sheet }

@@ -21,7 +21,7 @@ use Rattle.model.proofs.Machine.InstanceLaws.{instances-mem}
 use Rattle.model.proofs.Points.PointLaws.{iterations-length}
 use Rattle.model.proofs.Promise.TradeLaws.{pair-lengths}
 use Rattle.reading.specs.declared.Status.the-variants.{Fine}
-use Rattle.sheet.specs.Sheets.{nestOf}
+use Rattle.sheet.specs.Sheets.{sheetOf, nestOf}
 use Rattle.sheet.proofs.StageLaws.{depth-is}
 use Rattle.intake.specs.declared.Intake.{Intake}
 use Rattle.intake.specs.Intake.{Receives}
@@ -74,9 +74,9 @@ marks-of d f (v ∷ vs) a =
 
 -- ---- a received ticket
 
-pub received-met : (b : List ℕ) (q : Intake) → Receives b q → q .status ≡ Fine → (s : DirectionSet) × JudgeIn (q .sheet) (q .steps) s
-received-met b q h e =
-    let P = q .sheet in
-    let l = h .laid e in
-    let m = marks-of (P .depth) (l .sheet .nest .shallow) (directionsOf (nestOf P)) (λ v i. directions-length (nestOf P) v i ∙ depth-is P) in
-    (record { marks = m .marks; depth = P .depth }, record { sheet = l .sheet; steps = l .steps; ranges = l .ranges; formed = l .formed; level = refl; vectors = m .stand })
+pub received-met : (b : List ℕ) (q : Intake) (l w : List ℤ) → Receives b q l w → q .status ≡ Fine → (s : DirectionSet) × JudgeIn (sheetOf (q .outline) l w) (q .steps) s
+received-met b q l w h e =
+    let P = sheetOf (q .outline) l w in
+    let g = h .laid e in
+    let m = marks-of (P .depth) (g .sheet .nest .shallow) (directionsOf (nestOf P)) (λ v i. directions-length (nestOf P) v i ∙ depth-is P) in
+    (record { marks = m .marks; depth = P .depth }, record { sheet = g .sheet; steps = g .steps; ranges = g .ranges; formed = g .formed; level = refl; vectors = m .stand })

@@ -25,8 +25,7 @@ use Rattle.reading.specs.declared.Status.{Status}
 use Rattle.reading.specs.declared.Status.the-variants.{Fine, Refused}
 use Rattle.bounds.specs.Flat.{loopsFrom}
 use Rattle.elements.specs.Layout.{accessesFrom}
-use Rattle.sheet.specs.declared.Sheet.{Sheet}
-use Rattle.sheet.specs.Sheets.{extentsIn, ownersIn, wordsIn, nestOf, SheetIn}
+use Rattle.sheet.specs.Sheets.{Sheet, extentsIn, ownersIn, wordsIn, nestOf, SheetIn}
 use Rattle.sheet.proofs.SheetLaws.{words-count, owners-count}
 use Rattle.steps.specs.Steps.{stepOf}
 use Rattle.steps.specs.declared.Step.{Step}

@@ -1,6 +1,8 @@
 -- The steps, then refusal 13 on the sheet of the new nest, are the model's `judgeTicket`.
 use mathlib.Core.Path.{_≡_, sym, _∙_, ap, subst}
+use mathlib.Core.List.{List}
 use Prim.Native.Nat.{ℕ}
+use lib.IntN.{ℤ}
 use Rattle.model.specs.Answer.{Answer, accepted, _>>=_, _>>_}
 use Rattle.model.specs.Ticket as Model
 use Rattle.model.specs.Ranges.{NestRanges}
@@ -22,8 +24,7 @@ use Rattle.space.specs.declared.Verdict.{Verdict}
 use Rattle.space.specs.declared.Verdict.the-variants.{Admitted, FarIndex, Crowded}
 use Rattle.steps.specs.Steps.{stepsOf}
 use Rattle.steps.specs.declared.Steps.{Steps}
-use Rattle.sheet.specs.declared.Sheet.{Sheet}
-use Rattle.sheet.specs.Sheets.{nestOf}
+use Rattle.sheet.specs.Sheets.{Sheet, sheetOf, nestOf}
 use Rattle.sheet.specs.Stages.{Surveyed}
 use Rattle.directions.specs.declared.DirectionSet.{DirectionSet}
 use Rattle.ticket.specs.Ticket.{ticketOn}
@@ -54,17 +55,17 @@ unfolding _>>_ _>>=_
 passed-with Fine m j e = ap (_>> accepted j) e
 passed-with (Refused r) m j e = ap (_>> accepted j) e
 
-module _ (P : Sheet) (S : Steps) (s : DirectionSet) (i : JudgeIn P S s) (r : Judged) (g : JudgesSteps P S r) where
+module _ (P : Sheet) (S : Steps) (s : DirectionSet) (i : JudgeIn P S s) (r : Judged) (l w : List ℤ) (g : JudgesSteps P S r l w) where
   abbrev new : Model.Nest
-  new = nestOf (r .sheet)
+  new = nestOf (sheetOf (r .outline) l w)
 
   abbrev verdict : Model.Nest → Answer Judge.Judged
   verdict N = sprawl (N .loops) >> accepted (record { ticket = ticketOn P S; new = N })
 
-  pub steps-refused : (x : Refusal) (q : Judged) → r .status ≡ Refused x → q .status ≡ Refused x → Judges P S q
+  pub steps-refused : (x : Refusal) (q : Judged) → r .status ≡ Refused x → q .status ≡ Refused x → Judges P S q l w
   unfolding judgeTicket ticketOn
   steps-refused x q e f = record {
-    same = ap (λ (z : Status). judgedAs z (record { ticket = ticketOn P S; new = nestOf (q .sheet) })) f ∙ sym (bind-stop verdict (sym (g .same) ∙ ap (λ (z : Status). judgedAs z new) e));
+    same = ap (λ (z : Status). judgedAs z (record { ticket = ticketOn P S; new = nestOf (sheetOf (q .outline) l w) })) f ∙ sym (bind-stop verdict (sym (g .same) ∙ ap (λ (z : Status). judgedAs z new) e));
     fine = λ h. not-fine (q .status) f h;
   }
 
@@ -83,7 +84,7 @@ module _ (P : Sheet) (S : Steps) (s : DirectionSet) (i : JudgeIn P S s) (r : Jud
     unfolding ticketOn
     formed = subst WellFormed (sym (made .0)) (new-formed (ticketOn P S) (i .ranges) (i .formed))
 
-    pub ticket-judged : (z : Status) → SurveyedNew (r .sheet) z → Judges P S (record { status = z; sheet = r .sheet })
+    pub ticket-judged : (z : Status) → SurveyedNew (sheetOf (r .outline) l w) z → Judges P S (record { status = z; outline = r .outline }) l w
     unfolding judgeTicket ticketOn
     ticket-judged z h = record {
       same = passed-with z (sprawl (new .loops)) (record { ticket = ticketOn P S; new = new }) h ∙ sym (bind-pass verdict steps-accepted);

@@ -19,8 +19,7 @@ use Rattle.steps.specs.declared.Step.{Step}
 use Rattle.steps.specs.declared.Steps.{Steps}
 use Rattle.directions.specs.Sets.{vectorsOf}
 use Rattle.directions.specs.declared.DirectionSet.{DirectionSet}
-use Rattle.sheet.specs.declared.Sheet.{Sheet}
-use Rattle.sheet.specs.Sheets.{nestOf, SheetIn}
+use Rattle.sheet.specs.Sheets.{Sheet, sheetOf, nestOf, SheetIn}
 use Rattle.restructure.specs.declared.Stepped.{Stepped}
 use Rattle.stepping.specs.Taking.{Takes}
 use Rattle.ticket.specs.Ticket.{ticketOn}
@@ -64,10 +63,10 @@ pub record JudgeIn (P : Sheet) (S : Steps) (s : DirectionSet) : Type 0 where
   pub level : s .depth ≡ P .depth
   pub vectors : SameMembers (vectorsOf s) (directionsOf (nestOf P))
 
--- 10 to 12 of all steps
-pub record JudgesSteps (P : Sheet) (S : Steps) (r : Judged) : Type 0 where
-  pub same : judgedAs (r .status) (nestOf (r .sheet)) ≡ judgeSteps 1 (stepsOf S) (directionsOf (nestOf P)) (nestOf P)
-  pub sheet : r .status ≡ Fine → SheetIn (r .sheet)
+-- 10 to 12 of all steps; the limits and words of P became l and w
+pub record JudgesSteps (P : Sheet) (S : Steps) (r : Judged) (l w : List ℤ) : Type 0 where
+  pub same : judgedAs (r .status) (nestOf (sheetOf (r .outline) l w)) ≡ judgeSteps 1 (stepsOf S) (directionsOf (nestOf P)) (nestOf P)
+  pub sheet : r .status ≡ Fine → SheetIn (sheetOf (r .outline) l w)
 
 -- 13
 abbrev pub SurveyedNew : Sheet → Status → Type 0
@@ -81,6 +80,6 @@ pub record New (P : Sheet) : Type 0 where
   pub sprawls : sprawl (nestOf P .loops) ≡ accepted tt
 
 -- 10 to 13
-pub record Judges (P : Sheet) (S : Steps) (r : Judged) : Type 0 where
-  pub same : judgedAs (r .status) (record { ticket = ticketOn P S; new = nestOf (r .sheet) }) ≡ judgeTicket (ticketOn P S)
-  pub fine : r .status ≡ Fine → New (r .sheet)
+pub record Judges (P : Sheet) (S : Steps) (r : Judged) (l w : List ℤ) : Type 0 where
+  pub same : judgedAs (r .status) (record { ticket = ticketOn P S; new = nestOf (sheetOf (r .outline) l w) }) ≡ judgeTicket (ticketOn P S)
+  pub fine : r .status ≡ Fine → New (sheetOf (r .outline) l w)

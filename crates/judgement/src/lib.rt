@@ -5,29 +5,29 @@ ghost use Prim.Native.Nat.{_≤_};
 ghost use Rattle.reading.specs.declared.Status.the-variants.{Refused};
 ghost use Rattle.steps.specs.Steps.{stepOf};
 ghost use Rattle.directions.specs.Sets.{After};
-ghost use Rattle.sheet.specs.Sheets.{SheetIn};
+ghost use Rattle.sheet.specs.Sheets.{sheetOf, SheetIn};
 ghost use Rattle.stepping.specs.Taking.{TakingIn};
 ghost use Rattle.judgement.specs.Judgement.{DirectionIn, stepStatus, StepJudged, SurveyedNew, JudgeIn, JudgesSteps, Judges};
 use directions::DirectionSet;
 use reading::Refusal;
 use reading::Status;
-use sheet::Sheet;
+use sheet::Outline;
 use space::Verdict;
 use steps::Step;
 use steps::Steps;
 
-// The new nest on its sheet where the status is Fine.
+// The new nest where the status is Fine; its limits and the words of its accesses stand where the old ones stood.
 pub struct Judged {
     pub status: Status,
-    pub sheet: Sheet,
+    pub outline: Outline,
 }
 
-fn refused(r: Refusal, sheet: Sheet) -> Judged
+fn refused(r: Refusal, outline: Outline) -> Judged
     ensures { λ q. ⌜ q .status ≡ Refused r ⌝ }
 {
     Judged {
         status: Status::Refused(r),
-        sheet: sheet,
+        outline: outline,
     }
 }
 
@@ -93,20 +93,24 @@ fn take(
 // ---- all steps
 
 // Refusal 10 is tested before a step is taken, since it needs the vectors alone.
-fn judge_steps(sheet: Sheet, steps: Steps, set: DirectionSet) -> Judged
-    requires { ⌜ JudgeIn sheet steps set ⌝ }
-    ensures { λ r. ⌜ JudgesSteps sheet steps r ⌝ }
+fn judge_steps(
+    outline: Outline,
+    limits: &mut [i16],
+    words: &mut [i16],
+    steps: Steps,
+    set: DirectionSet,
+) -> Judged
+    requires { ⌜ JudgeIn (sheetOf outline (now limits) (now words)) steps set ⌝ }
+    ensures { λ r. ⌜ JudgesSteps (sheetOf outline (now (limits .entry)) (now (words .entry))) steps r (now (limits .exit)) (now (words .exit)) ⌝ }
 {
     let count = steps.count;
     let all = steps.steps;
-    let owners = sheet.owners;
-    let extents = sheet.extents;
-    let accesses = sheet.accesses;
-    let arrays = sheet.arrays;
-    let mut limits = sheet.limits;
-    let mut counts = sheet.counts;
-    let mut words = sheet.words;
-    let mut depth = sheet.depth;
+    let owners = outline.owners;
+    let extents = outline.extents;
+    let accesses = outline.accesses;
+    let arrays = outline.arrays;
+    let mut counts = outline.counts;
+    let mut depth = outline.depth;
     let mut vectors = set;
     let mut k = 0;
     while k < count {
@@ -115,10 +119,10 @@ fn judge_steps(sheet: Sheet, steps: Steps, set: DirectionSet) -> Judged
         let step = numbered.step;
         let after = direction_after(vectors, step);
         if directions::points_back(after) {
-            return refused(Refusal::DependenceReversed(number), sheet);
+            return refused(Refusal::DependenceReversed(number), outline);
         }
         let status = take(
-            &mut limits,
+            limits,
             &mut counts,
             &mut words[..accesses * 24],
             &owners[..accesses],
@@ -129,30 +133,28 @@ fn judge_steps(sheet: Sheet, steps: Steps, set: DirectionSet) -> Judged
         );
         match status {
             Status::Fine => {}
-            Status::Refused(r) => return refused(r, sheet),
+            Status::Refused(r) => return refused(r, outline),
         }
         depth = steps::depth_after(step, depth);
         vectors = after;
         k += 1;
     }
-    let sizes = sheet.sizes;
-    let rules = sheet.rules;
-    let constants = sheet.constants;
+    let sizes = outline.sizes;
+    let rules = outline.rules;
+    let constants = outline.constants;
     Judged {
         status: Status::Fine,
-        sheet: Sheet {
+        outline: Outline {
             depth,
-            limits,
             counts,
             arrays,
             extents,
-            statements: sheet.statements,
+            statements: outline.statements,
             sizes,
             rules,
             constants,
             accesses,
             owners,
-            words,
         },
     }
 }
@@ -160,11 +162,11 @@ fn judge_steps(sheet: Sheet, steps: Steps, set: DirectionSet) -> Judged
 // ---- the new nest
 
 // Refusal 13.
-fn survey_new(sheet: Sheet) -> Status
-    requires { ⌜ SheetIn sheet ⌝ }
-    ensures { λ r. ⌜ SurveyedNew sheet r ⌝ }
+fn survey_new(outline: Outline, limits: &[i16], words: &[i16]) -> Status
+    requires { ⌜ SheetIn (sheetOf outline (now limits) (now words)) ⌝ }
+    ensures { λ r. ⌜ SurveyedNew (sheetOf outline (now (limits .entry)) (now (words .entry))) r ⌝ }
 {
-    match sheet::survey(sheet, 100000, 65536) {
+    match sheet::survey(outline, limits, words, 100000, 65536) {
         Verdict::Admitted(_) => Status::Fine,
         Verdict::FarIndex(k) => Status::Refused(Refusal::NewNestTooLarge(k)),
         Verdict::Crowded(k) => Status::Refused(Refusal::NewNestTooLarge(k)),
@@ -172,20 +174,26 @@ fn survey_new(sheet: Sheet) -> Status
 }
 
 // The set has the vectors of the nest's directions.
-pub fn judge_ticket(sheet: Sheet, steps: Steps, set: DirectionSet) -> Judged
-    requires { ⌜ JudgeIn sheet steps set ⌝ }
-    ensures { λ r. ⌜ Judges sheet steps r ⌝ }
+pub fn judge_ticket(
+    outline: Outline,
+    limits: &mut [i16],
+    words: &mut [i16],
+    steps: Steps,
+    set: DirectionSet,
+) -> Judged
+    requires { ⌜ JudgeIn (sheetOf outline (now limits) (now words)) steps set ⌝ }
+    ensures { λ r. ⌜ Judges (sheetOf outline (now (limits .entry)) (now (words .entry))) steps r (now (limits .exit)) (now (words .exit)) ⌝ }
 {
-    let stepped = judge_steps(sheet, steps, set);
-    let new = stepped.sheet;
+    let stepped = judge_steps(outline, limits, words, steps, set);
+    let new = stepped.outline;
     let status = stepped.status;
     match status {
         Status::Fine => {}
         Status::Refused(r) => return refused(r, new),
     }
-    let verdict = survey_new(new);
+    let verdict = survey_new(new, limits, words);
     Judged {
         status: verdict,
-        sheet: new,
+        outline: new,
     }
 }

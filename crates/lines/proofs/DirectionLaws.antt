@@ -32,8 +32,7 @@ use Rattle.directions.specs.declared.DirectionSet.{DirectionSet}
 use Rattle.preimages.proofs.NumberLaws.{number-below}
 use Rattle.directions.proofs.HornerLaws.{one-number}
 use Rattle.directions.proofs.SetLaws.{vectorsIn-mem, mem-vectorsIn}
-use Rattle.sheet.specs.declared.Sheet.{Sheet}
-use Rattle.sheet.specs.Sheets.{nestOf}
+use Rattle.sheet.specs.Sheets.{Sheet, nestOf}
 use Rattle.lines.specs.Lines.{LinesAre, Shows}
 
 -- ---- a row of marks

@@ -39,8 +39,7 @@ use Rattle.dependence.specs.Flat.{Flat, flat, statementOf, pointAt, Use, use·o
 use Rattle.dependence.proofs.UseLaws.{uses-of}
 use Rattle.listing_text.specs.Text.{marked, shown, text}
 use Rattle.listing_text.proofs.IndexLaws.{count-small}
-use Rattle.sheet.specs.declared.Sheet.{Sheet}
-use Rattle.sheet.specs.Sheets.{sizesIn, statementsFrom, nestOf, SheetIn}
+use Rattle.sheet.specs.Sheets.{Sheet, sizesIn, statementsFrom, nestOf, SheetIn}
 use Rattle.sheet.specs.Stages.{PointsAre, NumberIn, NumbersAre, noAccess, accessOf}
 use Rattle.sheet.proofs.SheetLaws.{access-count, sizes-count}
 use Rattle.sheet.proofs.StageLaws.{depth-is, access-valid}

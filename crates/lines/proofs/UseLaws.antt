@@ -18,8 +18,7 @@ use Rattle.model.specs.Store.{sum}
 use Rattle.elements.specs.Layout.{accessAt, accessesFrom}
 use Rattle.elements.proofs.LayoutLaws.{sum-drop}
 use Rattle.dependence.specs.Flat.{Use, use·of, usesFrom}
-use Rattle.sheet.specs.declared.Sheet.{Sheet}
-use Rattle.sheet.specs.Sheets.{sizesIn, wordsIn, ownersIn, extentsIn, statementsFrom, nestOf, SheetIn}
+use Rattle.sheet.specs.Sheets.{Sheet, sizesIn, wordsIn, ownersIn, extentsIn, statementsFrom, nestOf, SheetIn}
 use Rattle.sheet.proofs.SheetLaws.{sizes-count}
 use Rattle.lines.specs.Uses.{firstWritten, writtenIn, statementNumbers, EnterIn, UsesAre}
 

@@ -16,8 +16,7 @@ use Rattle.model.specs.Listing.{linesOf}
 use Rattle.listing_text.specs.Text.{shown, Marks}
 use Rattle.directions.specs.declared.DirectionSet.{DirectionSet}
 use Rattle.directions.specs.Sets.{vectorsOf}
-use Rattle.sheet.specs.declared.Sheet.{Sheet}
-use Rattle.sheet.specs.Sheets.{nestOf, SheetIn}
+use Rattle.sheet.specs.Sheets.{Sheet, nestOf, SheetIn}
 use Rattle.sheet.specs.Stages.{PointsAre, StrayIn}
 
 -- an admitted nest on its sheet, and its n points

@@ -5,8 +5,7 @@ use mathlib.Core.List.{List, [], _∷_, _++_, map}
 use Prim.Native.Nat.{ℕ, zero, suc, _+_, _≤_}
 use lib.ListN.{length, take, replicate}
 use Rattle.dependence.specs.Flat.{Use, uses}
-use Rattle.sheet.specs.declared.Sheet.{Sheet}
-use Rattle.sheet.specs.Sheets.{nestOf}
+use Rattle.sheet.specs.Sheets.{Sheet, nestOf}
 use Rattle.lines.specs.declared.Uses.{Uses}
 
 -- one statement's accesses: the first is written

@@ -4,11 +4,11 @@ ghost use Prim.Native.Nat.{_*_, _≤_};
 ghost use lib.ListN.{length, replicate};
 ghost use Rattle.lists.specs.Parts.{put};
 ghost use Rattle.listing_text.specs.Text.{Marks};
-ghost use Rattle.sheet.specs.Sheets.{SheetIn};
+ghost use Rattle.sheet.specs.Sheets.{sheetOf, SheetIn};
 ghost use Rattle.lines.specs.Uses.{firstWritten, EnterIn, UsesAre};
 ghost use Rattle.lines.specs.Lines.{Admitted, LinesIn, LinesAre, Shows, DirectionsAre};
 use directions::DirectionSet;
-use sheet::Sheet;
+use sheet::Outline;
 
 // Of each access its statement, counted from 0, and whether it is the one that is written.
 pub struct Uses {
@@ -30,16 +30,16 @@ fn enter(statements: &mut [usize], writes: &mut [bool], first: usize, size: usiz
 }
 
 // The first accesses of all are those of the first statement, and so on.
-fn uses_of(sheet: Sheet) -> Uses
-    requires { ⌜ SheetIn sheet ⌝ }
-    ensures { λ r. ⌜ UsesAre sheet r ⌝ }
+fn uses_of(outline: Outline, limits: &[i16], words: &[i16]) -> Uses
+    requires { ⌜ SheetIn (sheetOf outline (now limits) (now words)) ⌝ }
+    ensures { λ r. ⌜ UsesAre (sheetOf outline (now (limits .entry)) (now (words .entry))) r ⌝ }
 {
-    let sizes = sheet.sizes;
+    let sizes = outline.sizes;
     let mut statements = [0; 20];
     let mut writes = [false; 20];
     let mut first = 0;
     let mut s = 0;
-    while s < sheet.statements {
+    while s < outline.statements {
         let size = sizes[s];
         enter(&mut statements, &mut writes, first, size, s);
         first += size;
@@ -52,47 +52,62 @@ fn uses_of(sheet: Sheet) -> Uses
 }
 
 // Marks every line of the nest's listing, where the dependence search lays its mark. Lent is room for a number of each access at each point.
-fn mark_by(sheet: Sheet, points: &[i64], count: usize, numbers: &mut [u16], marks: &mut [bool])
-    requires { ⌜ LinesIn sheet (now points) count (now marks) × (sheet .accesses * count ≤ length (now numbers)) ⌝ }
-    ensures { λ _. ⌜ LinesAre sheet (now (marks .exit)) × (length (now (marks .exit)) ≡ length (now (marks .entry))) ⌝ }
+fn mark_by(
+    outline: Outline,
+    limits: &[i16],
+    words: &[i16],
+    points: &[i64],
+    count: usize,
+    numbers: &mut [u16],
+    marks: &mut [bool],
+)
+    requires { ⌜ LinesIn (sheetOf outline (now limits) (now words)) (now points) count (now marks) × (outline .accesses * count ≤ length (now numbers)) ⌝ }
+    ensures { λ _. ⌜ LinesAre (sheetOf outline (now (limits .entry)) (now (words .entry))) (now (marks .exit)) × (length (now (marks .exit)) ≡ length (now (marks .entry))) ⌝ }
 {
-    sheet::number_accesses(sheet, points, count, numbers);
-    let uses = uses_of(sheet);
+    sheet::number_accesses(outline, limits, words, points, count, numbers);
+    let uses = uses_of(outline, limits, words);
     let statements = uses.statements;
     let writes = uses.writes;
-    let accesses = sheet.accesses;
-    let elements = sheet::elements_in(sheet);
+    let accesses = outline.accesses;
+    let elements = sheet::elements_in(outline, limits, words);
     dependence::dependences(
         points,
-        sheet.depth,
+        outline.depth,
         count,
         numbers,
         elements,
         &statements[..accesses],
         &writes[..accesses],
-        sheet.statements,
+        outline.statements,
         marks,
     );
 }
 
 // Few accesses at few points have fewer numbers to clear.
-pub fn mark_lines(sheet: Sheet, points: &[i64], count: usize, marks: &mut [bool])
-    requires { ⌜ LinesIn sheet (now points) count (now marks) ⌝ }
-    ensures { λ _. ⌜ LinesAre sheet (now (marks .exit)) × (length (now (marks .exit)) ≡ length (now (marks .entry))) ⌝ }
+pub fn mark_lines(
+    outline: Outline,
+    limits: &[i16],
+    words: &[i16],
+    points: &[i64],
+    count: usize,
+    marks: &mut [bool],
+)
+    requires { ⌜ LinesIn (sheetOf outline (now limits) (now words)) (now points) count (now marks) ⌝ }
+    ensures { λ _. ⌜ LinesAre (sheetOf outline (now (limits .entry)) (now (words .entry))) (now (marks .exit)) × (length (now (marks .exit)) ≡ length (now (marks .entry))) ⌝ }
 {
-    let needed = sheet.accesses * count;
+    let needed = outline.accesses * count;
     if needed <= 1024 {
         let mut few = [0u16; 1024];
-        mark_by(sheet, points, count, &mut few, marks);
+        mark_by(outline, limits, words, points, count, &mut few, marks);
         return;
     }
     if needed <= 16384 {
         let mut more = [0u16; 16384];
-        mark_by(sheet, points, count, &mut more, marks);
+        mark_by(outline, limits, words, points, count, &mut more, marks);
         return;
     }
     let mut numbers = [0u16; 81920];
-    mark_by(sheet, points, count, &mut numbers, marks);
+    mark_by(outline, limits, words, points, count, &mut numbers, marks);
 }
 
 // The vectors of the lines that are marked: a row of 729 marks for each source, sink and kind.
@@ -110,27 +125,40 @@ pub fn directions_of(marks: &[bool], n: usize, depth: usize) -> DirectionSet
     set
 }
 
-fn directions_by(sheet: Sheet, points: &[i64], count: usize, marks: &mut [bool]) -> DirectionSet
-    requires { ⌜ LinesIn sheet (now points) count (now marks) ⌝ }
-    ensures { λ r. ⌜ DirectionsAre sheet r ⌝ }
+fn directions_by(
+    outline: Outline,
+    limits: &[i16],
+    words: &[i16],
+    points: &[i64],
+    count: usize,
+    marks: &mut [bool],
+) -> DirectionSet
+    requires { ⌜ LinesIn (sheetOf outline (now limits) (now words)) (now points) count (now marks) ⌝ }
+    ensures { λ r. ⌜ DirectionsAre (sheetOf outline (now (limits .entry)) (now (words .entry))) r ⌝ }
 {
-    mark_lines(sheet, points, count, marks);
-    directions_of(marks, sheet.statements, sheet.depth)
+    mark_lines(outline, limits, words, points, count, marks);
+    directions_of(marks, outline.statements, outline.depth)
 }
 
 // The directions of an admitted nest. Few statements have fewer marks to clear.
-pub fn directions_in(sheet: Sheet, points: &[i64], count: usize) -> DirectionSet
-    requires { ⌜ Admitted sheet (now points) count ⌝ }
-    ensures { λ r. ⌜ DirectionsAre sheet r ⌝ }
+pub fn directions_in(
+    outline: Outline,
+    limits: &[i16],
+    words: &[i16],
+    points: &[i64],
+    count: usize,
+) -> DirectionSet
+    requires { ⌜ Admitted (sheetOf outline (now limits) (now words)) (now points) count ⌝ }
+    ensures { λ r. ⌜ DirectionsAre (sheetOf outline (now (limits .entry)) (now (words .entry))) r ⌝ }
 {
-    if sheet.statements <= 1 {
+    if outline.statements <= 1 {
         let mut few = [false; 2187];
-        return directions_by(sheet, points, count, &mut few);
+        return directions_by(outline, limits, words, points, count, &mut few);
     }
-    if sheet.statements <= 2 {
+    if outline.statements <= 2 {
         let mut more = [false; 8748];
-        return directions_by(sheet, points, count, &mut more);
+        return directions_by(outline, limits, words, points, count, &mut more);
     }
     let mut marks = [false; 34992];
-    directions_by(sheet, points, count, &mut marks)
+    directions_by(outline, limits, words, points, count, &mut marks)
 }

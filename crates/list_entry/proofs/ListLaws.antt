@@ -21,8 +21,7 @@ use Rattle.reading.specs.declared.Refusal.the-variants.{BufferTooShort}
 use Rattle.reading.specs.declared.Status.{Status}
 use Rattle.reading.specs.declared.Status.the-variants as Status
 use Rattle.ticket.specs.Ticket.{ticketOn, decoded}
-use Rattle.sheet.specs.declared.Sheet.{Sheet}
-use Rattle.sheet.specs.Sheets.{nestOf}
+use Rattle.sheet.specs.Sheets.{Sheet, sheetOf, nestOf}
 use Rattle.sheet.specs.Stages.{PointsAre}
 use Rattle.listing_text.specs.Text.{text, Written}
 use Rattle.lines.specs.Lines.{Admitted, LinesAre}
@@ -81,19 +80,19 @@ module _ (P : Sheet) (points : List ℤ) (n : ℕ) (h : PointsAre P points n) wh
 
 -- ---- the entry
 
-module _ (b : List ℕ) (o e : List ℤ) (q : Intake) (h : Admits b o e q) where
+module _ (b : List ℕ) (o e : List ℤ) (q : Intake) (l w : List ℤ) (h : Admits b o e q l w) where
   abbrev listed : Model.Answer Ticket → Model.Answer (List ℕ)
   listed m = m >>= (λ T. accepted (listing (T .nest)))
 
-  by-status : (s : Status) → q .status ≡ s → listed (decoded s (ticketOn (q .sheet) (q .steps))) ≡ listed (admit b)
-  by-status s z = ap (λ (x : Status). listed (decoded x (ticketOn (q .sheet) (q .steps)))) (sym z) ∙ ap listed (h .same)
+  by-status : (s : Status) → q .status ≡ s → listed (decoded s (ticketOn (sheetOf (q .outline) l w) (q .steps))) ≡ listed (admit b)
+  by-status s z = ap (λ (x : Status). listed (decoded x (ticketOn (sheetOf (q .outline) l w) (q .steps)))) (sym z) ∙ ap listed (h .same)
 
   pub not-admitted : (r : Refusal) → q .status ≡ Status.Refused r → (m : List ℕ) → Hands (list b m) (Refused r) m
   unfolding list _>>=_
   not-admitted r z m = refused-before (listed (admit b)) m r (by-status (Status.Refused r) z)
 
   module _ (z : q .status ≡ Status.Fine) where
-    pub admitted-in : Admitted (q .sheet) e (q .count)
+    pub admitted-in : Admitted (sheetOf (q .outline) l w) e (q .count)
     admitted-in = let t = h .taken z in record {
       sheet = t .sheet;
       points-are = t .points-are;
@@ -101,7 +100,7 @@ module _ (b : List ℕ) (o e : List ℤ) (q : Intake) (h : Admits b o e q) where
       admitted-is = t .admitted-is;
     }
 
-    pub handed : (m m′ : List ℕ) (a : Answer) → Hands (handOut (accepted (listing (nestOf (q .sheet)))) m) a m′ → Hands (list b m) a m′
+    pub handed : (m m′ : List ℕ) (a : Answer) → Hands (handOut (accepted (listing (nestOf (sheetOf (q .outline) l w)))) m) a m′ → Hands (list b m) a m′
     unfolding list _>>=_ ticketOn
     handed m m′ a = subst (λ (x : Model.Answer (List ℕ)). Hands (handOut x m) a m′) (by-status Status.Fine z)
 

@@ -3,7 +3,7 @@ ghost use lib.ListN.{length};
 ghost use Rattle.model.specs.Answer.{accepted};
 ghost use Rattle.model.specs.Entries as Entries;
 ghost use Rattle.model.specs.Listing.{listing};
-ghost use Rattle.sheet.specs.Sheets.{nestOf};
+ghost use Rattle.sheet.specs.Sheets.{sheetOf, nestOf};
 ghost use Rattle.intake.specs.Intake.{Waits};
 ghost use Rattle.intake.specs.Answers.{Hands};
 ghost use Rattle.lines.specs.Lines.{Admitted, LinesIn};
@@ -11,21 +11,23 @@ use intake::Answer;
 use intake::Intake;
 use reading::Refusal;
 use reading::Status;
-use sheet::Sheet;
+use sheet::Outline;
 
 // Writes the listing of an admitted nest; lent are its marks, all clear. Its text is never empty, so that no bytes written means a short buffer.
 fn write_by(
-    sheet: Sheet,
+    outline: Outline,
+    limits: &[i16],
+    words: &[i16],
     points: &[i64],
     count: usize,
     marks: &mut [bool],
     out: &mut [u8],
 ) -> Answer
-    requires { ⌜ LinesIn sheet (now points) count (now marks) ⌝ }
-    ensures { λ r. ⌜ Hands (Entries.handOut (accepted (listing (nestOf sheet))) (now (out .entry))) r (now (out .exit)) ⌝ }
+    requires { ⌜ LinesIn (sheetOf outline (now limits) (now words)) (now points) count (now marks) ⌝ }
+    ensures { λ r. ⌜ Hands (Entries.handOut (accepted (listing (nestOf (sheetOf outline (now (limits .entry)) (now (words .entry)))))) (now (out .entry))) r (now (out .exit)) ⌝ }
 {
-    lines::mark_lines(sheet, points, count, marks);
-    let n = listing_text::list(marks, sheet.statements, sheet.depth, count, out);
+    lines::mark_lines(outline, limits, words, points, count, marks);
+    let n = listing_text::list(marks, outline.statements, outline.depth, count, out);
     if n == 0 {
         return Answer::Refused(Refusal::BufferTooShort);
     }
@@ -33,38 +35,54 @@ fn write_by(
 }
 
 // Few statements have fewer marks to clear.
-fn write_listing(sheet: Sheet, points: &[i64], count: usize, out: &mut [u8]) -> Answer
-    requires { ⌜ Admitted sheet (now points) count ⌝ }
-    ensures { λ r. ⌜ Hands (Entries.handOut (accepted (listing (nestOf sheet))) (now (out .entry))) r (now (out .exit)) ⌝ }
+fn write_listing(
+    outline: Outline,
+    limits: &[i16],
+    words: &[i16],
+    points: &[i64],
+    count: usize,
+    out: &mut [u8],
+) -> Answer
+    requires { ⌜ Admitted (sheetOf outline (now limits) (now words)) (now points) count ⌝ }
+    ensures { λ r. ⌜ Hands (Entries.handOut (accepted (listing (nestOf (sheetOf outline (now (limits .entry)) (now (words .entry)))))) (now (out .entry))) r (now (out .exit)) ⌝ }
 {
-    if sheet.statements <= 2 {
+    if outline.statements <= 2 {
         let mut few = [false; 8748];
-        return write_by(sheet, points, count, &mut few, out);
+        return write_by(outline, limits, words, points, count, &mut few, out);
     }
     let mut marks = [false; 34992];
-    write_by(sheet, points, count, &mut marks, out)
+    write_by(outline, limits, words, points, count, &mut marks, out)
 }
 
 // Refusal 9 of what was received of the ticket, then the listing.
-fn list_by(ticket: &[u8], all: Intake, points: &mut [i64], out: &mut [u8]) -> Answer
-    requires { ⌜ Waits (now ticket) all (length (now points)) ⌝ }
+fn list_by(
+    ticket: &[u8],
+    all: Intake,
+    limits: &[i16],
+    words: &[i16],
+    points: &mut [i64],
+    out: &mut [u8],
+) -> Answer
+    requires { ⌜ Waits (now ticket) all (now limits) (now words) (length (now points)) ⌝ }
     ensures { λ r. ⌜ Hands (Entries.list (now (ticket .entry)) (now (out .entry))) r (now (out .exit)) ⌝ }
 {
-    let status = intake::admit(ticket, all, points);
+    let status = intake::admit(ticket, all, limits, words, points);
     match status {
         Status::Fine => {}
         Status::Refused(r) => return Answer::Refused(r),
     }
-    let sheet = all.sheet;
+    let outline = all.outline;
     let count = all.count;
-    write_listing(sheet, points, count, out)
+    write_listing(outline, limits, words, points, count, out)
 }
 
 // Judges 1 to 9, then 14. Few points have fewer indices to clear. The lines are exactly the dependences of the nest, each once (model, ListingLaws: linesOf-exact, linesOf-ordered).
 pub fn list(ticket: &[u8], out: &mut [u8]) -> Answer
     ensures { λ r. ⌜ Hands (Entries.list (now (ticket .entry)) (now (out .entry))) r (now (out .exit)) ⌝ }
 {
-    let all = intake::receive(ticket);
+    let mut limits = [0i16; 1536];
+    let mut words = [0i16; 480];
+    let all = intake::receive(ticket, &mut limits, &mut words);
     let status = all.status;
     match status {
         Status::Fine => {}
@@ -72,8 +90,8 @@ pub fn list(ticket: &[u8], out: &mut [u8]) -> Answer
     }
     if all.count <= 256 {
         let mut few = [0i64; 1024];
-        return list_by(ticket, all, &mut few, out);
+        return list_by(ticket, all, &limits, &words, &mut few, out);
     }
     let mut points = [0i64; 16384];
-    list_by(ticket, all, &mut points, out)
+    list_by(ticket, all, &limits, &words, &mut points, out)
 }

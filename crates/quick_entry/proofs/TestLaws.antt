@@ -17,8 +17,7 @@ use Rattle.reading.specs.declared.Status.{Status}
 use Rattle.reading.specs.declared.Status.the-variants as Status
 use Rattle.reading.specs.Refusals.{refusal}
 use Rattle.ticket.specs.Ticket.{ticketOn, decoded}
-use Rattle.sheet.specs.declared.Sheet.{Sheet}
-use Rattle.sheet.specs.Sheets.{nestOf, SheetIn}
+use Rattle.sheet.specs.Sheets.{Sheet, sheetOf, nestOf, SheetIn}
 use Rattle.sheet.specs.Stages.{noAccess, accessOf, TestIn}
 use Rattle.sheet.proofs.SheetLaws.{access-count}
 use Rattle.intake.specs.declared.Intake.{Intake}
@@ -107,18 +106,18 @@ module _ (P : Sheet) (h : SheetIn P) (u : ℕ) (s : Bool) (e : s ≡ (leb 1 u &&
 
 -- ---- the entry
 
-module _ (b : List ℕ) (o e : List ℤ) (q : Intake) (h : Admits b o e q) (u v : ℕ) where
-  whole : (decoded (q .status) (ticketOn (q .sheet) (q .steps)) >>= (λ T. tested (T .nest) u v)) ≡ quick b u v
+module _ (b : List ℕ) (o e : List ℤ) (q : Intake) (l w : List ℤ) (h : Admits b o e q l w) (u v : ℕ) where
+  whole : (decoded (q .status) (ticketOn (sheetOf (q .outline) l w) (q .steps)) >>= (λ T. tested (T .nest) u v)) ≡ quick b u v
   unfolding quick tested
   whole = ap (_>>= (λ T. tested (T .nest) u v)) (h .same)
 
   pub not-admitted : (r : Refusal) → q .status ≡ Status.Refused r → refusal r ≡ quick b u v
   unfolding _>>=_
-  not-admitted r s = sym (ap (λ (x : Status). decoded x (ticketOn (q .sheet) (q .steps)) >>= (λ T. tested (T .nest) u v)) s) ∙ whole
+  not-admitted r s = sym (ap (λ (x : Status). decoded x (ticketOn (sheetOf (q .outline) l w) (q .steps)) >>= (λ T. tested (T .nest) u v)) s) ∙ whole
 
-  pub sheet-in : q .status ≡ Status.Fine → SheetIn (q .sheet)
+  pub sheet-in : q .status ≡ Status.Fine → SheetIn (sheetOf (q .outline) l w)
   sheet-in s = h .taken s .sheet
 
-  pub answered : q .status ≡ Status.Fine → (a : Tested) → answerOf a ≡ tested (nestOf (q .sheet)) u v → answerOf a ≡ quick b u v
+  pub answered : q .status ≡ Status.Fine → (a : Tested) → answerOf a ≡ tested (nestOf (sheetOf (q .outline) l w)) u v → answerOf a ≡ quick b u v
   unfolding _>>=_ ticketOn
-  answered s a g = g ∙ sym (ap (λ (x : Status). decoded x (ticketOn (q .sheet) (q .steps)) >>= (λ T. tested (T .nest) u v)) s) ∙ whole
+  answered s a g = g ∙ sym (ap (λ (x : Status). decoded x (ticketOn (sheetOf (q .outline) l w) (q .steps)) >>= (λ T. tested (T .nest) u v)) s) ∙ whole

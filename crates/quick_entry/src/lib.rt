@@ -4,13 +4,13 @@ ghost use mathlib.Core.Bool.{_&&_};
 ghost use lib.Dec.{leb};
 ghost use lib.ListN.{length};
 ghost use Rattle.model.specs.Entries as Entries;
-ghost use Rattle.sheet.specs.Sheets.{nestOf, SheetIn};
+ghost use Rattle.sheet.specs.Sheets.{sheetOf, nestOf, SheetIn};
 ghost use Rattle.intake.specs.Intake.{Waits};
 ghost use Rattle.quick_entry.specs.Answers.{answerOf, tested};
 use intake::Intake;
 use reading::Refusal;
 use reading::Status;
-use sheet::Sheet;
+use sheet::Outline;
 
 pub enum Tested {
     Apart,
@@ -28,42 +28,52 @@ fn is_access(n: usize, accesses: usize) -> bool
 }
 
 // The access numbers, from 1, then the test.
-fn test(sheet: Sheet, first: usize, second: usize) -> Tested
-    requires { ⌜ SheetIn sheet ⌝ }
-    ensures { λ r. ⌜ answerOf r ≡ tested (nestOf sheet) first second ⌝ }
+fn test(outline: Outline, limits: &[i16], words: &[i16], first: usize, second: usize) -> Tested
+    requires { ⌜ SheetIn (sheetOf outline (now limits) (now words)) ⌝ }
+    ensures { λ r. ⌜ answerOf r ≡ tested (nestOf (sheetOf outline (now (limits .entry)) (now (words .entry)))) first second ⌝ }
 {
-    let accesses = sheet.accesses;
+    let accesses = outline.accesses;
     if !is_access(first, accesses) {
         return Tested::Refused(Refusal::WordOutOfRange(0));
     }
     if !is_access(second, accesses) {
         return Tested::Refused(Refusal::WordOutOfRange(0));
     }
-    if sheet::is_apart(sheet, first - 1, second - 1) {
+    if sheet::is_apart(outline, limits, words, first - 1, second - 1) {
         return Tested::Apart;
     }
     Tested::Perhaps
 }
 
 // Refusal 9 of what was received of the ticket, then the test.
-fn quick_by(ticket: &[u8], all: Intake, points: &mut [i64], first: usize, second: usize) -> Tested
-    requires { ⌜ Waits (now ticket) all (length (now points)) ⌝ }
+fn quick_by(
+    ticket: &[u8],
+    all: Intake,
+    limits: &[i16],
+    words: &[i16],
+    points: &mut [i64],
+    first: usize,
+    second: usize,
+) -> Tested
+    requires { ⌜ Waits (now ticket) all (now limits) (now words) (length (now points)) ⌝ }
     ensures { λ r. ⌜ answerOf r ≡ Entries.quick (now (ticket .entry)) first second ⌝ }
 {
-    let status = intake::admit(ticket, all, points);
+    let status = intake::admit(ticket, all, limits, words, points);
     match status {
         Status::Fine => {}
         Status::Refused(r) => return Tested::Refused(r),
     }
-    let sheet = all.sheet;
-    test(sheet, first, second)
+    let outline = all.outline;
+    test(outline, limits, words, first, second)
 }
 
 // Judges 1 to 9, then the two access numbers, from 1. Few points have fewer indices to clear. 'Apart' means that the two accesses never meet (model, Demands: apart-never-meet).
 pub fn quick(ticket: &[u8], first: usize, second: usize) -> Tested
     ensures { λ r. ⌜ answerOf r ≡ Entries.quick (now (ticket .entry)) first second ⌝ }
 {
-    let all = intake::receive(ticket);
+    let mut limits = [0i16; 1536];
+    let mut words = [0i16; 480];
+    let all = intake::receive(ticket, &mut limits, &mut words);
     let status = all.status;
     match status {
         Status::Fine => {}
@@ -71,8 +81,8 @@ pub fn quick(ticket: &[u8], first: usize, second: usize) -> Tested
     }
     if all.count <= 256 {
         let mut few = [0i64; 1024];
-        return quick_by(ticket, all, &mut few, first, second);
+        return quick_by(ticket, all, &limits, &words, &mut few, first, second);
     }
     let mut points = [0i64; 16384];
-    quick_by(ticket, all, &mut points, first, second)
+    quick_by(ticket, all, &limits, &words, &mut points, first, second)
 }

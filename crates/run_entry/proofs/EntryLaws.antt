@@ -9,6 +9,8 @@ use Rattle.model.specs.Answer as Model
 use Rattle.model.specs.Answer.{accepted, refused, require, _>>_, _>>=_}
 use Rattle.model.specs.Ticket.{Nest}
 use Rattle.model.specs.Grammar.{total}
+use Rattle.model.specs.Points.{iterations}
+use Rattle.model.specs.Store.{runNest}
 use Rattle.model.specs.Judge as Judge
 use Rattle.model.specs.Judge.{admit, judged, judgeTicket}
 use Rattle.model.specs.Entries.{Outcome, transparent, runnable, ran, runEntry}
@@ -19,7 +21,7 @@ use Rattle.reading.specs.declared.Status.{Status}
 use Rattle.reading.specs.declared.Status.the-variants as Status
 use Rattle.reading.specs.Refusals.{refusal}
 use Rattle.ticket.specs.Ticket.{ticketOn, decoded}
-use Rattle.sheet.specs.Sheets.{nestOf}
+use Rattle.sheet.specs.Sheets.{Sheet, sheetOf, nestOf}
 use Rattle.intake.specs.declared.Intake.{Intake}
 use Rattle.intake.specs.declared.Answer.{Answer}
 use Rattle.intake.specs.declared.Answer.the-variants.{Refused}
@@ -27,7 +29,7 @@ use Rattle.intake.specs.Intake.{Admits}
 use Rattle.intake.specs.Answers.{Hands}
 use Rattle.judgement.specs.declared.Judged.{Judged}
 use Rattle.judgement.specs.Judgement.{judgedAs, Judges}
-use Rattle.execution.specs.Execution.{Executable}
+use Rattle.execution.specs.Execution.{opaqueAt, Executable}
 use Rattle.execution.proofs.AcceptedLaws.{new-count, new-arrays, new-executable}
 use Rattle.judged_run.specs.Outcomes.{tested, outcome, RunIn}
 
@@ -41,51 +43,58 @@ module _ (b w : List ℕ) where
   unfolding runEntry runnable ran
   judgement-refused r e = subst (λ (a : Model.Answer Judge.Judged). Hands (ran a w) (Refused r) w) (sym (bind-stop checked e)) (record { answer = refl; memory = refl })
 
-  judgement-passes : (j : Judge.Judged) → judged b ≡ accepted j → runEntry b w ≡ outcome (tested (j .ticket .nest) w) (j .ticket .nest) (j .new) w
+  -- by what was found on the ticket's own nest
+  judgement-passes : (j : Judge.Judged) → judged b ≡ accepted j → (k t c : ℕ) → opaqueAt k ≡ transparent 1 (j .ticket .nest .statements) → t ≡ total (j .ticket .nest .arrays) → c ≡ length (iterations (j .ticket .nest .loops))
+      → runEntry b w ≡ outcome (tested k t w) c (j .new) w
   unfolding runEntry runnable tested ran outcome _>>_ _>>=_
-  judgement-passes j e = ap (λ (a : Model.Answer Judge.Judged). ran a w) (bind-pass checked e) ∙ go (tested (j .ticket .nest) w)
+  judgement-passes j e k t c f g i =
+      ap (λ (a : Model.Answer Judge.Judged). ran a w) (bind-pass checked e)
+      ∙ ap₂ (λ (a : Model.Answer (Unit {0})) (n : ℕ). ran ((a >> require (eqb (length w) n) 16 0) >> accepted j) w) (sym f) (sym g)
+      ∙ go (tested k t w)
     where
-      go : (a : Model.Answer (Unit {0})) → ran (a >> accepted j) w ≡ outcome a (j .ticket .nest) (j .new) w
-      go (accepted u) = refl
+      go : (a : Model.Answer (Unit {0})) → ran (a >> accepted j) w ≡ outcome a c (j .new) w
+      go (accepted u) = ap (λ (n : ℕ). record { answer = accepted n; memory = runNest (j .new) w }) (sym i)
       go (refused n p) = refl
 
 -- ---- the entry
 
-module _ (b w : List ℕ) (o e : List ℤ) (q : Intake) (h : Admits b o e q) where
-  admit-is : (s : Status) → q .status ≡ s → admit b ≡ decoded s (ticketOn (q .sheet) (q .steps))
-  admit-is s z = sym (h .same) ∙ ap (λ (x : Status). decoded x (ticketOn (q .sheet) (q .steps))) z
+module _ (b w : List ℕ) (o e : List ℤ) (q : Intake) (l m : List ℤ) (h : Admits b o e q l m) where
+  -- the ticket's own sheet
+  abbrev own : Sheet
+  own = sheetOf (q .outline) l m
+
+  admit-is : (s : Status) → q .status ≡ s → admit b ≡ decoded s (ticketOn own (q .steps))
+  admit-is s z = sym (h .same) ∙ ap (λ (x : Status). decoded x (ticketOn own (q .steps))) z
 
   pub not-admitted : (r : Refusal) → q .status ≡ Status.Refused r → Hands (runEntry b w) (Refused r) w
   not-admitted r z = judgement-refused b w r (refused-judged b (admit-is (Status.Refused r) z))
 
-  module _ (z : q .status ≡ Status.Fine) (r : Judged) (g : Judges (q .sheet) (q .steps) r) where
+  module _ (z : q .status ≡ Status.Fine) (r : Judged) (l′ m′ : List ℤ) (g : Judges own (q .steps) r l′ m′) where
     abbrev new : Nest
-    new = nestOf (r .sheet)
+    new = nestOf (sheetOf (r .outline) l′ m′)
 
     abbrev whole : Judge.Judged
-    whole = record { ticket = ticketOn (q .sheet) (q .steps); new = new }
+    whole = record { ticket = ticketOn own (q .steps); new = new }
 
-    judge-is : (s : Status) → r .status ≡ s → judgeTicket (ticketOn (q .sheet) (q .steps)) ≡ judgedAs s whole
+    judge-is : (s : Status) → r .status ≡ s → judgeTicket (ticketOn own (q .steps)) ≡ judgedAs s whole
     judge-is s y = sym (g .same) ∙ ap (λ (x : Status). judgedAs x whole) y
 
-    judged-is : judged b ≡ judgeTicket (ticketOn (q .sheet) (q .steps))
+    judged-is : judged b ≡ judgeTicket (ticketOn own (q .steps))
     judged-is = admitted-judged b (admit-is Status.Fine z)
 
     pub not-judged : (x : Refusal) → r .status ≡ Status.Refused x → Hands (runEntry b w) (Refused x) w
     not-judged x y = judgement-refused b w x (judged-is ∙ judge-is (Status.Refused x) y)
 
     module _ (y : r .status ≡ Status.Fine) where
-      pub run-in : RunIn (q .sheet) (r .sheet) (q .count)
+      pub run-in : (t : ℕ) → t ≡ total (nestOf own .arrays) → RunIn t (sheetOf (r .outline) l′ m′) (q .count)
       unfolding ticketOn
-      run-in = let t = h .taken z in let n = g .fine y in record {
-        own = t .sheet;
-        other = n .sheet;
-        executable = new-executable (ticketOn (q .sheet) (q .steps)) (t .ranges) (t .formed) (t .admitted-is) whole (judge-is Status.Fine y);
-        arrays = new-arrays (ticketOn (q .sheet) (q .steps)) (t .ranges) (t .formed) (t .admitted-is) whole (judge-is Status.Fine y);
-        as-many = new-count (ticketOn (q .sheet) (q .steps)) (t .ranges) (t .formed) (t .admitted-is) whole (judge-is Status.Fine y);
-        counted = t .points-are .count;
+      run-in n f = let t = h .taken z in record {
+        sheet = g .fine y .sheet;
+        executable = new-executable (ticketOn own (q .steps)) (t .ranges) (t .formed) (t .admitted-is) whole (judge-is Status.Fine y);
+        all-elements = f ∙ sym (ap total (new-arrays (ticketOn own (q .steps)) (t .ranges) (t .formed) (t .admitted-is) whole (judge-is Status.Fine y)));
+        counted = t .points-are .count ∙ sym (new-count (ticketOn own (q .steps)) (t .ranges) (t .formed) (t .admitted-is) whole (judge-is Status.Fine y));
       }
 
-      pub handed : (a : Answer) (m : List ℕ) → Hands (outcome (tested (nestOf (q .sheet)) w) (nestOf (q .sheet)) (nestOf (r .sheet)) w) a m → Hands (runEntry b w) a m
+      pub handed : (k t : ℕ) → opaqueAt k ≡ transparent 1 (nestOf own .statements) → t ≡ total (nestOf own .arrays) → (a : Answer) (v : List ℕ) → Hands (outcome (tested k t w) (q .count) new w) a v → Hands (runEntry b w) a v
       unfolding ticketOn
-      handed a m = subst (λ (x : Outcome). Hands x a m) (sym (judgement-passes b w whole (judged-is ∙ judge-is Status.Fine y)))
+      handed k t f i a v = subst (λ (x : Outcome). Hands x a v) (sym (judgement-passes b w whole (judged-is ∙ judge-is Status.Fine y) k t (q .count) f i (h .taken z .points-are .count)))

@@ -3,7 +3,7 @@ use mathlib.Core.List.{List}
 use Prim.Native.Nat.{ℕ}
 use lib.IntN.{ℤ}
 use Rattle.directions.specs.declared.DirectionSet.{DirectionSet}
-use Rattle.sheet.specs.declared.Sheet.{Sheet}
+use Rattle.sheet.specs.Sheets.{Sheet}
 use Rattle.steps.specs.declared.Steps.{Steps}
 use Rattle.lines.specs.Lines.{Admitted, DirectionsAre}
 use Rattle.intake.specs.Intake.{Taken}

@@ -8,8 +8,7 @@ use Rattle.model.specs.Grammar.{total}
 use Rattle.elements.specs.Layout.{arraysOf}
 use Rattle.elements.specs.Places.{TotalIn}
 use Rattle.elements.proofs.LayoutLaws.{array-in}
-use Rattle.sheet.specs.declared.Sheet.{Sheet}
-use Rattle.sheet.specs.Sheets.{extentsIn, nestOf, SheetIn}
+use Rattle.sheet.specs.Sheets.{Sheet, extentsIn, nestOf, SheetIn}
 use Rattle.sheet.specs.Sheets as Sheets
 use Rattle.sheet.proofs.SheetLaws.{extents-count}
 

@@ -17,8 +17,7 @@ use Rattle.model.specs.Store.{sum}
 use Rattle.model.specs.Entries.{allAccesses}
 use Rattle.model.specs.Shape.{Fits, WellFormed}
 use Rattle.elements.specs.Layout.{accessAt, accessesFrom, bodiesFrom}
-use Rattle.sheet.specs.declared.Sheet.{Sheet}
-use Rattle.sheet.specs.Sheets.{extentsIn, sizesIn, ownersIn, wordsIn, statementsFrom, nestOf, SheetIn}
+use Rattle.sheet.specs.Sheets.{Sheet, extentsIn, sizesIn, ownersIn, wordsIn, statementsFrom, nestOf, SheetIn}
 use Rattle.sheet.specs.Stages.{noAccess, accessOf}
 
 -- ---- statements and their accesses

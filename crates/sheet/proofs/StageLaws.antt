@@ -32,8 +32,7 @@ use Rattle.elements.specs.Places.{placeAt, placesOf, numbered}
 use Rattle.elements.proofs.AdmittedLaws.{listed-rows, admitted-inside}
 use Rattle.elements.proofs.NumberLaws.{same-out, stored-place}
 use Rattle.quick.specs.Differences as Quick
-use Rattle.sheet.specs.declared.Sheet.{Sheet}
-use Rattle.sheet.specs.Sheets.{extentsIn, sizesIn, ownersIn, wordsIn, nestOf, SheetIn}
+use Rattle.sheet.specs.Sheets.{Sheet, extentsIn, sizesIn, ownersIn, wordsIn, nestOf, SheetIn}
 use Rattle.sheet.specs.Stages.{Surveyed, ListIn, PointsAre, StrayIn, Searched, NumberIn, NumbersAre, accessOf, TestIn}
 use Rattle.sheet.proofs.SheetLaws.{bodies-are, access-is, access-fits, owners-count, sizes-count}
 

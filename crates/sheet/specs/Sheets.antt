@@ -11,7 +11,38 @@ use Rattle.model.specs.Grammar.{total}
 use Rattle.model.specs.Store.{sum}
 use Rattle.bounds.specs.Flat.{loopsFrom, NestOk}
 use Rattle.elements.specs.Layout.{arraysOf, accessAt, accessesFrom, AccessesOk}
-use Rattle.sheet.specs.declared.Sheet.{Sheet}
+use Rattle.sheet.specs.declared.Outline.{Outline}
+
+-- an outline with the two large slices that are lent beside it
+pub record Sheet : Type 0 where
+  pub depth : ℕ
+  pub limits : List ℤ
+  pub counts : List ℕ
+  pub arrays : ℕ
+  pub extents : List ℕ
+  pub statements : ℕ
+  pub sizes : List ℕ
+  pub rules : List ℕ
+  pub constants : List ℕ
+  pub accesses : ℕ
+  pub owners : List ℕ
+  pub words : List ℤ
+
+abbrev pub sheetOf : Outline → List ℤ → List ℤ → Sheet
+sheetOf O s w = record {
+  depth = O .depth;
+  limits = s;
+  counts = O .counts;
+  arrays = O .arrays;
+  extents = O .extents;
+  statements = O .statements;
+  sizes = O .sizes;
+  rules = O .rules;
+  constants = O .constants;
+  accesses = O .accesses;
+  owners = O .owners;
+  words = w;
+}
 
 -- ---- the parts of its arrays that are in use
 

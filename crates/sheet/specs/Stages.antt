@@ -20,8 +20,7 @@ use Rattle.space.specs.declared.Verdict.{Verdict}
 use Rattle.space.specs.declared.Verdict.the-variants.{Admitted}
 use Rattle.elements.specs.Search as Elements
 use Rattle.elements.specs.Search.{RowsIn}
-use Rattle.sheet.specs.declared.Sheet.{Sheet}
-use Rattle.sheet.specs.Sheets.{nestOf, SheetIn}
+use Rattle.sheet.specs.Sheets.{Sheet, nestOf, SheetIn}
 
 -- 7 and 8, or 13 and 13, with these bounds
 pub record Surveyed (P : Sheet) (bound most : ℕ) (r : Verdict) : Type 0 where

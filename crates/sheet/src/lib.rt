@@ -5,14 +5,14 @@ ghost use lib.ListN.{length};
 ghost use Rattle.model.specs.Grammar.{total};
 ghost use Rattle.model.specs.Quick.{isApart};
 ghost use Rattle.space.specs.Tallies.{Bounded};
-ghost use Rattle.sheet.specs.Sheets.{nestOf, SheetIn};
+ghost use Rattle.sheet.specs.Sheets.{sheetOf, nestOf, SheetIn};
 ghost use Rattle.sheet.specs.Stages.{Surveyed, ListIn, PointsAre, StrayIn, Searched, NumberIn, NumbersAre, accessOf, TestIn};
 use space::Verdict;
 
-// Slices as `space` and `elements` are lent them. The first `arrays` arrays, `statements` statements and `accesses` accesses are in use.
-pub struct Sheet {
+// A sheet without its two large slices, 1536 words of limits and 480 of accesses, which are lent beside it: the slices as `space` and `elements`
+// are lent them. The first `arrays` arrays, `statements` statements and `accesses` accesses are in use.
+pub struct Outline {
     pub depth: usize,
-    pub limits: [i16; 1536],
     pub counts: [usize; 12],
     pub arrays: usize,
     pub extents: [usize; 16],
@@ -22,47 +22,51 @@ pub struct Sheet {
     pub constants: [usize; 4],
     pub accesses: usize,
     pub owners: [usize; 20],
-    pub words: [i16; 480],
 }
 
+// A function that reads one of the two slices, or neither, is lent both: its contract speaks of the whole sheet.
+
 // Depth by depth, a partial point whose last index is beyond ±bound, then more than `most` of them.
-pub fn survey(sheet: Sheet, bound: usize, most: usize) -> Verdict
-    requires { ⌜ SheetIn sheet × Bounded bound most ⌝ }
-    ensures { λ r. ⌜ Surveyed sheet bound most r ⌝ }
+pub fn survey(outline: Outline, limits: &[i16], words: &[i16], bound: usize, most: usize) -> Verdict
+    requires { ⌜ SheetIn (sheetOf outline (now limits) (now words)) × Bounded bound most ⌝ }
+    ensures { λ r. ⌜ Surveyed (sheetOf outline (now (limits .entry)) (now (words .entry))) bound most r ⌝ }
 {
-    let limits = sheet.limits;
-    let counts = sheet.counts;
-    let depth = sheet.depth;
-    space::survey(&limits, &counts, depth, bound, most)
+    let counts = outline.counts;
+    let depth = outline.depth;
+    space::survey(limits, &counts, depth, bound, most)
 }
 
 // All points, row by row in order; returns how many.
-pub fn list_points(sheet: Sheet, points: &mut [i64]) -> usize
-    requires { ⌜ ListIn sheet (length (now points)) ⌝ }
-    ensures { λ r. ⌜ PointsAre sheet (now (points .exit)) r × (length (now (points .exit)) ≡ length (now (points .entry))) ⌝ }
+pub fn list_points(outline: Outline, limits: &[i16], words: &[i16], points: &mut [i64]) -> usize
+    requires { ⌜ ListIn (sheetOf outline (now limits) (now words)) (length (now points)) ⌝ }
+    ensures { λ r. ⌜ PointsAre (sheetOf outline (now (limits .entry)) (now (words .entry))) (now (points .exit)) r × (length (now (points .exit)) ≡ length (now (points .entry))) ⌝ }
 {
-    let limits = sheet.limits;
-    let counts = sheet.counts;
-    let depth = sheet.depth;
-    space::list_points(&limits, &counts, depth, points)
+    let counts = outline.counts;
+    let depth = outline.depth;
+    space::list_points(limits, &counts, depth, points)
 }
 
 // The number of the first statement that has a subscript which leaves its extent at some point, or 0.
-pub fn find_stray(sheet: Sheet, points: &[i64], count: usize) -> usize
-    requires { ⌜ StrayIn sheet (now points) count ⌝ }
-    ensures { λ r. ⌜ Searched sheet r ⌝ }
+pub fn find_stray(
+    outline: Outline,
+    limits: &[i16],
+    words: &[i16],
+    points: &[i64],
+    count: usize,
+) -> usize
+    requires { ⌜ StrayIn (sheetOf outline (now limits) (now words)) (now points) count ⌝ }
+    ensures { λ r. ⌜ Searched (sheetOf outline (now (limits .entry)) (now (words .entry))) r ⌝ }
 {
-    let words = sheet.words;
-    let owners = sheet.owners;
-    let extents = sheet.extents;
-    let sizes = sheet.sizes;
-    let depth = sheet.depth;
-    let accesses = sheet.accesses;
+    let owners = outline.owners;
+    let extents = outline.extents;
+    let sizes = outline.sizes;
+    let depth = outline.depth;
+    let accesses = outline.accesses;
     elements::find_stray(
         &words[..accesses * 24],
         &owners[..accesses],
-        &extents[..sheet.arrays * 4],
-        &sizes[..sheet.statements],
+        &extents[..outline.arrays * 4],
+        &sizes[..outline.statements],
         points,
         depth,
         count,
@@ -70,29 +74,35 @@ pub fn find_stray(sheet: Sheet, points: &[i64], count: usize) -> usize
 }
 
 // The number of elements of all arrays.
-pub fn elements_in(sheet: Sheet) -> usize
-    requires { ⌜ SheetIn sheet ⌝ }
-    ensures { λ r. ⌜ r ≡ total (nestOf sheet .arrays) ⌝ }
+pub fn elements_in(outline: Outline, limits: &[i16], words: &[i16]) -> usize
+    requires { ⌜ SheetIn (sheetOf outline (now limits) (now words)) ⌝ }
+    ensures { λ r. ⌜ r ≡ total (nestOf (sheetOf outline (now (limits .entry)) (now (words .entry))) .arrays) ⌝ }
 {
-    let extents = sheet.extents;
-    let arrays = sheet.arrays;
+    let extents = outline.extents;
+    let arrays = outline.arrays;
     elements::total_of(&extents[..arrays * 4], arrays)
 }
 
 // The place in the store of every access at every point, those of one access after those of another.
-pub fn number_accesses(sheet: Sheet, points: &[i64], count: usize, numbers: &mut [u16])
-    requires { ⌜ NumberIn sheet (now points) count (length (now numbers)) ⌝ }
-    ensures { λ _. ⌜ NumbersAre sheet count (now (numbers .exit)) ⌝ }
+pub fn number_accesses(
+    outline: Outline,
+    limits: &[i16],
+    words: &[i16],
+    points: &[i64],
+    count: usize,
+    numbers: &mut [u16],
+)
+    requires { ⌜ NumberIn (sheetOf outline (now limits) (now words)) (now points) count (length (now numbers)) ⌝ }
+    ensures { λ _. ⌜ NumbersAre (sheetOf outline (now (limits .entry)) (now (words .entry))) count (now (numbers .exit)) ⌝ }
 {
-    let words = sheet.words;
-    let owners = sheet.owners;
-    let extents = sheet.extents;
-    let depth = sheet.depth;
-    let accesses = sheet.accesses;
+    let owners = outline.owners;
+    let extents = outline.extents;
+    let depth = outline.depth;
+    let accesses = outline.accesses;
     elements::number_accesses(
         &words[..accesses * 24],
         &owners[..accesses],
-        &extents[..sheet.arrays * 4],
+        &extents[..outline.arrays * 4],
         points,
         depth,
         count,
@@ -101,24 +111,28 @@ pub fn number_accesses(sheet: Sheet, points: &[i64], count: usize, numbers: &mut
 }
 
 // Whether two accesses, counted from 0, never meet by the quick test.
-pub fn is_apart(sheet: Sheet, first: usize, second: usize) -> bool
-    requires { ⌜ TestIn sheet first second ⌝ }
-    ensures { λ r. ⌜ r ≡ isApart (nestOf sheet .loops) (accessOf (nestOf sheet) first) (accessOf (nestOf sheet) second) ⌝ }
+pub fn is_apart(
+    outline: Outline,
+    limits: &[i16],
+    words: &[i16],
+    first: usize,
+    second: usize,
+) -> bool
+    requires { ⌜ TestIn (sheetOf outline (now limits) (now words)) first second ⌝ }
+    ensures { λ r. ⌜ r ≡ isApart (nestOf (sheetOf outline (now (limits .entry)) (now (words .entry))) .loops) (accessOf (nestOf (sheetOf outline (now (limits .entry)) (now (words .entry)))) first) (accessOf (nestOf (sheetOf outline (now (limits .entry)) (now (words .entry)))) second) ⌝ }
 {
-    let limits = sheet.limits;
-    let counts = sheet.counts;
-    let words = sheet.words;
-    let owners = sheet.owners;
-    let extents = sheet.extents;
-    let depth = sheet.depth;
-    let accesses = sheet.accesses;
+    let counts = outline.counts;
+    let owners = outline.owners;
+    let extents = outline.extents;
+    let depth = outline.depth;
+    let accesses = outline.accesses;
     quick::is_apart(
-        &limits,
+        limits,
         &counts,
         depth,
         &words[..accesses * 24],
         &owners[..accesses],
-        &extents[..sheet.arrays * 4],
+        &extents[..outline.arrays * 4],
         first,
         second,
     )

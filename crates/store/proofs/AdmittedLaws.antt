@@ -17,8 +17,7 @@ use Rattle.elements.specs.Layout.{accessesFrom, bodiesFrom}
 use Rattle.elements.specs.Places.{NumberIn, placeAt, placesOf, numbered}
 use Rattle.elements.proofs.NumberLaws.{same-out, stored-place}
 use Rattle.elements.proofs.AdmittedLaws.{admitted-inside}
-use Rattle.sheet.specs.declared.Sheet.{Sheet}
-use Rattle.sheet.specs.Sheets.{nestOf, statementsFrom, extentsIn, sizesIn, ownersIn, wordsIn, SheetIn}
+use Rattle.sheet.specs.Sheets.{Sheet, nestOf, statementsFrom, extentsIn, sizesIn, ownersIn, wordsIn, SheetIn}
 use Rattle.store.specs.Runs.{pointsOf, accessOf, RunIn}
 use Rattle.store.proofs.NestLaws.{owners-length}
 

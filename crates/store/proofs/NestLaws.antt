@@ -24,8 +24,7 @@ use Rattle.elements.specs.Places.{BaseIn}
 use Rattle.elements.proofs.LayoutLaws.{array-in, extents-are, forms-length}
 use Rattle.elements.proofs.LayoutLaws.{extents-length as dimensions-are}
 use Rattle.elements.proofs.ElementLaws.{arrays-length}
-use Rattle.sheet.specs.declared.Sheet.{Sheet}
-use Rattle.sheet.specs.Sheets.{nestOf, statementsFrom, extentsIn, sizesIn, ownersIn, wordsIn, SheetIn}
+use Rattle.sheet.specs.Sheets.{Sheet, nestOf, statementsFrom, extentsIn, sizesIn, ownersIn, wordsIn, SheetIn}
 use Rattle.store.specs.Flat.{numberAt, fetched, performed, bodyFrom, pointsFrom, PointIn, BodyIn}
 use Rattle.store.specs.Runs.{pointsOf, accessOf, RunIn}
 

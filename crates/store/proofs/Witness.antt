@@ -19,8 +19,7 @@ use Rattle.bounds.specs.Flat.{limitAt, limitsAt, loopAt, loopsFrom}
 use Rattle.space.proofs.DepthLaws.{nest-part}
 use Rattle.space.proofs.Witness.{ones-ok}
 use Rattle.elements.specs.Layout.{extentsAt, arraysFrom, arraysOf, formAt, formsFrom, accessAt, AccessesOk}
-use Rattle.sheet.specs.declared.Sheet.{Sheet}
-use Rattle.sheet.specs.Sheets.{nestOf, extentsIn, ownersIn, wordsIn, SheetIn}
+use Rattle.sheet.specs.Sheets.{Sheet, nestOf, extentsIn, ownersIn, wordsIn, SheetIn}
 use Rattle.store.specs.Runs.{pointsOf, accessOf, RunIn}
 
 abbrev pub counter : Sheet

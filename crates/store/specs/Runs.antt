@@ -13,8 +13,7 @@ use Rattle.model.specs.Bounds.{strays}
 use Rattle.model.specs.Machine.{element}
 use Rattle.model.specs.Store.{placeOf}
 use Rattle.elements.specs.Layout.{accessAt}
-use Rattle.sheet.specs.declared.Sheet.{Sheet}
-use Rattle.sheet.specs.Sheets.{nestOf, extentsIn, ownersIn, wordsIn, SheetIn}
+use Rattle.sheet.specs.Sheets.{Sheet, nestOf, extentsIn, ownersIn, wordsIn, SheetIn}
 use Rattle.store.specs.Flat.{numberAt}
 
 -- its iterations, and access k of all

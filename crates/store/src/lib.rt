@@ -4,10 +4,10 @@ ghost use mathlib.Core.Path.{_≡_};
 ghost use Prim.Native.Nat.{ℕ, _+_, _*_, _%_, _^_, _≤_, _<_};
 ghost use lib.ListN.{length, getD, set};
 ghost use Rattle.model.specs.Store.{sum, most, firstOf, make, runNest};
-ghost use Rattle.sheet.specs.Sheets.{nestOf};
+ghost use Rattle.sheet.specs.Sheets.{sheetOf, nestOf};
 ghost use Rattle.store.specs.Flat.{numberAt, fetched, performed, bodyFrom, pointsFrom, FetchIn, PointIn, BodyIn};
 ghost use Rattle.store.specs.Runs.{RunIn};
-use sheet::Sheet;
+use sheet::Outline;
 
 // The place in the store of access k at point x.
 fn place_of(numbers: &[u16], count: usize, k: usize, x: usize) -> usize
@@ -202,19 +202,26 @@ fn run_points(
     }
 }
 
-// Runs the nest of a sheet.
-pub fn run(sheet: Sheet, count: usize, numbers: &[u16], store: &mut [u32])
-    requires { ⌜ RunIn sheet count (now numbers) (length (now store)) ⌝ }
-    ensures { λ _. ⌜ now (store .exit) ≡ runNest (nestOf sheet) (now (store .entry)) ⌝ }
+// Runs the nest of a outline. Its limits and words are lent for the contract alone.
+pub fn run(
+    outline: Outline,
+    limits: &[i16],
+    words: &[i16],
+    count: usize,
+    numbers: &[u16],
+    store: &mut [u32],
+)
+    requires { ⌜ RunIn (sheetOf outline (now limits) (now words)) count (now numbers) (length (now store)) ⌝ }
+    ensures { λ _. ⌜ now (store .exit) ≡ runNest (nestOf (sheetOf outline (now (limits .entry)) (now (words .entry)))) (now (store .entry)) ⌝ }
 {
-    let arrays = sheet.arrays * 4;
-    let extents = sheet.extents;
-    let statements = sheet.statements;
-    let sizes = sheet.sizes;
-    let rules = sheet.rules;
-    let constants = sheet.constants;
-    let accesses = sheet.accesses;
-    let owners = sheet.owners;
+    let arrays = outline.arrays * 4;
+    let extents = outline.extents;
+    let statements = outline.statements;
+    let sizes = outline.sizes;
+    let rules = outline.rules;
+    let constants = outline.constants;
+    let accesses = outline.accesses;
+    let owners = outline.owners;
     run_points(
         &owners[..accesses],
         &extents[..arrays],

@@ -22,8 +22,7 @@ use Rattle.model.specs.Limits.{loopsAfter, accessAfter, statementAfter, nestAft
 use Rattle.model.specs.Judge.{smallLoop, smallAccess, smallNumbers}
 use Rattle.bounds.specs.Flat.{loopsFrom, NestOk}
 use Rattle.elements.specs.Layout.{arraysOf, accessAt, accessesFrom, AccessesOk}
-use Rattle.sheet.specs.Sheets.{extentsIn, sizesIn, ownersIn, wordsIn, statementsFrom, nestOf, SheetIn}
-use Rattle.sheet.specs.declared.Sheet.{Sheet}
+use Rattle.sheet.specs.Sheets.{Sheet, extentsIn, sizesIn, ownersIn, wordsIn, statementsFrom, nestOf, SheetIn}
 use Rattle.sheet.specs.Stages.{noAccess}
 use Rattle.sheet.proofs.SheetLaws.{access-at, all-accesses, owners-count}
 use Rattle.steps.specs.Steps.{stepOf}

@@ -4,8 +4,7 @@ use mathlib.Core.List.{map}
 use Rattle.model.specs.Ticket as Model
 use Rattle.model.specs.Limits.{accessAfter}
 use Rattle.elements.specs.Layout.{accessesFrom}
-use Rattle.sheet.specs.Sheets.{extentsIn, ownersIn, wordsIn}
-use Rattle.sheet.specs.declared.Sheet.{Sheet}
+use Rattle.sheet.specs.Sheets.{Sheet, extentsIn, ownersIn, wordsIn}
 
 -- Q has the arrays and statements of P, and names the same arrays
 pub record Relaid (P Q : Sheet) : Type 0 where

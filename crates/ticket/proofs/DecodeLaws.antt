@@ -4,7 +4,7 @@ use mathlib.Core.List.{List}
 use Prim.Native.Nat.{ℕ, zero, _-_, _*_, _≤_, _<_}
 use native.Mathlib.Omega.{arith}
 use borrow.Author.Tests.{lt-ltb, le-ltb}
-use lib.IntN.{pos}
+use lib.IntN.{ℤ, pos}
 use lib.ListN.{length, take, replicate, length-replicate}
 use Rattle.model.specs.Answer.{accepted}
 use Rattle.model.specs.Ticket as Model
@@ -30,16 +30,25 @@ use Rattle.body.specs.declared.BodyRead.{BodyRead}
 use Rattle.reading.proofs.ReaderLaws.{first-fine}
 use Rattle.steps.specs.Steps.{stepsOf, ReadsSteps}
 use Rattle.steps.specs.declared.StepsRead.{StepsRead}
-use Rattle.sheet.specs.Sheets.{nestOf, SheetIn}
-use Rattle.sheet.specs.declared.Sheet.{Sheet}
-use Rattle.ticket.specs.Ticket.{ticketOn, sections, endOf, decoded, Decodes}
-use Rattle.ticket.proofs.SheetLaws.{noWords, noOwners, noExtents, loops-count, nestOn, sheet-stands, sheet-in}
+use Rattle.sheet.specs.Sheets.{Sheet, sheetOf, nestOf, SheetIn}
+use Rattle.sheet.specs.declared.Outline.{Outline}
+use Rattle.ticket.specs.Ticket.{ticketOn, sections, endOf, decoded, Lent, Decodes}
+use Rattle.ticket.proofs.SheetLaws.{noOwners, noExtents, loops-count, nestOn, sheet-stands, sheet-in}
 use Rattle.ticket.proofs.SectionLaws.{joined, ended}
 
 -- ---- what the readers ask
 
-pub zeros-room : Nest.Room (replicate 1536 (pos 0)) (replicate 12 0)
-zeros-room = record { words = length-replicate 1536 (pos 0); counts = length-replicate 12 zero; small = small-within (replicate 1536 (pos 0)) (all-replicate Small 1536 (pos 0) (omega arith)) }
+-- zeros can be lent
+pub zeros-lent : Lent (replicate 1536 (pos 0)) (replicate 480 (pos 0))
+zeros-lent = record {
+  limits-length = length-replicate 1536 (pos 0);
+  limits-small = small-within (replicate 1536 (pos 0)) (all-replicate Small 1536 (pos 0) (omega arith));
+  words-length = length-replicate 480 (pos 0);
+  words-small = all-replicate Small 480 (pos 0) (omega arith);
+}
+
+pub lent-room : (l w : List ℤ) → Lent l w → Nest.Room l (replicate 12 0)
+lent-room l w h = record { words = h .limits-length; counts = length-replicate 12 zero; small = h .limits-small }
 
 module _ (b : List ℕ) (at : ℕ) (e : List ℕ) (A : ArraysRead) (r : ReadsArrays b at noExtents e A) where
   blank-length : length noExtents ≡ 16
@@ -74,12 +83,15 @@ accepted-there s t b e h = sym h ∙ ap (λ x. decoded x t) e
 
 -- ---- the ticket
 
-module _ (b : List ℕ) (P : Sheet) (N : NestRead) (A : ArraysRead) (B : BodyRead) (S : StepsRead)
-    (n : ReadsNest b 1 (P .limits) (P .counts) N) (a : ReadsArrays b (N .next) noExtents (P .extents) A)
-    (c : ReadsBody b (A .next) (N .depth) (take (A .count * 4) (P .extents)) noWords (P .words) noOwners (P .owners) (P .sizes) (P .rules) (P .constants) B)
+module _ (b : List ℕ) (l w : List ℤ) (lent : Lent l w) (O : Outline) (l′ w′ : List ℤ) (N : NestRead) (A : ArraysRead) (B : BodyRead) (S : StepsRead)
+    (n : ReadsNest b 1 l′ (O .counts) N) (a : ReadsArrays b (N .next) noExtents (O .extents) A)
+    (c : ReadsBody b (A .next) (N .depth) (take (A .count * 4) (O .extents)) w w′ noOwners (O .owners) (O .sizes) (O .rules) (O .constants) B)
     (s : ReadsSteps b (B .next) (N .depth) S)
-    (depth-is : P .depth ≡ N .depth) (arrays-is : P .arrays ≡ A .count) (statements-is : P .statements ≡ B .count) (accesses-is : P .accesses ≡ B .accesses)
+    (depth-is : O .depth ≡ N .depth) (arrays-is : O .arrays ≡ A .count) (statements-is : O .statements ≡ B .count) (accesses-is : O .accesses ≡ B .accesses)
     (x y z u : Status) (e : x ≡ firstOf (B .status) (S .status)) (f : y ≡ firstOf (A .status) x) (g : z ≡ firstOf (N .status) y) (h : u ≡ endOf z (S .next) (length b)) where
+  abbrev P : Sheet
+  P = sheetOf O l′ w′
+
   abbrev loops : List Model.Loop
   loops = loopsFrom (P .limits) (P .counts) 0 (P .depth)
 
@@ -121,7 +133,7 @@ module _ (b : List ℕ) (P : Sheet) (N : NestRead) (A : ArraysRead) (B : BodyRea
     nest-ok = subst (λ (d : ℕ). NestOk (P .limits) (P .counts) d) (sym depth-is) (n .ok (nest-fine .0))
 
     nest-same : nestOf P ≡ nestOn P (a .arrays) (c .statements)
-    nest-same = sheet-stands P (a .arrays) (c .statements) B nest-ok (a .count ∙ sym arrays-is) few-arrays (a .laid) (c .laid body-fine) statements-is accesses-is few-accesses
+    nest-same = sheet-stands P w (lent .words-length) (lent .words-small) (a .arrays) (c .statements) B nest-ok (a .count ∙ sym arrays-is) few-arrays (a .laid) (c .laid body-fine) statements-is accesses-is few-accesses
         (decode-ranges b decoded-there .nest) (decode-formed b decoded-there)
 
     ticket-same : ticketOn P (S .steps) ≡ T
@@ -129,13 +141,13 @@ module _ (b : List ℕ) (P : Sheet) (N : NestRead) (A : ArraysRead) (B : BodyRea
     ticket-same = ap (λ (m : Model.Nest). record { nest = m; steps = stepsOf (S .steps) }) nest-same
 
     sheet-fine : length (P .sizes) ≡ 4 → length (P .rules) ≡ 4 → length (P .constants) ≡ 4 → length (P .owners) ≡ 20 → SheetIn P
-    sheet-fine = sheet-in P (a .arrays) (c .statements) B nest-ok (a .count ∙ sym arrays-is) few-arrays (a .laid) (c .laid body-fine) statements-is accesses-is few-accesses
+    sheet-fine = sheet-in P w (lent .words-length) (lent .words-small) (a .arrays) (c .statements) B nest-ok (a .count ∙ sym arrays-is) few-arrays (a .laid) (c .laid body-fine) statements-is accesses-is few-accesses
         (decode-ranges b decoded-there .nest) (decode-formed b decoded-there)
 
-  pub decodes : length (P .sizes) ≡ 4 → length (P .rules) ≡ 4 → length (P .constants) ≡ 4 → length (P .owners) ≡ 20 → Decodes b (record { status = u; steps = S .steps; sheet = P })
-  decodes i j k l = record {
+  pub decodes : length (P .sizes) ≡ 4 → length (P .rules) ≡ 4 → length (P .constants) ≡ 4 → length (P .owners) ≡ 20 → Decodes b (record { status = u; steps = S .steps; outline = O }) l′ w′
+  decodes i j k o = record {
     same = same-answer u (ticketOn P (S .steps)) T ticket-same ∙ ticket-read;
-    sheet = λ v. sheet-fine v i j k l;
+    sheet = λ v. sheet-fine v i j k o;
     shallow = λ v. let d = n .shallow in omega arith;
     steps = s .within;
   }

@@ -4,7 +4,7 @@ use mathlib.Core.List.{List, [], map}
 use Prim.Native.Nat.{ℕ, zero, suc, _+_, _*_, _/_, _≤_, _<_}
 use native.Mathlib.Omega.{arith}
 use native.Mathlib.Nat.{zero-add}
-use lib.IntN.{ℤ, pos}
+use lib.IntN.{ℤ}
 use lib.ListN.{length, getD, take, replicate, length-map, length-append, length-replicate, List·getD-map}
 use lib.Seq.{length-take-le}
 use Rattle.lists.specs.Membership.{All}
@@ -20,8 +20,7 @@ use Rattle.model.specs.Shape.{Fits, WellFormed}
 use Rattle.model.specs.Store.{sum}
 use Rattle.bounds.specs.Flat.{loopsFrom, NestOk}
 use Rattle.elements.specs.Layout.{arraysOf, accessAt, AccessesOk}
-use Rattle.sheet.specs.Sheets.{extentsIn, ownersIn, wordsIn, sizesIn, nestOf, statementsFrom, SheetIn}
-use Rattle.sheet.specs.declared.Sheet.{Sheet}
+use Rattle.sheet.specs.Sheets.{Sheet, extentsIn, ownersIn, wordsIn, sizesIn, nestOf, statementsFrom, SheetIn}
 use Rattle.nest.proofs.LimitLaws.{small-within}
 use Rattle.arrays.specs.Laid.{layRows, shapeWords}
 use Rattle.arrays.proofs.RowLaws.{all-replicate, part-take}
@@ -32,10 +31,7 @@ use Rattle.body.specs.declared.BodyRead.{BodyRead}
 use Rattle.body.proofs.AccessBack.{Wide, wordsAt, access-back, accesses-length, accesses-at, accesses-small}
 use Rattle.ticket.proofs.StatementBack.{no-access, sum-sizes, statements-back}
 
--- zeros, as the slices are before they are laid over
-abbrev pub noWords : List ℤ
-noWords = replicate 480 (pos 0)
-
+-- zeros, as the small slices are before they are laid over
 abbrev pub noOwners : List ℕ
 noOwners = replicate 20 0
 
@@ -51,8 +47,8 @@ loops-count s c k (suc n) = ap suc (loops-count s c (suc k) n)
 abbrev pub nestOn : Sheet → List (List ℕ) → List Statement → Nest
 nestOn P as′ ss = record { loops = loopsFrom (P .limits) (P .counts) 0 (P .depth); arrays = as′; statements = ss }
 
-module _ (P : Sheet) (as′ : List (List ℕ)) (ss : List Statement) (t : BodyRead) (nest : NestOk (P .limits) (P .counts) (P .depth)) (array-count : length as′ ≡ P .arrays) (few-arrays : P .arrays ≤ 4)
-    (e : P .extents ≡ layRows 4 noExtents 0 (map shapeWords as′)) (b : BodyLaid ss noWords (P .words) noOwners (P .owners) (P .sizes) (P .rules) (P .constants) t)
+module _ (P : Sheet) (w : List ℤ) (room : length w ≡ 480) (small : All Small w) (as′ : List (List ℕ)) (ss : List Statement) (t : BodyRead) (nest : NestOk (P .limits) (P .counts) (P .depth)) (array-count : length as′ ≡ P .arrays) (few-arrays : P .arrays ≤ 4)
+    (e : P .extents ≡ layRows 4 noExtents 0 (map shapeWords as′)) (b : BodyLaid ss w (P .words) noOwners (P .owners) (P .sizes) (P .rules) (P .constants) t)
     (statements-is : P .statements ≡ t .count) (accesses-is : P .accesses ≡ t .accesses) (few-accesses : P .accesses ≤ 20)
     (ranges : NestRanges 4 4 (nestOn P as′ ss)) (formed : WellFormed (nestOn P as′ ss)) where
   abbrev all : List Access
@@ -87,11 +83,11 @@ module _ (P : Sheet) (as′ : List (List ℕ)) (ss : List Statement) (t : BodyRe
 
   -- ---- lengths
 
-  words-room : (0 + length all) * 24 ≤ length noWords
-  words-room = let c = access-count in let n = length-replicate 480 (pos 0) in omega arith
+  words-room : (0 + length all) * 24 ≤ length w
+  words-room = let c = access-count in omega arith
 
   words-length : length (P .words) ≡ 480
-  words-length = ap length (b .laid .words) ∙ accesses-length (P .depth) (nest .shallow) noWords 0 all all-wide words-room ∙ length-replicate 480 (pos 0)
+  words-length = ap length (b .laid .words) ∙ accesses-length (P .depth) (nest .shallow) w 0 all all-wide words-room ∙ room
 
   -- the numbers of the arrays, as they stand
   owners-are : ownersIn P ≡ arrayNumbers all
@@ -120,7 +116,7 @@ module _ (P : Sheet) (as′ : List (List ℕ)) (ss : List Statement) (t : BodyRe
       let c = access-count in
       part-take ((i * 3 + d) * 8) (suc (P .depth)) (P .accesses * 24) (P .words) (omega arith)
       ∙ ap₂ (λ l j. wordsAt l (P .depth) (j * 3 + d)) (b .laid .words) (sym (zero-add i))
-      ∙ accesses-at (P .depth) (nest .shallow) noWords 0 all all-wide words-room i no-access g d r)
+      ∙ accesses-at (P .depth) (nest .shallow) w 0 all all-wide words-room i no-access g d r)
 
   accesses-sound : AccessesOk (wordsIn P) (ownersIn P) (extentsIn P) (P .depth)
   accesses-sound =
@@ -134,7 +130,7 @@ module _ (P : Sheet) (as′ : List (List ℕ)) (ss : List Statement) (t : BodyRe
         few = omega arith;
         shallow = nest .shallow;
         small = within-take 32767 (P .words) (P .accesses * 24)
-            (small-within (P .words) (subst (All Small) (sym (b .laid .words)) (accesses-small noWords 0 all (all-replicate Small 480 (pos 0) (omega arith)) all-ranges)));
+            (small-within (P .words) (subst (All Small) (sym (b .laid .words)) (accesses-small w 0 all small all-ranges)));
         dimensions = few-dimensions noExtents blank-length as′ (P .arrays) array-count few-arrays (ranges .arrays) (P .extents) e;
         extents = small-extents noExtents blank-length as′ (P .arrays) array-count few-arrays (ranges .arrays) (P .extents) e (all-replicate (λ x. x ≤ 4096) 16 0 (omega arith));
         there = λ k g. all-getD (λ x. x < length (extentsIn P) / 4) (ownersIn P) k 0

@@ -4,17 +4,20 @@ use mathlib.Core.Bool.{cond}
 use mathlib.Core.List.{List}
 use Prim.Native.Nat.{ℕ, _-_, _*_, _≤_}
 use lib.Dec.{ltb}
+use lib.IntN.{ℤ}
 use lib.ListN.{length}
+use Rattle.lists.specs.Membership.{All}
+use Rattle.integers.specs.Affine.{Within}
 use Rattle.model.specs.Answer.{Answer, accepted}
 use Rattle.model.specs.Ticket as Model
 use Rattle.model.specs.Grammar as Grammar
+use Rattle.model.specs.Ranges.{Small}
 use Rattle.model.specs.Grammar.{Reader, _>>=_}
 use Rattle.reading.specs.Refusals.{refusal}
 use Rattle.reading.specs.declared.Refusal.the-variants.{TrailingBytes}
 use Rattle.reading.specs.declared.Status.{Status}
 use Rattle.reading.specs.declared.Status.the-variants as Status
-use Rattle.sheet.specs.Sheets.{nestOf, SheetIn}
-use Rattle.sheet.specs.declared.Sheet.{Sheet}
+use Rattle.sheet.specs.Sheets.{Sheet, sheetOf, nestOf, SheetIn}
 use Rattle.steps.specs.Steps.{stepsOf, StepsIn}
 use Rattle.steps.specs.declared.Steps.{Steps}
 use Rattle.ticket.specs.declared.Decoded.{Decoded}
@@ -36,12 +39,20 @@ endOf (Status.Refused r) k n = Status.Refused r
 
 -- ---- what decode answers
 
+-- the slices that a ticket's limits and accesses are laid over
+pub record Lent (limits words : List ℤ) : Type 0 where
+  pub limits-length : length limits ≡ 1536
+  pub limits-small : Within 32767 limits
+  pub words-length : length words ≡ 480
+  pub words-small : All Small words
+
 abbrev pub decoded : Status → Model.Ticket → Answer Model.Ticket
 decoded Status.Fine t = accepted t
 decoded (Status.Refused r) t = refusal r
 
-pub record Decodes (b : List ℕ) (r : Decoded) : Type 0 where
-  pub same : decoded (r .status) (ticketOn (r .sheet) (r .steps)) ≡ Grammar.decode b
-  pub sheet : r .status ≡ Status.Fine → SheetIn (r .sheet)
-  pub shallow : r .status ≡ Status.Fine → r .sheet .depth ≤ 4
+-- the lent slices became limits and words
+pub record Decodes (b : List ℕ) (r : Decoded) (limits words : List ℤ) : Type 0 where
+  pub same : decoded (r .status) (ticketOn (sheetOf (r .outline) limits words) (r .steps)) ≡ Grammar.decode b
+  pub sheet : r .status ≡ Status.Fine → SheetIn (sheetOf (r .outline) limits words)
+  pub shallow : r .status ≡ Status.Fine → r .outline .depth ≤ 4
   pub steps : StepsIn (r .steps)

@@ -2,17 +2,17 @@
 ghost use mathlib.Core.Path.{_≡_};
 ghost use lib.ListN.{length};
 ghost use Rattle.reading.specs.Refusals.{Reached};
-ghost use Rattle.ticket.specs.Ticket.{endOf, Decodes};
+ghost use Rattle.ticket.specs.Ticket.{endOf, Lent, Decodes};
 use reading::Refusal;
 use reading::Status;
-use sheet::Sheet;
+use sheet::Outline;
 use steps::Steps;
 
-// The ticket where the status is Fine.
+// The ticket where the status is Fine; its limits and the words of its accesses stand in the slices that were lent.
 pub struct Decoded {
     pub status: Status,
     pub steps: Steps,
-    pub sheet: Sheet,
+    pub outline: Outline,
 }
 
 // Refused also where bytes follow the sections, which end before word `next`.
@@ -33,17 +33,16 @@ fn end_of(status: Status, next: usize, bytes: &[u8]) -> Status
 }
 
 // The four sections and nothing after them. A later section is read from where one before it was refused, and not looked at.
-pub fn decode(bytes: &[u8]) -> Decoded
-    ensures { λ r. ⌜ Decodes (now (bytes .entry)) r ⌝ }
+pub fn decode(bytes: &[u8], limits: &mut [i16], words: &mut [i16]) -> Decoded
+    requires { ⌜ Lent (now limits) (now words) ⌝ }
+    ensures { λ r. ⌜ Decodes (now (bytes .entry)) r (now (limits .exit)) (now (words .exit)) ⌝ }
 {
-    let mut limits = [0i16; 1536];
     let mut counts = [0usize; 12];
-    let first = nest::read_nest(bytes, 1, &mut limits, &mut counts);
+    let first = nest::read_nest(bytes, 1, limits, &mut counts);
     let depth = first.depth;
     let mut extents = [0usize; 16];
     let second = arrays::read_arrays(bytes, first.next, &mut extents);
     let arrays = second.count;
-    let mut words = [0i16; 480];
     let mut owners = [0usize; 20];
     let mut sizes = [0usize; 4];
     let mut rules = [0usize; 4];
@@ -54,7 +53,7 @@ pub fn decode(bytes: &[u8]) -> Decoded
         depth,
         &extents[..arrays * 4],
         arrays,
-        &mut words,
+        words,
         &mut owners,
         &mut sizes,
         &mut rules,
@@ -68,9 +67,8 @@ pub fn decode(bytes: &[u8]) -> Decoded
     let sections = reading::first_of(a, reading::first_of(b, reading::first_of(c, d)));
     let status = end_of(sections, fourth.next, bytes);
     let steps = fourth.steps;
-    let sheet = Sheet {
+    let outline = Outline {
         depth,
-        limits,
         counts,
         arrays,
         extents,
@@ -80,11 +78,10 @@ pub fn decode(bytes: &[u8]) -> Decoded
         constants,
         accesses: third.accesses,
         owners,
-        words,
     };
     Decoded {
         status,
         steps,
-        sheet,
+        outline,
     }
 }

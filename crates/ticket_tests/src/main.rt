@@ -16,16 +16,18 @@ fn print_refusal(r: Refusal) {
 }
 
 fn print_answer(bytes: &[u8]) {
-    let d = ticket::decode(bytes);
+    let mut limits = [0i16; 1536];
+    let mut words = [0i16; 480];
+    let d = ticket::decode(bytes, &mut limits, &mut words);
     let status = d.status;
-    let sheet = d.sheet;
+    let outline = d.outline;
     let steps = d.steps;
     match status {
         Status::Fine => {
             io::write_all(1, b"accepted");
-            print_number(sheet.depth);
-            print_number(sheet.arrays);
-            print_number(sheet.statements);
+            print_number(outline.depth);
+            print_number(outline.arrays);
+            print_number(outline.statements);
             print_number(steps.count);
         }
         Status::Refused(r) => print_refusal(r),

@@ -11,7 +11,7 @@ use Rattle.reading.specs.declared.Refusal.{Refusal}
 use Rattle.reading.specs.declared.Status.{Status}
 use Rattle.reading.specs.declared.Status.the-variants.{Fine, Refused}
 use Rattle.ticket.specs.Ticket.{ticketOn, decoded}
-use Rattle.sheet.specs.Sheets.{nestOf}
+use Rattle.sheet.specs.Sheets.{sheetOf, nestOf}
 use Rattle.directions.specs.declared.DirectionSet.{DirectionSet}
 use Rattle.lines.specs.Lines.{Admitted, DirectionsAre}
 use Rattle.intake.specs.declared.Intake.{Intake}
@@ -21,36 +21,36 @@ use Rattle.judgement.specs.Judgement.{judgedAs, JudgeIn, Judges}
 use Rattle.verdict.specs.declared.Decided.{Decided}
 use Rattle.verdict.specs.Verdicts.{Decides}
 
-module _ (b : List ℕ) (o e : List ℤ) (a : Intake) (h : Admits b o e a) where
+module _ (b : List ℕ) (o e : List ℤ) (a : Intake) (l w : List ℤ) (h : Admits b o e a l w) where
   abbrev T : Model.Ticket
-  T = ticketOn (a .sheet) (a .steps)
+  T = ticketOn (sheetOf (a .outline) l w) (a .steps)
 
   whole : (decoded (a .status) T >>= judgeTicket) ≡ judged b
   unfolding judged
   whole = ap (_>>= judgeTicket) (h .same)
 
-  pub not-admitted : (r : Refusal) → a .status ≡ Refused r → (q : Decided) → q .status ≡ Refused r → Decides b q
+  pub not-admitted : (r : Refusal) → a .status ≡ Refused r → (q : Decided) → q .status ≡ Refused r → Decides b q l w
   unfolding _>>=_
   not-admitted r s q z = record {
     ticket = T;
-    same = ap (λ (x : Status). judgedAs x (record { ticket = T; new = nestOf (q .sheet) })) z ∙ sym (ap (λ (x : Status). decoded x T >>= judgeTicket) s) ∙ whole;
+    same = ap (λ (x : Status). judgedAs x (record { ticket = T; new = nestOf (sheetOf (q .outline) l w) })) z ∙ sym (ap (λ (x : Status). decoded x T >>= judgeTicket) s) ∙ whole;
     count = λ f. not-fine (q .status) z f;
     new = λ f. not-fine (q .status) z f;
   }
 
   module _ (s : a .status ≡ Fine) where
-    t : Taken (a .sheet) (a .steps) e (a .count)
+    t : Taken (sheetOf (a .outline) l w) (a .steps) e (a .count)
     t = h .taken s
 
-    pub directions-in : Admitted (a .sheet) e (a .count)
+    pub directions-in : Admitted (sheetOf (a .outline) l w) e (a .count)
     directions-in = record { sheet = t .sheet; points-are = t .points-are; formed = t .formed; admitted-is = t .admitted-is }
 
-    pub judge-in : (d : DirectionSet) → DirectionsAre (a .sheet) d → JudgeIn (a .sheet) (a .steps) d
+    pub judge-in : (d : DirectionSet) → DirectionsAre (sheetOf (a .outline) l w) d → JudgeIn (sheetOf (a .outline) l w) (a .steps) d
     judge-in d g = record { sheet = t .sheet; steps = t .steps; ranges = t .ranges; formed = t .formed; level = g .depth; vectors = g .vectors }
 
-    pub decided : (j : Judged) → Judges (a .sheet) (a .steps) j → Decides b (record { status = j .status; count = a .count; sheet = j .sheet })
+    pub decided : (j : Judged) (l′ w′ : List ℤ) → Judges (sheetOf (a .outline) l w) (a .steps) j l′ w′ → Decides b (record { status = j .status; count = a .count; outline = j .outline }) l′ w′
     unfolding _>>=_ ticketOn
-    decided j g = record {
+    decided j l′ w′ g = record {
       ticket = T;
       same = g .same ∙ sym (ap (λ (x : Status). decoded x T >>= judgeTicket) s) ∙ whole;
       count = λ _. t .points-are .count;

@@ -2,18 +2,19 @@
 use mathlib.Core.Path.{_≡_}
 use mathlib.Core.List.{List}
 use Prim.Native.Nat.{ℕ}
+use lib.IntN.{ℤ}
 use lib.ListN.{length}
 use Rattle.model.specs.Ticket as Model
 use Rattle.model.specs.Points.{iterations}
 use Rattle.model.specs.Judge.{judged}
 use Rattle.reading.specs.declared.Status.the-variants.{Fine}
-use Rattle.sheet.specs.Sheets.{nestOf}
+use Rattle.sheet.specs.Sheets.{sheetOf, nestOf}
 use Rattle.judgement.specs.Judgement.{judgedAs, New}
 use Rattle.verdict.specs.declared.Decided.{Decided}
 
--- 1 to 13 of the ticket T that the bytes are, if they are one; then the count of its iterations and its new nest
-pub record Decides (b : List ℕ) (r : Decided) : Type 0 where
+-- 1 to 13 of the ticket T that the bytes are, if they are one; then the count of its iterations and its new nest, whose limits and words are l and w
+pub record Decides (b : List ℕ) (r : Decided) (l w : List ℤ) : Type 0 where
   pub ticket : Model.Ticket
-  pub same : judgedAs (r .status) (record { ticket = ticket; new = nestOf (r .sheet) }) ≡ judged b
+  pub same : judgedAs (r .status) (record { ticket = ticket; new = nestOf (sheetOf (r .outline) l w) }) ≡ judged b
   pub count : r .status ≡ Fine → r .count ≡ length (iterations (ticket .nest .loops))
-  pub new : r .status ≡ Fine → New (r .sheet)
+  pub new : r .status ≡ Fine → New (sheetOf (r .outline) l w)

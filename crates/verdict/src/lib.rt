@@ -2,69 +2,78 @@
 ghost use mathlib.Core.Path.{_≡_};
 ghost use lib.ListN.{length};
 ghost use Rattle.reading.specs.declared.Status.the-variants.{Refused};
+ghost use Rattle.ticket.specs.Ticket.{Lent};
 ghost use Rattle.intake.specs.Intake.{Waits};
 ghost use Rattle.verdict.specs.Verdicts.{Decides};
 use intake::Intake;
 use reading::Refusal;
 use reading::Status;
-use sheet::Sheet;
+use sheet::Outline;
 
-// Where the status is Fine: how many iterations the ticket has, and the new nest on its sheet.
+// Where the status is Fine: how many iterations the ticket has, and the new nest; its limits and the words of its accesses stand in the slices that
+// were lent.
 pub struct Decided {
     pub status: Status,
     pub count: usize,
-    pub sheet: Sheet,
+    pub outline: Outline,
 }
 
-fn refused(r: Refusal, sheet: Sheet) -> Decided
+fn refused(r: Refusal, outline: Outline) -> Decided
     ensures { λ q. ⌜ q .status ≡ Refused r ⌝ }
 {
     Decided {
         status: Status::Refused(r),
         count: 0,
-        sheet: sheet,
+        outline: outline,
     }
 }
 
 // Refusals 9 to 13 of what was received of the bytes.
-fn decide_by(bytes: &[u8], all: Intake, points: &mut [i64]) -> Decided
-    requires { ⌜ Waits (now bytes) all (length (now points)) ⌝ }
-    ensures { λ r. ⌜ Decides (now (bytes .entry)) r ⌝ }
+fn decide_by(
+    bytes: &[u8],
+    all: Intake,
+    limits: &mut [i16],
+    words: &mut [i16],
+    points: &mut [i64],
+) -> Decided
+    requires { ⌜ Waits (now bytes) all (now limits) (now words) (length (now points)) ⌝ }
+    ensures { λ r. ⌜ Decides (now (bytes .entry)) r (now (limits .exit)) (now (words .exit)) ⌝ }
 {
-    let sheet = all.sheet;
+    let outline = all.outline;
     let steps = all.steps;
     let count = all.count;
-    let status = intake::admit(bytes, all, points);
+    let status = intake::admit(bytes, all, limits, words, points);
     match status {
         Status::Fine => {}
-        Status::Refused(r) => return refused(r, sheet),
+        Status::Refused(r) => return refused(r, outline),
     }
-    let set = lines::directions_in(sheet, points, count);
-    let judged = judgement::judge_ticket(sheet, steps, set);
+    let set = lines::directions_in(outline, limits, words, points, count);
+    let judged = judgement::judge_ticket(outline, limits, words, steps, set);
     let verdict = judged.status;
-    let new = judged.sheet;
+    let new = judged.outline;
     Decided {
         status: verdict,
         count: count,
-        sheet: new,
+        outline: new,
     }
 }
 
 // Few points have fewer indices to clear.
-pub fn decide(bytes: &[u8]) -> Decided
-    ensures { λ r. ⌜ Decides (now (bytes .entry)) r ⌝ }
+pub fn decide(bytes: &[u8], limits: &mut [i16], words: &mut [i16]) -> Decided
+    requires { ⌜ Lent (now limits) (now words) ⌝ }
+    ensures { λ r. ⌜ Decides (now (bytes .entry)) r (now (limits .exit)) (now (words .exit)) ⌝ }
 {
-    let all = intake::receive(bytes);
-    let sheet = all.sheet;
+    let all = intake::receive(bytes, limits, words);
+    let outline = all.outline;
     let status = all.status;
     match status {
         Status::Fine => {}
-        Status::Refused(r) => return refused(r, sheet),
+        Status::Refused(r) => return refused(r, outline),
     }
     if all.count <= 256 {
         let mut few = [0i64; 1024];
-        return decide_by(bytes, all, &mut few);
+        return decide_by(bytes, all, limits, words, &mut few);
     }
     let mut points = [0i64; 16384];
-    decide_by(bytes, all, &mut points)
+    decide_by(bytes, all, limits, words, &mut points)
 }

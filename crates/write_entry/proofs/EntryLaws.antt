@@ -2,8 +2,10 @@
 use mathlib.Core.Path.{_≡_, refl, sym, _∙_, ap, subst}
 use mathlib.Core.List.{List}
 use Prim.Native.Nat.{ℕ}
+use lib.IntN.{ℤ}
 use Rattle.lists.proofs.PartLaws.{put-all}
 use Rattle.model.specs.Answer.{Answer, accepted, _>>=_}
+use Rattle.model.specs.Ticket.{Nest}
 use Rattle.model.specs.Judge.{Judged}
 use Rattle.model.specs.Encode.{encode}
 use Rattle.model.specs.Entries.{Outcome, handOut, write}
@@ -12,7 +14,7 @@ use Rattle.reading.specs.declared.Refusal.the-variants.{BufferTooShort}
 use Rattle.reading.specs.declared.Status.{Status}
 use Rattle.reading.specs.declared.Status.the-variants as Status
 use Rattle.reading.specs.Refusals.{refusal}
-use Rattle.sheet.specs.Sheets.{nestOf}
+use Rattle.sheet.specs.Sheets.{sheetOf, nestOf}
 use Rattle.encoding.specs.Encodable.{SheetEncodable}
 use Rattle.encoding.specs.Encoding.{Encodes}
 use Rattle.encoding.specs.declared.Encoded.{Encoded}
@@ -24,9 +26,12 @@ use Rattle.intake.proofs.AnswerLaws.{refused-before, too-short, written}
 use Rattle.verdict.specs.declared.Decided.{Decided}
 use Rattle.verdict.specs.Verdicts.{Decides}
 
-module _ (b : List ℕ) (d : Decided) (h : Decides b d) (o : List ℕ) where
+module _ (b : List ℕ) (d : Decided) (l w : List ℤ) (h : Decides b d l w) (o : List ℕ) where
+  abbrev new : Nest
+  new = nestOf (sheetOf (d .outline) l w)
+
   abbrev bytes : Status → Answer (List ℕ)
-  bytes s = judgedAs s (record { ticket = h .ticket; new = nestOf (d .sheet) }) >>= (λ (j : Judged). accepted (encode (j .new)))
+  bytes s = judgedAs s (record { ticket = h .ticket; new = new }) >>= (λ (j : Judged). accepted (encode (j .new)))
 
   whole : handOut (bytes (d .status)) o ≡ write b o
   unfolding write
@@ -37,22 +42,22 @@ module _ (b : List ℕ) (d : Decided) (h : Decides b d) (o : List ℕ) where
   write-refused r s = subst (λ (x : Outcome). Hands x (Refused r) o) (sym (ap (λ (x : Status). handOut (bytes x) o) s) ∙ whole) (refused-before (refusal r) o r refl)
 
   module _ (s : d .status ≡ Status.Fine) where
-    pub encodable : SheetEncodable (d .sheet)
+    pub encodable : SheetEncodable (sheetOf (d .outline) l w)
     encodable = let n = h .new s in record { sheet = n .sheet; ranges = n .ranges; formed = n .formed }
 
-    accepted-out : handOut (accepted (encode (nestOf (d .sheet)))) o ≡ write b o
+    accepted-out : handOut (accepted (encode new)) o ≡ write b o
     unfolding _>>=_
     accepted-out = sym (ap (λ (x : Status). handOut (bytes x) o) s) ∙ whole
 
-    module _ (e : List ℕ) (r : Encoded) (g : Encodes (nestOf (d .sheet)) o e r) where
+    module _ (e : List ℕ) (r : Encoded) (g : Encodes new o e r) where
       pub write-complete : (n : ℕ) → r ≡ Complete n → Hands (write b o) (Accepted n) e
-      write-complete n q = subst (λ (x : Outcome). Hands x (Accepted n) e) accepted-out (fits (subst (Encodes (nestOf (d .sheet)) o e) q g))
+      write-complete n q = subst (λ (x : Outcome). Hands x (Accepted n) e) accepted-out (fits (subst (Encodes new o e) q g))
         where
-          fits : Encodes (nestOf (d .sheet)) o e (Complete n) → Hands (handOut (accepted (encode (nestOf (d .sheet)))) o) (Accepted n) e
-          fits f = subst (λ (k : ℕ). Hands (handOut (accepted (encode (nestOf (d .sheet)))) o) (Accepted k) e) (sym (f .1)) (written (encode (nestOf (d .sheet))) o (f .2) e (f .0 ∙ sym (put-all o (encode (nestOf (d .sheet))))))
+          fits : Encodes new o e (Complete n) → Hands (handOut (accepted (encode new)) o) (Accepted n) e
+          fits f = subst (λ (k : ℕ). Hands (handOut (accepted (encode new)) o) (Accepted k) e) (sym (f .1)) (written (encode new) o (f .2) e (f .0 ∙ sym (put-all o (encode new))))
 
       pub write-short : (n : ℕ) → r ≡ TooShort n → Hands (write b o) (Refused BufferTooShort) e
-      write-short n q = subst (λ (x : Outcome). Hands x (Refused BufferTooShort) e) accepted-out (short (subst (Encodes (nestOf (d .sheet)) o e) q g))
+      write-short n q = subst (λ (x : Outcome). Hands x (Refused BufferTooShort) e) accepted-out (short (subst (Encodes new o e) q g))
         where
-          short : Encodes (nestOf (d .sheet)) o e (TooShort n) → Hands (handOut (accepted (encode (nestOf (d .sheet)))) o) (Refused BufferTooShort) e
-          short f = subst (Hands (handOut (accepted (encode (nestOf (d .sheet)))) o) (Refused BufferTooShort)) (sym (f .0)) (too-short (encode (nestOf (d .sheet))) o (f .2))
+          short : Encodes new o e (TooShort n) → Hands (handOut (accepted (encode new)) o) (Refused BufferTooShort) e
+          short f = subst (Hands (handOut (accepted (encode new)) o) (Refused BufferTooShort)) (sym (f .0)) (too-short (encode new) o (f .2))

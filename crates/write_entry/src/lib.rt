@@ -10,14 +10,16 @@ use reading::Status;
 pub fn write(ticket: &[u8], out: &mut [u8]) -> Answer
     ensures { λ r. ⌜ Hands (Entries.write (now (ticket .entry)) (now (out .entry))) r (now (out .exit)) ⌝ }
 {
-    let decided = verdict::decide(ticket);
+    let mut limits = [0i16; 1536];
+    let mut words = [0i16; 480];
+    let decided = verdict::decide(ticket, &mut limits, &mut words);
     let status = decided.status;
     match status {
         Status::Fine => {}
         Status::Refused(r) => return Answer::Refused(r),
     }
-    let new = decided.sheet;
-    match encoding::encode_sheet(new, out) {
+    let new = decided.outline;
+    match encoding::encode_sheet(new, &limits, &words, out) {
         Encoded::Complete(n) => Answer::Accepted(n),
         Encoded::TooShort(_) => Answer::Refused(Refusal::BufferTooShort),
     }

@@ -17,13 +17,13 @@ enum-known-k-2 : tie.Need-enum-known-k-2
 enum-known-k-2 c = search needs
 
 returns : tie.Need-returns
-returns c = let v = c .before .before .before .survey in counted-out (c .before .before .before .before .args .sheet) (v .result) (v .ensures) _ (c .before .n .given .1)
+returns c = let v = c .before .before .before .survey in counted-out _ (v .result) (v .ensures) _ (c .before .n .given .1)
 
 returns-2 : tie.Need-returns-2
-returns-2 c = let v = c .before .before .before .survey in far-out (c .before .before .before .before .args .sheet) (v .result) (v .ensures) _ (c .before .k .given .1)
+returns-2 c = let v = c .before .before .before .survey in far-out _ (v .result) (v .ensures) _ (c .before .k .given .1)
 
 returns-3 : tie.Need-returns-3
-returns-3 c = let v = c .before .before .before .survey in crowded-out (c .before .before .before .before .args .sheet) (v .result) (v .ensures) _ (c .before .k2 .given .1)
+returns-3 c = let v = c .before .before .before .survey in crowded-out _ (v .result) (v .ensures) _ (c .before .k2 .given .1)
 
 pub count-points-spec : {M : Type 1} → statement M
 count-points-spec =

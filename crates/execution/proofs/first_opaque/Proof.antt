@@ -8,10 +8,10 @@ use Rattle.execution.proofs.first_opaque.Statement.{statement}
 use Rattle.execution.proofs.first_opaque.Tie as tie
 
 abbrev Inv-loop : tie.InvT-loop
-Inv-loop statements rules s₀ s = (s ≤ statements) × (clearFrom rules 0 statements ≡ clearFrom rules s (statements - s))
+Inv-loop limits words statements rules s₀ s = (s ≤ statements) × (clearFrom rules 0 statements ≡ clearFrom rules s (statements - s))
 
 abbrev μ-loop : tie.MeasureT-loop
-μ-loop statements rules s₀ s = statements - s
+μ-loop limits words statements rules s₀ s = statements - s
 
 loop-holds : tie.Need-loop-holds Inv-loop μ-loop
 loop-holds c = (omega arith, all-left _ _)
@@ -26,7 +26,7 @@ add-result : tie.Need-add-result Inv-loop μ-loop
 add-result c = let f = c .before .before .before .before .pre .few-statements in omega arith
 
 returns : tie.Need-returns Inv-loop μ-loop
-returns c = let s = c .before .before .before .before in let l = c .before .before .loop in opaque-here (s .args .sheet) (s .pre) (l .s) (l .inv .1) (c .before .loop-test .taken) (c .if1 .taken)
+returns c = let s = c .before .before .before .before in let l = c .before .before .loop in opaque-here _ (s .pre) (l .s) (l .inv .1) (c .before .loop-test .taken) (c .if1 .taken)
 
 add-s : tie.Need-add-s Inv-loop μ-loop
 add-s c = let f = c .before .before .before .before .pre .few-statements in omega arith
@@ -35,10 +35,10 @@ loop-less : tie.Need-loop-less Inv-loop μ-loop
 loop-less c = let v = c .before .loop-test .taken in omega arith
 
 loop-again : tie.Need-loop-again Inv-loop μ-loop
-loop-again c = let s = c .before .before .before .before in let l = c .before .before .loop in clear-here (s .args .sheet) (s .pre) (l .s) (l .inv .1) (c .before .loop-test .taken) (c .if1 .left)
+loop-again c = let s = c .before .before .before .before in let l = c .before .before .loop in clear-here _ (s .pre) (l .s) (l .inv .1) (c .before .loop-test .taken) (c .if1 .left)
 
 returns-2 : tie.Need-returns-2 Inv-loop μ-loop
-returns-2 c = let s = c .before .before .before in let l = c .before .loop in none-opaque (s .args .sheet) (s .pre) (l .s) (l .inv .1) (c .loop-test .left)
+returns-2 c = let s = c .before .before .before in let l = c .before .loop in none-opaque _ (s .pre) (l .s) (l .inv .1) (c .loop-test .left)
 
 pub first-opaque-spec : {M : Type 1} → statement M
 first-opaque-spec =

@@ -6,7 +6,7 @@ use Rattle.execution.proofs.run_at.Statement.{statement}
 use Rattle.execution.proofs.run_at.Tie as tie
 
 mul-needed : tie.Need-mul-needed
-mul-needed c = let s = c .before .before in let f = few-numbers (s .args .sheet) (s .args .count) _ (s .pre .0) in omega arith
+mul-needed c = let s = c .before .before in let f = few-numbers _ (s .args .count) _ (s .pre .0) in omega arith
 
 slice-aggregate-run-by : tie.Need-slice-aggregate-run-by
 slice-aggregate-run-by c = search needs
@@ -36,7 +36,7 @@ slice-aggregate-run-by-3 : tie.Need-slice-aggregate-run-by-3
 slice-aggregate-run-by-3 c = search needs
 
 run-by-requires-3 : tie.Need-run-by-requires-3
-run-by-requires-3 c κs = let s = c .before .before .before .before .before .before in (s .pre .0, s .pre .1, few-numbers (s .args .sheet) (s .args .count) _ (s .pre .0))
+run-by-requires-3 c κs = let s = c .before .before .before .before .before .before in (s .pre .0, s .pre .1, few-numbers _ (s .args .count) _ (s .pre .0))
 
 same-length-3 : tie.Need-same-length-3
 same-length-3 c = search needs

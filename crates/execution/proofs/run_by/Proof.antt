@@ -8,7 +8,7 @@ number-accesses-requires : tie.Need-number-accesses-requires
 number-accesses-requires c κs = search needs
 
 run-requires : tie.Need-run-requires
-run-requires c κs = let s = c .before .before .before .before .before .before .before .before in run-in (s .args .sheet) (s .args .count) _ (s .pre .0) _ (c .before .before .before .before .number-accesses .ensures)
+run-requires c κs = let s = c .before .before .before .before .before .before .before .before in run-in _ (s .args .count) _ (s .pre .0) _ (c .before .before .before .before .number-accesses .ensures)
 
 same-length : tie.Need-same-length
 same-length c = search needs

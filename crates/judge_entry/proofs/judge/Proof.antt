@@ -1,11 +1,18 @@
 -- `judge`: the verdict's answer.
+use Rattle.ticket.proofs.DecodeLaws.{zeros-lent}
 use Rattle.judge_entry.proofs.EntryLaws.{judge-refused, judge-accepted}
 use borrow.Author.Needs.{needs}
 use Rattle.judge_entry.proofs.judge.Statement.{statement}
 use Rattle.judge_entry.proofs.judge.Tie as tie
 
+slice-aggregate-decide : tie.Need-slice-aggregate-decide
+slice-aggregate-decide c = search needs
+
+slice-aggregate-decide-2 : tie.Need-slice-aggregate-decide-2
+slice-aggregate-decide-2 c = search needs
+
 decide-requires : tie.Need-decide-requires
-decide-requires c κs = search needs
+decide-requires c κs = zeros-lent
 
 enum-told : tie.Need-enum-told
 enum-told c = search needs
@@ -14,10 +21,19 @@ enum-known-status : tie.Need-enum-known-status
 enum-known-status c = search needs
 
 returns : tie.Need-returns
-returns c = let d = c .before .before .decide in judge-accepted _ (d .result) (d .ensures) (c .enum-told .given .1)
+returns c = let d = c .before .before .before .before .decide in judge-accepted _ (d .result) _ _ (d .ensures) (c .enum-told .given .1)
 
 returns-2 : tie.Need-returns-2
-returns-2 c = let d = c .before .before .before .decide in judge-refused _ (d .result) (d .ensures) _ (c .before .status .given .1)
+returns-2 c = let d = c .before .before .before .before .before .decide in judge-refused _ (d .result) _ _ (d .ensures) _ (c .before .status .given .1)
 
 pub judge-spec : {M : Type 1} → statement M
-judge-spec = tie.close (tie.spec decide-requires enum-told enum-known-status returns returns-2)
+judge-spec =
+    tie.close
+    (tie.spec
+    slice-aggregate-decide
+    slice-aggregate-decide-2
+    decide-requires
+    enum-told
+    enum-known-status
+    returns
+    returns-2)

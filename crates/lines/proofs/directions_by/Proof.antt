@@ -14,7 +14,7 @@ same-length : tie.Need-same-length
 same-length c = search needs
 
 returns : tie.Need-returns
-returns c = let s = c .before .before .before .before .before .before .before in let m = c .before .before .before .before .mark-lines in let d = c .directions-of in record { depth = d .ensures .depth; vectors = directions-are (s .args .sheet) _ (d .result) (m .ensures .0) (d .ensures) }
+returns c = let s = c .before .before .before .before .before .before .before in let m = c .before .before .before .before .mark-lines in let d = c .directions-of in record { depth = d .ensures .depth; vectors = directions-are _ _ (d .result) (m .ensures .0) (d .ensures) }
 
 pub directions-by-spec : {M : Type 1} → statement M
 directions-by-spec =

@@ -9,7 +9,7 @@ slice-aggregate-directions-by : tie.Need-slice-aggregate-directions-by
 slice-aggregate-directions-by c = search needs
 
 directions-by-requires : tie.Need-directions-by-requires
-directions-by-requires c κs = let s = c .before .before .before in lines-in (s .args .sheet) (s .args .points .now) (s .args .count) (s .pre) 1 (c .before .if1 .taken) 2187 refl
+directions-by-requires c κs = let s = c .before .before .before in lines-in _ (s .args .points .now) (s .args .count) (s .pre) 1 (c .before .if1 .taken) 2187 refl
 
 returns : tie.Need-returns
 returns c = search needs
@@ -18,7 +18,7 @@ slice-aggregate-directions-by-2 : tie.Need-slice-aggregate-directions-by-2
 slice-aggregate-directions-by-2 c = search needs
 
 directions-by-requires-2 : tie.Need-directions-by-requires-2
-directions-by-requires-2 c κs = let s = c .before .before .before .before .before in lines-in (s .args .sheet) (s .args .points .now) (s .args .count) (s .pre) 2 (c .before .if2 .taken) 8748 refl
+directions-by-requires-2 c κs = let s = c .before .before .before .before .before in lines-in _ (s .args .points .now) (s .args .count) (s .pre) 2 (c .before .if2 .taken) 8748 refl
 
 returns-2 : tie.Need-returns-2
 returns-2 c = search needs
@@ -27,7 +27,7 @@ slice-aggregate-directions-by-3 : tie.Need-slice-aggregate-directions-by-3
 slice-aggregate-directions-by-3 c = search needs
 
 directions-by-requires-3 : tie.Need-directions-by-requires-3
-directions-by-requires-3 c κs = let s = c .before .before .before .before .before in lines-in (s .args .sheet) (s .args .points .now) (s .args .count) (s .pre) 4 (s .pre .sheet .few-statements) 34992 refl
+directions-by-requires-3 c κs = let s = c .before .before .before .before .before in lines-in _ (s .args .points .now) (s .args .count) (s .pre) 4 (s .pre .sheet .few-statements) 34992 refl
 
 returns-3 : tie.Need-returns-3
 returns-3 c = search needs

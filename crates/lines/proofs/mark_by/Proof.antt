@@ -19,17 +19,17 @@ array-share-prefix-statements : tie.Need-array-share-prefix-statements
 array-share-prefix-statements c = search needs
 
 slice-aggregate-dependences : tie.Need-slice-aggregate-dependences
-slice-aggregate-dependences c = let s = c .before .before .before .before .before .before .before .before .before .before .before .before in let u = c .before .before .before .before .before .uses-of in sym (statements-count (s .args .sheet) (s .pre .0 .stray .sheet) (u .result) (u .ensures))
+slice-aggregate-dependences c = let s = c .before .before .before .before .before .before .before .before .before .before .before .before in let u = c .before .before .before .before .before .uses-of in sym (statements-count _ (s .pre .0 .stray .sheet) (u .result) (u .ensures))
 
 array-share-prefix-writes : tie.Need-array-share-prefix-writes
 array-share-prefix-writes c = search needs
 
 slice-aggregate-dependences-2 : tie.Need-slice-aggregate-dependences-2
-slice-aggregate-dependences-2 c = let s = c .before .before .before .before .before .before .before .before .before .before .before .before .before in let u = c .before .before .before .before .before .before .uses-of in sym (writes-count (s .args .sheet) (s .pre .0 .stray .sheet) (u .result) (u .ensures))
+slice-aggregate-dependences-2 c = let s = c .before .before .before .before .before .before .before .before .before .before .before .before .before in let u = c .before .before .before .before .before .before .uses-of in sym (writes-count _ (s .pre .0 .stray .sheet) (u .result) (u .ensures))
 
 dependences-requires : tie.Need-dependences-requires
 dependences-requires c κs = let s = c .before .before .before .before .before .before .before .before .before .before .before .before .before .before in let e = c .before .before .before .before .before .before .before .before .before .before .number-accesses in let u = c .before .before .before .before .before .before .before .uses-of in let t = c .before .before .before .before .elements-in in
-    (ready (s .args .sheet) (s .args .points .now) (s .args .count) (s .args .marks .now) (s .pre .0) (length (s .args .numbers .now)) (s .pre .1) _ (e .ensures) (u .result) (u .ensures), numbers-below (s .args .sheet) (s .args .points .now) (s .args .count) (s .args .marks .now) (s .pre .0) (length (s .args .numbers .now)) (s .pre .1) _ (e .ensures) (u .result) (u .ensures) (t .result) (t .ensures))
+    (ready _ (s .args .points .now) (s .args .count) (s .args .marks .now) (s .pre .0) (length (s .args .numbers .now)) (s .pre .1) _ (e .ensures) (u .result) (u .ensures), numbers-below _ (s .args .points .now) (s .args .count) (s .args .marks .now) (s .pre .0) (length (s .args .numbers .now)) (s .pre .1) _ (e .ensures) (u .result) (u .ensures) (t .result) (t .ensures))
 
 same-length : tie.Need-same-length
 same-length c = search needs
@@ -40,7 +40,7 @@ same-length-2 c = search needs
 returns : tie.Need-returns
 returns c = let s = c .before .before .before .before .before .before .before .before .before .before .before .before .before .before .before .before .before in let d = c .before .before .dependences in let e = c .before .before .before .before .before .before .before .before .before .before .before .before .before .number-accesses in let u = c .before .before .before .before .before .before .before .before .before .before .uses-of in
     let k = d .kept .1 .1 .1 .1 .1 .1 .1 .1 .0 in
-    (lines-are (s .args .sheet) (s .args .points .now) (s .args .count) (s .args .marks .now) (s .pre .0) (length (s .args .numbers .now)) (s .pre .1) _ (e .ensures) (u .result) (u .ensures) _ k (d .ensures), k)
+    (lines-are _ (s .args .points .now) (s .args .count) (s .args .marks .now) (s .pre .0) (length (s .args .numbers .now)) (s .pre .1) _ (e .ensures) (u .result) (u .ensures) _ k (d .ensures), k)
 
 pub mark-by-spec : {M : Type 1} → statement M
 mark-by-spec =

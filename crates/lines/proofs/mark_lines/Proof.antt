@@ -7,7 +7,7 @@ use Rattle.lines.proofs.mark_lines.Statement.{statement}
 use Rattle.lines.proofs.mark_lines.Tie as tie
 
 mul-needed : tie.Need-mul-needed
-mul-needed c = let s = c .before .before in let f = few-numbers (s .args .sheet) _ _ _ (s .pre) in omega arith
+mul-needed c = let s = c .before .before in let f = few-numbers _ _ _ _ (s .pre) in omega arith
 
 slice-aggregate-mark-by : tie.Need-slice-aggregate-mark-by
 slice-aggregate-mark-by c = search needs
@@ -37,7 +37,7 @@ slice-aggregate-mark-by-3 : tie.Need-slice-aggregate-mark-by-3
 slice-aggregate-mark-by-3 c = search needs
 
 mark-by-requires-3 : tie.Need-mark-by-requires-3
-mark-by-requires-3 c κs = let s = c .before .before .before .before .before .before in (s .pre, few-numbers (s .args .sheet) _ _ _ (s .pre))
+mark-by-requires-3 c κs = let s = c .before .before .before .before .before .before in (s .pre, few-numbers _ _ _ _ (s .pre))
 
 same-length-3 : tie.Need-same-length-3
 same-length-3 c = search needs

@@ -3,19 +3,19 @@ use mathlib.Core.Path.{refl}
 use Prim.Native.Nat.{_-_}
 use native.Mathlib.Omega.{arith}
 use borrow.Author.Needs.{needs}
-use Rattle.sheet.specs.Sheets.{sizesIn}
+use Rattle.sheet.specs.Sheets.{sheetOf, sizesIn}
 use Rattle.lines.proofs.UseLaws.{Entered, entered-none, use-fits, use-in, use-next, uses-are}
 use Rattle.lines.proofs.uses_of.Statement.{statement}
 use Rattle.lines.proofs.uses_of.Tie as tie
 
 abbrev Inv-loop : tie.InvT-loop
-Inv-loop sheet sizes statements₀ writes₀ first₀ s₀ statements writes first s = Entered (sizesIn sheet) statements₀ statements writes₀ writes first s
+Inv-loop outline limits words sizes statements₀ writes₀ first₀ s₀ statements writes first s = Entered (sizesIn (sheetOf outline limits words)) statements₀ statements writes₀ writes first s
 
 abbrev μ-loop : tie.MeasureT-loop
-μ-loop sheet sizes statements₀ writes₀ first₀ s₀ statements writes first s = sheet .statements - s
+μ-loop outline limits words sizes statements₀ writes₀ first₀ s₀ statements writes first s = outline .statements - s
 
 loop-holds : tie.Need-loop-holds Inv-loop μ-loop
-loop-holds c = let P = c .before .args .sheet in entered-none (sizesIn P) _ _
+loop-holds c = let P = sheetOf (c .before .args .outline) (c .before .args .limits .now) (c .before .args .words .now) in entered-none (sizesIn P) _ _
 
 mul-size : tie.Need-mul-size Inv-loop μ-loop
 mul-size c = search needs
@@ -30,10 +30,10 @@ slice-aggregate-enter-2 : tie.Need-slice-aggregate-enter-2 Inv-loop μ-loop
 slice-aggregate-enter-2 c = search needs
 
 enter-requires : tie.Need-enter-requires Inv-loop μ-loop
-enter-requires c κs = let s = c .before .before .before .before .before .before in let l = c .before .before .before .before .loop in use-in (s .args .sheet) (s .pre) _ _ refl refl (l .statements) (l .writes) (l .first) (l .s) (l .inv) (c .before .before .if1 .taken)
+enter-requires c κs = let s = c .before .before .before .before .before .before in let l = c .before .before .before .before .loop in use-in _ (s .pre) _ _ refl refl (l .statements) (l .writes) (l .first) (l .s) (l .inv) (c .before .before .if1 .taken)
 
 add-first : tie.Need-add-first Inv-loop μ-loop
-add-first c = let s = c .before .before .before .before .before .before .before .before .before in let l = c .before .before .before .before .before .before .before .loop in let f = use-fits (s .args .sheet) (s .pre) _ _ refl refl (l .statements) (l .writes) (l .first) (l .s) (l .inv) (c .before .before .before .before .before .if1 .taken) in omega arith
+add-first c = let s = c .before .before .before .before .before .before .before .before .before in let l = c .before .before .before .before .before .before .before .loop in let f = use-fits _ (s .pre) _ _ refl refl (l .statements) (l .writes) (l .first) (l .s) (l .inv) (c .before .before .before .before .before .if1 .taken) in omega arith
 
 add-s : tie.Need-add-s Inv-loop μ-loop
 add-s c = search needs
@@ -42,10 +42,10 @@ loop-less : tie.Need-loop-less Inv-loop μ-loop
 loop-less c = search needs
 
 loop-again : tie.Need-loop-again Inv-loop μ-loop
-loop-again c = let s = c .before .before .before .before .before .before .before .before .before in let l = c .before .before .before .before .before .before .before .loop in use-next (s .args .sheet) (s .pre) _ _ refl refl (l .statements) (l .writes) (l .first) (l .s) (l .inv) (c .before .before .before .before .before .if1 .taken) _ _ (c .before .before .enter .ensures)
+loop-again c = let s = c .before .before .before .before .before .before .before .before .before in let l = c .before .before .before .before .before .before .before .loop in use-next _ (s .pre) _ _ refl refl (l .statements) (l .writes) (l .first) (l .s) (l .inv) (c .before .before .before .before .before .if1 .taken) _ _ (c .before .before .enter .ensures)
 
 returns : tie.Need-returns Inv-loop μ-loop
-returns c = let s = c .before .before .before .before in let l = c .before .before .loop in uses-are (s .args .sheet) (s .pre) _ _ refl refl (l .statements) (l .writes) (l .first) (l .s) (l .inv) (c .if1 .left)
+returns c = let s = c .before .before .before .before in let l = c .before .before .loop in uses-are _ (s .pre) _ _ refl refl (l .statements) (l .writes) (l .first) (l .s) (l .inv) (c .if1 .left)
 
 pub uses-of-spec : {M : Type 1} → statement M
 uses-of-spec =

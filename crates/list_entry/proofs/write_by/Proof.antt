@@ -19,7 +19,7 @@ same-length-2 c = search needs
 returns : tie.Need-returns
 returns c =
     let s = c .before .before .before .before .before .before .before .before .before .before .before .before in let m = c .before .before .before .before .before .before .before .before .mark-lines in let l = c .before .before .before .list in
-    short-buffer (s .args .sheet) (s .args .points .now) (s .args .count) (s .pre .stray .points-are) _ (m .ensures .0) (s .args .out .now) _ (l .result) (l .ensures) (c .if1 .taken)
+    short-buffer _ (s .args .points .now) (s .args .count) (s .pre .stray .points-are) _ (m .ensures .0) (s .args .out .now) _ (l .result) (l .ensures) (c .if1 .taken)
 
 same-length-3 : tie.Need-same-length-3
 same-length-3 c = search needs
@@ -30,7 +30,7 @@ same-length-4 c = search needs
 returns-2 : tie.Need-returns-2
 returns-2 c =
     let s = c .before .before .before .before .before .before .before .before .before .before .before .before in let m = c .before .before .before .before .before .before .before .before .mark-lines in let l = c .before .before .before .list in
-    all-written (s .args .sheet) (s .args .points .now) (s .args .count) (s .pre .stray .points-are) _ (m .ensures .0) (s .args .out .now) _ (l .result) (l .ensures) (c .if1 .left)
+    all-written _ (s .args .points .now) (s .args .count) (s .pre .stray .points-are) _ (m .ensures .0) (s .args .out .now) _ (l .result) (l .ensures) (c .if1 .left)
 
 pub write-by-spec : {M : Type 1} → statement M
 write-by-spec =

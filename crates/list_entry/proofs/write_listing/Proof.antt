@@ -9,7 +9,7 @@ slice-aggregate-write-by : tie.Need-slice-aggregate-write-by
 slice-aggregate-write-by c = search needs
 
 write-by-requires : tie.Need-write-by-requires
-write-by-requires c κs = let s = c .before .before .before .before .before in lines-in (s .args .sheet) (s .args .points .now) (s .args .count) (s .pre) 2 (c .before .before .if1 .taken) 8748 refl
+write-by-requires c κs = let s = c .before .before .before .before .before in lines-in _ (s .args .points .now) (s .args .count) (s .pre) 2 (c .before .before .if1 .taken) 8748 refl
 
 same-length : tie.Need-same-length
 same-length c = search needs
@@ -21,7 +21,7 @@ slice-aggregate-write-by-2 : tie.Need-slice-aggregate-write-by-2
 slice-aggregate-write-by-2 c = search needs
 
 write-by-requires-2 : tie.Need-write-by-requires-2
-write-by-requires-2 c κs = let s = c .before .before .before .before .before in lines-in (s .args .sheet) (s .args .points .now) (s .args .count) (s .pre) 4 (s .pre .sheet .few-statements) 34992 refl
+write-by-requires-2 c κs = let s = c .before .before .before .before .before in lines-in _ (s .args .points .now) (s .args .count) (s .pre) 4 (s .pre .sheet .few-statements) 34992 refl
 
 same-length-2 : tie.Need-same-length-2
 same-length-2 c = search needs

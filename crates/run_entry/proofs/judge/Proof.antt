@@ -5,13 +5,19 @@ use Rattle.run_entry.proofs.judge.Statement.{statement}
 use Rattle.run_entry.proofs.judge.Tie as tie
 
 directions-in-requires : tie.Need-directions-in-requires
-directions-in-requires c κs = let s = c in admitted-in (s .args .sheet) (s .args .steps) (s .args .points .now) (s .args .count) (s .pre)
+directions-in-requires c κs = let s = c .before .before in admitted-in _ (s .args .steps) (s .args .points .now) (s .args .count) (s .pre)
 
 judge-ticket-requires : tie.Need-judge-ticket-requires
-judge-ticket-requires c κs = let s = c .before in let d = c .directions-in in judge-in (s .args .sheet) (s .args .steps) (s .args .points .now) (s .args .count) (s .pre) (d .result) (d .ensures)
+judge-ticket-requires c κs = let s = c .before .before .before .before .before in let d = c .before .before .directions-in in judge-in _ (s .args .steps) (s .args .points .now) (s .args .count) (s .pre) (d .result) (d .ensures)
+
+same-length : tie.Need-same-length
+same-length c = search needs
+
+same-length-2 : tie.Need-same-length-2
+same-length-2 c = search needs
 
 returns : tie.Need-returns
 returns c = search needs
 
 pub judge-spec : {M : Type 1} → statement M
-judge-spec = tie.close (tie.spec directions-in-requires judge-ticket-requires returns)
+judge-spec = tie.close (tie.spec directions-in-requires judge-ticket-requires same-length same-length-2 returns)

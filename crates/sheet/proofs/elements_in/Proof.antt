@@ -13,13 +13,13 @@ array-share-prefix-extents : tie.Need-array-share-prefix-extents
 array-share-prefix-extents c = search needs
 
 slice-aggregate-total-of : tie.Need-slice-aggregate-total-of
-slice-aggregate-total-of c = let s = c .before .before in sym (extents-count (s .args .sheet) (s .pre))
+slice-aggregate-total-of c = let s = c .before .before in sym (extents-count _ (s .pre))
 
 total-of-requires : tie.Need-total-of-requires
-total-of-requires c κs = let s = c .before .before in arrays-in (s .args .sheet) (s .pre)
+total-of-requires c κs = let s = c .before .before in arrays-in _ (s .pre)
 
 returns : tie.Need-returns
-returns c = let s = c .before .before .before in total-is (s .args .sheet) (s .pre) (c .total-of .result) (c .total-of .ensures)
+returns c = let s = c .before .before .before in total-is _ (s .pre) (c .total-of .result) (c .total-of .ensures)
 
 pub elements-in-spec : {M : Type 1} → statement M
 elements-in-spec =

@@ -9,23 +9,17 @@ use Rattle.sheet.proofs.is_apart.Tie as tie
 slice-aggregate-is-apart : tie.Need-slice-aggregate-is-apart
 slice-aggregate-is-apart c = search needs
 
+mul-is-apart : tie.Need-mul-is-apart
+mul-is-apart c = search needs
+
 slice-aggregate-is-apart-2 : tie.Need-slice-aggregate-is-apart-2
-slice-aggregate-is-apart-2 c = search needs
-
-mul-words : tie.Need-mul-words
-mul-words c = search needs
-
-array-share-prefix-words : tie.Need-array-share-prefix-words
-array-share-prefix-words c = search needs
-
-slice-aggregate-is-apart-3 : tie.Need-slice-aggregate-is-apart-3
-slice-aggregate-is-apart-3 c = let s = c .before .before .before .before .before .before .before .before in sym (words-count (s .args .sheet) (s .pre .sheet))
+slice-aggregate-is-apart-2 c = let s = c .before .before .before .before .before in sym (words-count _ (s .pre .sheet))
 
 array-share-prefix-owners : tie.Need-array-share-prefix-owners
 array-share-prefix-owners c = search needs
 
-slice-aggregate-is-apart-4 : tie.Need-slice-aggregate-is-apart-4
-slice-aggregate-is-apart-4 c = let s = c .before .before .before .before .before .before .before .before .before in sym (owners-count (s .args .sheet) (s .pre .sheet))
+slice-aggregate-is-apart-3 : tie.Need-slice-aggregate-is-apart-3
+slice-aggregate-is-apart-3 c = let s = c .before .before .before .before .before .before in sym (owners-count _ (s .pre .sheet))
 
 mul-extents : tie.Need-mul-extents
 mul-extents c = search needs
@@ -33,28 +27,26 @@ mul-extents c = search needs
 array-share-prefix-extents : tie.Need-array-share-prefix-extents
 array-share-prefix-extents c = search needs
 
-slice-aggregate-is-apart-5 : tie.Need-slice-aggregate-is-apart-5
-slice-aggregate-is-apart-5 c = let s = c .before .before .before .before .before .before .before .before .before .before .before in sym (extents-count (s .args .sheet) (s .pre .sheet))
+slice-aggregate-is-apart-4 : tie.Need-slice-aggregate-is-apart-4
+slice-aggregate-is-apart-4 c = let s = c .before .before .before .before .before .before .before .before in sym (extents-count _ (s .pre .sheet))
 
 is-apart-requires : tie.Need-is-apart-requires
-is-apart-requires c κs = let s = c .before .before .before .before .before .before .before .before .before .before .before in test-in (s .args .sheet) _ _ (s .pre)
+is-apart-requires c κs = let s = c .before .before .before .before .before .before .before .before in test-in _ _ _ (s .pre)
 
 returns : tie.Need-returns
-returns c = let s = c .before .before .before .before .before .before .before .before .before .before .before .before in test-out (s .args .sheet) (s .args .first) (s .args .second) (c .is-apart .result) (s .pre) (c .is-apart .ensures)
+returns c = let s = c .before .before .before .before .before .before .before .before .before in test-out _ (s .args .first) (s .args .second) (c .is-apart .result) (s .pre) (c .is-apart .ensures)
 
 pub is-apart-spec : {M : Type 1} → statement M
 is-apart-spec =
     tie.close
     (tie.spec
     slice-aggregate-is-apart
+    mul-is-apart
     slice-aggregate-is-apart-2
-    mul-words
-    array-share-prefix-words
-    slice-aggregate-is-apart-3
     array-share-prefix-owners
-    slice-aggregate-is-apart-4
+    slice-aggregate-is-apart-3
     mul-extents
     array-share-prefix-extents
-    slice-aggregate-is-apart-5
+    slice-aggregate-is-apart-4
     is-apart-requires
     returns)

@@ -6,20 +6,17 @@ use borrow.Author.Needs.{needs}
 use Rattle.sheet.proofs.number_accesses.Statement.{statement}
 use Rattle.sheet.proofs.number_accesses.Tie as tie
 
-mul-words : tie.Need-mul-words
-mul-words c = search needs
-
-array-share-prefix-words : tie.Need-array-share-prefix-words
-array-share-prefix-words c = search needs
+mul-number-accesses : tie.Need-mul-number-accesses
+mul-number-accesses c = search needs
 
 slice-aggregate-number-accesses : tie.Need-slice-aggregate-number-accesses
-slice-aggregate-number-accesses c = let s = c .before .before .before .before .before in sym (words-count (s .args .sheet) (s .pre .stray .sheet))
+slice-aggregate-number-accesses c = let s = c .before .before .before .before in sym (words-count _ (s .pre .stray .sheet))
 
 array-share-prefix-owners : tie.Need-array-share-prefix-owners
 array-share-prefix-owners c = search needs
 
 slice-aggregate-number-accesses-2 : tie.Need-slice-aggregate-number-accesses-2
-slice-aggregate-number-accesses-2 c = let s = c .before .before .before .before .before .before in sym (owners-count (s .args .sheet) (s .pre .stray .sheet))
+slice-aggregate-number-accesses-2 c = let s = c .before .before .before .before .before in sym (owners-count _ (s .pre .stray .sheet))
 
 mul-extents : tie.Need-mul-extents
 mul-extents c = search needs
@@ -28,23 +25,22 @@ array-share-prefix-extents : tie.Need-array-share-prefix-extents
 array-share-prefix-extents c = search needs
 
 slice-aggregate-number-accesses-3 : tie.Need-slice-aggregate-number-accesses-3
-slice-aggregate-number-accesses-3 c = let s = c .before .before .before .before .before .before .before .before in sym (extents-count (s .args .sheet) (s .pre .stray .sheet))
+slice-aggregate-number-accesses-3 c = let s = c .before .before .before .before .before .before .before in sym (extents-count _ (s .pre .stray .sheet))
 
 number-accesses-requires : tie.Need-number-accesses-requires
-number-accesses-requires c κs = let s = c .before .before .before .before .before .before .before .before .before in number-in (s .args .sheet) _ _ _ (s .pre)
+number-accesses-requires c κs = let s = c .before .before .before .before .before .before .before .before in number-in _ _ _ _ (s .pre)
 
 same-length : tie.Need-same-length
 same-length c = search needs
 
 returns : tie.Need-returns
-returns c = let s = c .before .before .before .before .before .before .before .before .before .before .before .before in number-out (s .args .sheet) (s .args .points .now) (s .args .count) _ (s .pre) (s .args .numbers .now) _ refl (c .before .before .number-accesses .ensures)
+returns c = let s = c .before .before .before .before .before .before .before .before .before .before .before in number-out _ (s .args .points .now) (s .args .count) _ (s .pre) (s .args .numbers .now) _ refl (c .before .before .number-accesses .ensures)
 
 pub number-accesses-spec : {M : Type 1} → statement M
 number-accesses-spec =
     tie.close
     (tie.spec
-    mul-words
-    array-share-prefix-words
+    mul-number-accesses
     slice-aggregate-number-accesses
     array-share-prefix-owners
     slice-aggregate-number-accesses-2

@@ -7,15 +7,11 @@ use Rattle.sheet.proofs.survey.Tie as tie
 slice-aggregate-survey : tie.Need-slice-aggregate-survey
 slice-aggregate-survey c = search needs
 
-slice-aggregate-survey-2 : tie.Need-slice-aggregate-survey-2
-slice-aggregate-survey-2 c = search needs
-
 survey-requires : tie.Need-survey-requires
 survey-requires c κs = search needs
 
 returns : tie.Need-returns
-returns c = let s = c .before .before .before .before .before in survey-out (s .args .sheet) (s .pre .0) (s .args .bound) (s .args .most) (c .survey .result) (c .survey .ensures)
+returns c = let s = c .before .before .before in survey-out _ (s .pre .0) (s .args .bound) (s .args .most) (c .survey .result) (c .survey .ensures)
 
 pub survey-spec : {M : Type 1} → statement M
-survey-spec =
-    tie.close (tie.spec slice-aggregate-survey slice-aggregate-survey-2 survey-requires returns)
+survey-spec = tie.close (tie.spec slice-aggregate-survey survey-requires returns)

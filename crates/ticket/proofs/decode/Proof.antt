@@ -1,7 +1,7 @@
 -- `decode`: each section from where the one before it ended, laid over zeros; the first refusal decides.
-use mathlib.Core.Path.{refl, sym}
+use mathlib.Core.Path.{refl, sym, _∙_}
 use native.Mathlib.Omega.{arith}
-use Rattle.ticket.proofs.DecodeLaws.{zeros-room, extents-used, arrays-in, decodes}
+use Rattle.ticket.proofs.DecodeLaws.{lent-room, extents-used, arrays-in, decodes}
 use borrow.Author.Needs.{needs}
 use Rattle.ticket.proofs.decode.Statement.{statement}
 use Rattle.ticket.proofs.decode.Tie as tie
@@ -9,11 +9,8 @@ use Rattle.ticket.proofs.decode.Tie as tie
 slice-aggregate-read-nest : tie.Need-slice-aggregate-read-nest
 slice-aggregate-read-nest c = search needs
 
-slice-aggregate-read-nest-2 : tie.Need-slice-aggregate-read-nest-2
-slice-aggregate-read-nest-2 c = search needs
-
 read-nest-requires : tie.Need-read-nest-requires
-read-nest-requires c κs = (record { counted = omega arith; there = omega arith }, zeros-room)
+read-nest-requires c κs = (record { counted = omega arith; there = omega arith }, lent-room _ _ (c .before .before .before .pre))
 
 slice-aggregate-read-arrays : tie.Need-slice-aggregate-read-arrays
 slice-aggregate-read-arrays c = search needs
@@ -42,13 +39,10 @@ slice-aggregate-read-body-4 c = search needs
 slice-aggregate-read-body-5 : tie.Need-slice-aggregate-read-body-5
 slice-aggregate-read-body-5 c = search needs
 
-slice-aggregate-read-body-6 : tie.Need-slice-aggregate-read-body-6
-slice-aggregate-read-body-6 c = search needs
-
 read-body-requires : tie.Need-read-body-requires
 read-body-requires c κs = let n = c .before .before .before .before .before .before .before .before .before .before .before .read-nest .ensures in
     let a = c .before .before .before .before .before .before .before .read-arrays .ensures in
-    (record { reached = a .reads .reached; shallow = omega (arith, n .shallow); arrays = arrays-in _ _ _ _ a; words = refl; owners = refl }, refl, refl, refl)
+    (record { reached = a .reads .reached; shallow = omega (arith, n .shallow); arrays = arrays-in _ _ _ _ a; words = c .before .before .before .before .before .before .before .before .before .before .before .before .before .before .before .pre .words-length; owners = refl }, refl, refl, refl)
 
 read-steps-requires : tie.Need-read-steps-requires
 read-steps-requires c κs = search needs
@@ -65,9 +59,15 @@ first-of-requires-3 c κs = search needs
 end-of-requires : tie.Need-end-of-requires
 end-of-requires c κs = search needs
 
+same-length : tie.Need-same-length
+same-length c = c .before .before .before .before .before .before .before .before .before .before .before .before .before .before .before .before .before .before .before .before .before .before .before .read-nest .ensures .room .words ∙ sym (c .before .before .before .before .before .before .before .before .before .before .before .before .before .before .before .before .before .before .before .before .before .before .before .before .before .before .before .pre .limits-length)
+
+same-length-2 : tie.Need-same-length-2
+same-length-2 c = search needs
+
 returns : tie.Need-returns
 returns c = let k = c .before .before .before .before .before .before .before .before .before .before .before .read-body .kept in
-    decodes _ _ (c .before .before .before .before .before .before .before .before .before .before .before .before .before .before .before .before .before .before .before .before .before .before .before .read-nest .result) (c .before .before .before .before .before .before .before .before .before .before .before .before .before .before .before .before .before .before .before .read-arrays .result) (c .before .before .before .before .before .before .before .before .before .before .before .read-body .result) (c .before .before .before .before .before .read-steps .result)
+    decodes _ _ _ (c .before .before .before .before .before .before .before .before .before .before .before .before .before .before .before .before .before .before .before .before .before .before .before .before .before .before .before .pre) _ _ _ (c .before .before .before .before .before .before .before .before .before .before .before .before .before .before .before .before .before .before .before .before .before .before .before .read-nest .result) (c .before .before .before .before .before .before .before .before .before .before .before .before .before .before .before .before .before .before .before .read-arrays .result) (c .before .before .before .before .before .before .before .before .before .before .before .read-body .result) (c .before .before .before .before .before .read-steps .result)
     (c .before .before .before .before .before .before .before .before .before .before .before .before .before .before .before .before .before .before .before .before .before .before .before .read-nest .ensures) (c .before .before .before .before .before .before .before .before .before .before .before .before .before .before .before .before .before .before .before .read-arrays .ensures) (c .before .before .before .before .before .before .before .before .before .before .before .read-body .ensures) (c .before .before .before .before .before .read-steps .ensures) refl refl refl refl _ _ _ _
     (c .before .before .before .before .first-of .ensures) (c .before .before .before .first-of2 .ensures) (c .before .before .first-of3 .ensures) (c .before .end-of .ensures)
     (k .1 .1 .1 .1 .1 .1 .1 .0) (k .1 .1 .1 .1 .1 .1 .1 .1 .0) (k .1 .1 .1 .1 .1 .1 .1 .1 .1 .0) (k .1 .1 .1 .1 .1 .1 .0)
@@ -77,7 +77,6 @@ decode-spec =
     tie.close
     (tie.spec
     slice-aggregate-read-nest
-    slice-aggregate-read-nest-2
     read-nest-requires
     slice-aggregate-read-arrays
     read-arrays-requires
@@ -88,11 +87,12 @@ decode-spec =
     slice-aggregate-read-body-3
     slice-aggregate-read-body-4
     slice-aggregate-read-body-5
-    slice-aggregate-read-body-6
     read-body-requires
     read-steps-requires
     first-of-requires
     first-of-requires-2
     first-of-requires-3
     end-of-requires
+    same-length
+    same-length-2
     returns)

@@ -17,14 +17,26 @@ enum-known-status c = search needs
 refused-requires : tie.Need-refused-requires
 refused-requires c κs = search needs
 
+same-length : tie.Need-same-length
+same-length c = search needs
+
+same-length-2 : tie.Need-same-length-2
+same-length-2 c = search needs
+
 returns : tie.Need-returns
-returns c = let r = c .before .before .before .before .before .receive in let q = c .before .before .status .given .1 in not-admitted _ _ _ (r .result) (not-received _ (r .result) (r .ensures) _ q) _ q (c .refused .result) (c .refused .ensures)
+returns c = let r = c .before .before .before .before .before .before .before .receive in let q = c .before .before .status .given .1 in not-admitted _ _ _ (r .result) _ _ (not-received _ (r .result) _ _ (r .ensures) _ q) _ q (c .refused .result) (c .refused .ensures)
 
 slice-aggregate-decide-by : tie.Need-slice-aggregate-decide-by
 slice-aggregate-decide-by c = search needs
 
 decide-by-requires : tie.Need-decide-by-requires
-decide-by-requires c κs = let r = c .before .before .before .before .before .before .receive in waits-few _ (r .result) (r .ensures) (c .before .before .before .enum-told .given .1) (c .before .if1 .taken)
+decide-by-requires c κs = let r = c .before .before .before .before .before .before .before .before .before .before .receive in waits-few _ (r .result) _ _ (r .ensures) (c .before .before .before .before .before .enum-told .given .1) (c .before .before .before .if1 .taken)
+
+same-length-3 : tie.Need-same-length-3
+same-length-3 c = search needs
+
+same-length-4 : tie.Need-same-length-4
+same-length-4 c = search needs
 
 returns-2 : tie.Need-returns-2
 returns-2 c = search needs
@@ -33,7 +45,13 @@ slice-aggregate-decide-by-2 : tie.Need-slice-aggregate-decide-by-2
 slice-aggregate-decide-by-2 c = search needs
 
 decide-by-requires-2 : tie.Need-decide-by-requires-2
-decide-by-requires-2 c κs = let r = c .before .before .before .before .before .before .receive in waits _ (r .result) (r .ensures) (c .before .before .before .enum-told .given .1)
+decide-by-requires-2 c κs = let r = c .before .before .before .before .before .before .before .before .before .before .receive in waits _ (r .result) _ _ (r .ensures) (c .before .before .before .before .before .enum-told .given .1)
+
+same-length-5 : tie.Need-same-length-5
+same-length-5 c = search needs
+
+same-length-6 : tie.Need-same-length-6
+same-length-6 c = search needs
 
 returns-3 : tie.Need-returns-3
 returns-3 c = search needs
@@ -46,10 +64,16 @@ decide-spec =
     enum-told
     enum-known-status
     refused-requires
+    same-length
+    same-length-2
     returns
     slice-aggregate-decide-by
     decide-by-requires
+    same-length-3
+    same-length-4
     returns-2
     slice-aggregate-decide-by-2
     decide-by-requires-2
+    same-length-5
+    same-length-6
     returns-3)

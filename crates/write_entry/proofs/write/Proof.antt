@@ -1,11 +1,18 @@
 -- `write`: the verdict, then the encoder.
+use Rattle.ticket.proofs.DecodeLaws.{zeros-lent}
 use Rattle.write_entry.proofs.EntryLaws.{write-refused, encodable, write-complete, write-short}
 use borrow.Author.Needs.{needs}
 use Rattle.write_entry.proofs.write.Statement.{statement}
 use Rattle.write_entry.proofs.write.Tie as tie
 
+slice-aggregate-decide : tie.Need-slice-aggregate-decide
+slice-aggregate-decide c = search needs
+
+slice-aggregate-decide-2 : tie.Need-slice-aggregate-decide-2
+slice-aggregate-decide-2 c = search needs
+
 decide-requires : tie.Need-decide-requires
-decide-requires c κs = search needs
+decide-requires c κs = zeros-lent
 
 enum-told : tie.Need-enum-told
 enum-told c = search needs
@@ -14,10 +21,16 @@ enum-known-status : tie.Need-enum-known-status
 enum-known-status c = search needs
 
 returns : tie.Need-returns
-returns c = let d = c .before .before .before .decide in write-refused _ (d .result) (d .ensures) _ _ (c .before .status .given .1)
+returns c = let d = c .before .before .before .before .before .decide in write-refused _ (d .result) _ _ (d .ensures) _ _ (c .before .status .given .1)
+
+slice-aggregate-encode-sheet : tie.Need-slice-aggregate-encode-sheet
+slice-aggregate-encode-sheet c = search needs
+
+slice-aggregate-encode-sheet-2 : tie.Need-slice-aggregate-encode-sheet-2
+slice-aggregate-encode-sheet-2 c = search needs
 
 encode-sheet-requires : tie.Need-encode-sheet-requires
-encode-sheet-requires c κs = let d = c .before .before .before .before .decide in encodable _ (d .result) (d .ensures) (c .before .before .before .before .before .before .before .args .out .now) (c .before .before .enum-told .given .1)
+encode-sheet-requires c κs = let d = c .before .before .before .before .before .before .before .before .decide in encodable _ (d .result) _ _ (d .ensures) (c .before .before .before .before .before .before .before .before .before .before .before .before .before .args .out .now) (c .before .before .before .before .enum-told .given .1)
 
 enum-known-n : tie.Need-enum-known-n
 enum-known-n c = search needs
@@ -29,22 +42,26 @@ same-length : tie.Need-same-length
 same-length c = search needs
 
 returns-2 : tie.Need-returns-2
-returns-2 c = let d = c .before .before .before .before .before .before .before .before .before .before .decide in let g = c .before .before .before .before .before .encode-sheet in write-complete _ (d .result) (d .ensures) _ (c .before .before .before .before .before .before .before .before .enum-told .given .1) _ (g .result) (g .ensures) _ (c .before .n .given .1)
+returns-2 c = let d = c .before .before .before .before .before .before .before .before .before .before .before .before .before .before .decide in let g = c .before .before .before .before .before .encode-sheet in write-complete _ (d .result) _ _ (d .ensures) _ (c .before .before .before .before .before .before .before .before .before .before .enum-told .given .1) _ (g .result) (g .ensures) _ (c .before .n .given .1)
 
 same-length-2 : tie.Need-same-length-2
 same-length-2 c = search needs
 
 returns-3 : tie.Need-returns-3
-returns-3 c = let d = c .before .before .before .before .before .before .before .before .before .decide in let g = c .before .before .before .before .encode-sheet in write-short _ (d .result) (d .ensures) _ (c .before .before .before .before .before .before .before .enum-told .given .1) _ (g .result) (g .ensures) _ (c .enum-told2 .given .1)
+returns-3 c = let d = c .before .before .before .before .before .before .before .before .before .before .before .before .before .decide in let g = c .before .before .before .before .encode-sheet in write-short _ (d .result) _ _ (d .ensures) _ (c .before .before .before .before .before .before .before .before .before .enum-told .given .1) _ (g .result) (g .ensures) _ (c .enum-told2 .given .1)
 
 pub write-spec : {M : Type 1} → statement M
 write-spec =
     tie.close
     (tie.spec
+    slice-aggregate-decide
+    slice-aggregate-decide-2
     decide-requires
     enum-told
     enum-known-status
     returns
+    slice-aggregate-encode-sheet
+    slice-aggregate-encode-sheet-2
     encode-sheet-requires
     enum-known-n
     enum-told-2
