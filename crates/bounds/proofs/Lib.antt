@@ -1,4 +1,5 @@
 -- Laws that the crate's contracts need.
+pub mod FlatLaws
 pub mod LimitLaws
 pub mod SideLaws
 pub mod RangeLaws

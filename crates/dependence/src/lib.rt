@@ -71,7 +71,7 @@ fn first_like(
 // ---- all accesses
 
 // The kind of a source access and a sink access: 0 is flow, 1 is anti, 2 is output, and 3 is two reads.
-fn kind(source: bool, sink: bool) -> usize
+pub fn kind(source: bool, sink: bool) -> usize
     ensures { λ r. ⌜ r ≡ kindOf source sink ⌝ }
 {
     if source {
@@ -87,7 +87,7 @@ fn kind(source: bool, sink: bool) -> usize
 }
 
 // Where the marks of a source statement, a sink statement and a kind begin.
-fn block(body: usize, s: usize, t: usize, k: usize) -> usize
+pub fn block(body: usize, s: usize, t: usize, k: usize) -> usize
     requires { ⌜ (body * body * 2187 < 2 ^ 64) × (s < body) × (t < body) × (k < 3) ⌝ }
     ensures { λ r. ⌜ (r ≡ placeOf body s t k 0) × (r + 729 ≤ body * body * 2187) ⌝ }
 {

@@ -64,7 +64,7 @@ outside-at (n ∷ ns) [] e d h g = absurd (omega arith)
 outside-at (n ∷ ns) (x ∷ xs) e zero h g = or-both (off n x) (outside ns xs) e .0
 outside-at (n ∷ ns) (x ∷ xs) e (suc d) h g = outside-at ns xs (or-both (off n x) (outside ns xs) e .1) d (omega arith) (omega arith)
 
-forms-getD : (f : Subscript → ℤ) (w : List ℤ) (n j m d : ℕ) → d < m → getD (map f (formsFrom w n j m)) d (pos 0) ≡ f (formAt w n (j + d))
+pub forms-getD : (f : Subscript → ℤ) (w : List ℤ) (n j m d : ℕ) → d < m → getD (map f (formsFrom w n j m)) d (pos 0) ≡ f (formAt w n (j + d))
 unfolding formsFrom
 forms-getD f w n j zero d h = absurd (omega arith)
 forms-getD f w n j (suc m) zero h = ap (λ (k : ℕ). f (formAt w n k)) (sym (add-zero j))

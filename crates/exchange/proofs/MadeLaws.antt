@@ -2,13 +2,11 @@
 use mathlib.Core.Path.{_≡_, refl, sym, ap, _∙_, subst}
 use mathlib.Core.Bool.{true, _&&_}
 use mathlib.Core.List.{List, [], _∷_, _++_, List·Memᴰ·head, List·Memᴰ·tail, Memᴰ·append-right}
-use Prim.Native.Nat.{ℕ, zero, suc, _+_, _*_, _≤_, _<_}
+use Prim.Native.Nat.{ℕ, zero, suc, _+_, _≤_, _<_}
 use native.Mathlib.Omega.{arith}
 use lib.Dec.{T, leb, leb→le}
-use lib.IntN.{ℤ, pos, negsuc, natAbs}
-use lib.Signed.{_<ℤ_}
-use lib.ListN.{length, getD, replicate, length-replicate}
-use Rattle.integers.proofs.DifferenceLaws.{lt-nat}
+use lib.IntN.{ℤ, natAbs}
+use lib.ListN.{length, replicate, length-replicate}
 use Rattle.lists.specs.Membership.{All}
 use Rattle.lists.specs.Place.{under}
 use Rattle.lists.specs.Tests.{all}
@@ -22,32 +20,15 @@ use Rattle.model.specs.Limits.{newOuter, newInner, tidy, exchangeAt, loopsAfter
 use Rattle.model.specs.Ranges.{LimitRanges, LoopRanges}
 use Rattle.model.specs.Shape.{Runs}
 use Rattle.model.proofs.Steps.RunsLaws.{runs-after}
-use Rattle.bounds.specs.Flat.{limitAt, limitsAt, loopAt, Positive}
-use Rattle.sides.proofs.FlatLaws.{limits-length, limits-all}
+use Rattle.bounds.specs.Flat.{loopAt}
+use Rattle.bounds.proofs.FlatLaws.{loop-runs}
 use Rattle.limits.specs.Words.{LoopOk}
 use Rattle.exchange.specs.Pair.{PairIn, outerOf, innerOf, fewIn}
 
 -- ---- limits on both sides, with positive multipliers
 
-some : (s : List ℤ) (n j m : ℕ) → 1 ≤ m → limitsAt s n j m ≡ [] → ⊥
-some s n j m h e = let k = limits-length s n j m in let z : length (limitsAt s n j m) ≡ 0 = ap length e in omega arith
-
-size-positive : (z : ℤ) → pos 0 <ℤ z → 0 < natAbs z
-size-positive (pos n) h = let u = lt-nat (pos 0) (pos n) h in omega arith
-size-positive (negsuc n) h = let u = lt-nat (pos 0) (negsuc n) h in absurd (omega arith)
-
-positive : (s : List ℤ) (n j m : ℕ) → Positive s j m → All (λ (l : Model.Limit). 0 < l .multiplier) (limitsAt s n j m)
-unfolding limitAt
-positive s n j m p = limits-all (λ (l : Model.Limit). 0 < l .multiplier) s n j m (λ i h. size-positive (getD s ((j + i) * 8) (pos 0)) (p i h))
-
-loop-runs : (s : List ℤ) (c : List ℕ) (k : ℕ) → LoopOk s c k → Runs (loopAt s c k)
-unfolding loopAt
-loop-runs s c k o = record {
-  some-lower = some s k (k * 32) (getD c (k * 2) 0) (o .lower-count .0);
-  some-upper = some s k (k * 32 + 16) (getD c (k * 2 + 1) 0) (o .upper-count .0);
-  positive-lower = positive s k (k * 32) (getD c (k * 2) 0) (o .lower-positive);
-  positive-upper = positive s k (k * 32 + 16) (getD c (k * 2 + 1) 0) (o .upper-positive);
-}
+runs : (s : List ℤ) (c : List ℕ) (k : ℕ) → LoopOk s c k → Runs (loopAt s c k)
+runs s c k o = loop-runs s c k (o .lower-count .0) (o .upper-count .0) (o .lower-positive) (o .upper-positive)
 
 -- the law on a whole nest, for one whose loops outside are as I
 module _ (a : ℕ) (I J : Model.Loop) (i : Runs I) (j : Runs J) where
@@ -115,8 +96,8 @@ module _ (s : List ℤ) (c : List ℕ) (a : ℕ) (p : PairIn s c a) where
 
   pub outer-ranges : fewIn (outerOf s c a) ≡ true → smallLoop (outerOf s c a) ≡ true → LoopRanges 16 (outerOf s c a)
   unfolding outerOf
-  outer-ranges f h = loop-ranges (tidy (newOuter a I J)) (outer-runs a I J (loop-runs s c a (p .outer)) (loop-runs s c (a + 1) (p .inner))) f h
+  outer-ranges f h = loop-ranges (tidy (newOuter a I J)) (outer-runs a I J (runs s c a (p .outer)) (runs s c (a + 1) (p .inner))) f h
 
   pub inner-ranges : fewIn (innerOf s c a) ≡ true → smallLoop (innerOf s c a) ≡ true → LoopRanges 16 (innerOf s c a)
   unfolding innerOf
-  inner-ranges f h = loop-ranges (tidy (newInner a I J)) (inner-runs a I J (loop-runs s c a (p .outer)) (loop-runs s c (a + 1) (p .inner))) f h
+  inner-ranges f h = loop-ranges (tidy (newInner a I J)) (inner-runs a I J (runs s c a (p .outer)) (runs s c (a + 1) (p .inner))) f h

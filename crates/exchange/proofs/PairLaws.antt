@@ -18,7 +18,7 @@ use Rattle.model.specs.Limits.{widened, outerCoefficient, outerPart, newOuter, 
 use Rattle.bounds.specs.Flat.{limitsAt, loopAt}
 use Rattle.nest.specs.Laid.{layLimits, layLoop, layCount}
 use Rattle.sides.specs.Filling.{Holds, SidePut}
-use Rattle.sides.proofs.FlatLaws.{limits-length}
+use Rattle.bounds.proofs.FlatLaws.{limits-length}
 use Rattle.sides.proofs.PutLaws.{untrue}
 use Rattle.limits.specs.Words.{LoopOk}
 use Rattle.exchange.specs.declared.Span.{Span}

@@ -221,3 +221,25 @@ pub fn ranges(nest: &[i16], counts: &[usize], n: usize) -> [Range; 6]
     }
     r
 }
+
+// The same, each range from those of the loops before it: one pass over the loops.
+pub fn ranges_in_turn(nest: &[i16], counts: &[usize], n: usize) -> [Range; 6]
+    requires { ⌜ NestOk (now nest) (now counts) n ⌝ }
+    ensures { λ r. ⌜ RangesAre (now (nest .entry)) (now (counts .entry)) n r ⌝ }
+{
+    let mut r = [Range {
+        least: 0,
+        greatest: 0,
+    }; 6];
+    let mut i = 0;
+    while i < n {
+        let least = least_over(nest, counts, i, r);
+        let greatest = greatest_over(nest, counts, i, r);
+        r[i] = Range {
+            least: least.value,
+            greatest: greatest.value,
+        };
+        i += 1;
+    }
+    r
+}

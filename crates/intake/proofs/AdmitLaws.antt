@@ -12,6 +12,7 @@ use Rattle.model.specs.Grammar.{decode}
 use Rattle.model.specs.Points.{iterations}
 use Rattle.model.specs.Bounds.{space, inArrays, admitted}
 use Rattle.model.specs.Judge.{admit}
+use Rattle.model.proofs.Verdict.VerdictLaws.{admitted-accepted}
 use Rattle.space.proofs.ListLaws.{admitted-few}
 use Rattle.reading.specs.declared.Refusal.{Refusal}
 use Rattle.reading.specs.declared.Status.{Status}
@@ -56,9 +57,18 @@ module _ (b : List ℕ) (q : Intake) (l w : List ℤ) (h : Receives b q l w) whe
     room = refl;
   }
 
+  -- refusal 9 passed, however that was found
+  pub admitted-too : q .status ≡ Fine → admitted (Sheet.nestOf (sheetOf (q .outline) l w)) ≡ accepted tt → admit b ≡ accepted (ticketOn (sheetOf (q .outline) l w) (q .steps))
+  unfolding ticketOn _>>_ _>>=_
+  admitted-too f a =
+      by-status Fine f ∙ ap (_>> accepted (ticketOn (sheetOf (q .outline) l w) (q .steps))) (admitted-accepted (Sheet.nestOf (sheetOf (q .outline) l w)) a .1)
+
   -- ---- room for the points
 
   module _ (f : q .status ≡ Fine) where
+    pub waits-fewest : q .count ≤ 32 → Waits b q l w 128
+    waits-fewest n = record { receives = h; fine = f; fits = omega arith }
+
     pub waits-few : q .count ≤ 256 → Waits b q l w 1024
     waits-few n = record { receives = h; fine = f; fits = omega arith }
 

@@ -161,11 +161,14 @@ fn judge_steps(
 
 // ---- the new nest
 
-// Refusal 13.
+// Refusal 13: by the ranges of the loops, or by the points.
 fn survey_new(outline: Outline, limits: &[i16], words: &[i16]) -> Status
     requires { ⌜ SheetIn (sheetOf outline (now limits) (now words)) ⌝ }
     ensures { λ r. ⌜ SurveyedNew (sheetOf outline (now (limits .entry)) (now (words .entry))) r ⌝ }
 {
+    if enclosure::stays_compact(outline, limits, words) {
+        return Status::Fine;
+    }
     match sheet::survey(outline, limits, words, 100000, 65536) {
         Verdict::Admitted(_) => Status::Fine,
         Verdict::FarIndex(k) => Status::Refused(Refusal::NewNestTooLarge(k)),

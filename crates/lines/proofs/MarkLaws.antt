@@ -40,7 +40,7 @@ use Rattle.dependence.proofs.UseLaws.{uses-of}
 use Rattle.listing_text.specs.Text.{marked, shown, text}
 use Rattle.listing_text.proofs.IndexLaws.{count-small}
 use Rattle.sheet.specs.Sheets.{Sheet, sizesIn, statementsFrom, nestOf, SheetIn}
-use Rattle.sheet.specs.Stages.{PointsAre, NumberIn, NumbersAre, noAccess, accessOf}
+use Rattle.sheet.specs.Stages.{NumberIn, NumbersAre, noAccess, accessOf}
 use Rattle.sheet.proofs.SheetLaws.{access-count, sizes-count}
 use Rattle.sheet.proofs.StageLaws.{depth-is, access-valid}
 use Rattle.lines.specs.declared.Uses.{Uses}
@@ -81,11 +81,11 @@ module _ (P : Sheet) (h : SheetIn P) where
   unfolding nestOf
   statement-count = statements-length P 0 0 (sizesIn P) ∙ sizes-count P h
 
-  use-access : (k : ℕ) → useAt ss k .access ≡ accessOf (nestOf P) k
+  pub use-access : (k : ℕ) → useAt ss k .access ≡ accessOf (nestOf P) k
   unfolding useAt allAccesses
   use-access k = sym (List·getD-map (λ (u : Use). u .access) (uses ss) k noUse) ∙ ap (λ (l : List Access). getD l k noAccess) (use-accesses 0 ss)
 
-  use-count : length (uses ss) ≡ P .accesses
+  pub use-count : length (uses ss) ≡ P .accesses
   unfolding allAccesses
   use-count = sym (length-map (uses ss) (λ (u : Use). u .access)) ∙ ap length (use-accesses 0 ss) ∙ access-count P h
 
@@ -97,7 +97,7 @@ module _ (P : Sheet) (h : SheetIn P) where
   writes-count r u = let l = u .writes-length in let f = h .few-accesses in length-take-le (P .accesses) (r .writes) (omega arith)
 
 -- tests that agree on the members
-select-same : (t u : Line → Bool) (l : List Line) → ((x : Line) → Mem x l → t x ≡ u x) → select t l ≡ select u l
+pub select-same : (t u : Line → Bool) (l : List Line) → ((x : Line) → Mem x l → t x ≡ u x) → select t l ≡ select u l
 unfolding select
 select-same t u [] h = refl
 select-same t u (x ∷ l) h = rw (h x (List·Memᴰ·head refl), select-same t u l (λ y m. h y (List·Memᴰ·tail m)))
@@ -205,8 +205,8 @@ module _ (P : Sheet) (points : List ℤ) (n : ℕ) (marks : List Bool) (h : Line
 
 -- ---- the text
 
-pub listing-is : (P : Sheet) (points : List ℤ) (n : ℕ) (marks : List Bool) → PointsAre P points n → LinesAre P marks → text marks (P .statements) (P .depth) n ≡ listing (nestOf P)
+pub listing-is : (P : Sheet) (n : ℕ) (marks : List Bool) → n ≡ length (iterations (nestOf P .loops)) → LinesAre P marks → text marks (P .statements) (P .depth) n ≡ listing (nestOf P)
 unfolding text listing
-listing-is P points n marks p l =
-    ap₂ (λ (d k : ℕ). headText d k (length (shown marks (P .statements) (P .depth))) ++ flatMap lineText (shown marks (P .statements) (P .depth))) (sym (depth-is P)) (p .count)
+listing-is P n marks c l =
+    ap₂ (λ (d k : ℕ). headText d k (length (shown marks (P .statements) (P .depth))) ++ flatMap lineText (shown marks (P .statements) (P .depth))) (sym (depth-is P)) c
     ∙ ap (λ (ls : List Line). headText (length (nestOf P .loops)) (length (iterations (nestOf P .loops))) (length ls) ++ flatMap lineText ls) (l .lines)

@@ -30,7 +30,7 @@ fn enter(statements: &mut [usize], writes: &mut [bool], first: usize, size: usiz
 }
 
 // The first accesses of all are those of the first statement, and so on.
-fn uses_of(outline: Outline, limits: &[i16], words: &[i16]) -> Uses
+pub fn uses_of(outline: Outline, limits: &[i16], words: &[i16]) -> Uses
     requires { ⌜ SheetIn (sheetOf outline (now limits) (now words)) ⌝ }
     ensures { λ r. ⌜ UsesAre (sheetOf outline (now (limits .entry)) (now (words .entry))) r ⌝ }
 {

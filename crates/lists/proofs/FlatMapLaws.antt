@@ -3,7 +3,8 @@
 use mathlib.Core.Path.{_≡_, refl, sym, ap, ap₂, _∙_, subst}
 use mathlib.Core.Logic.{_⊎_, inl, inr, ⊎-elim, _↔_}
 use mathlib.Core.List.{List, [], _∷_, _++_, map, foldr, flatMap, append-assoc, append-nil, map-append, List·Memᴰ·head, List·Memᴰ·tail, List·Memᴰ·append-cases, List·Memᴰ·not-nil, Memᴰ·append-left, Memᴰ·append-right, Memᴰ·cast}
-use Prim.Native.Nat.{ℕ, _+_, _*_}
+use Prim.Native.Nat.{ℕ, _+_, _*_, _≤_}
+use native.Mathlib.Omega.{arith}
 use native.Mathlib.Nat.{add-comm, suc-mul, zero-mul}
 use lib.ListN.{length, length-append}
 use Rattle.lists.specs.Membership.{Mem, All, Distinct}
@@ -88,6 +89,12 @@ module _ {A B : Type 0} (f : A → List B) where
   length-flatMap-even n (x ∷ l) h =
       length-append (f x) (flatMap f l) ∙ ap₂ _+_ (h x (List·Memᴰ·head refl)) (length-flatMap-even n l (λ y m. h y (List·Memᴰ·tail m)))
       ∙ add-comm n (length l * n) ∙ sym (suc-mul (length l) n)
+
+  -- parts of a length at most
+  pub length-flatMap-most : (n : ℕ) (l : List A) → ((x : A) → Mem x l → length (f x) ≤ n) → length (flatMap f l) ≤ length l * n
+  unfolding flatMap
+  length-flatMap-most n [] h = omega arith
+  length-flatMap-most n (x ∷ l) h = omega (arith, length-append (f x) (flatMap f l), h x (List·Memᴰ·head refl), length-flatMap-most n l (λ y m. h y (List·Memᴰ·tail m)), suc-mul (length l) n)
 
   -- ---- what holds of every part, and between two
 

@@ -67,6 +67,26 @@ fn quick_by(
     test(outline, limits, words, first, second)
 }
 
+// The same of many points: without them, where the ranges of the loops show that refusal 9 is passed.
+fn quick_many(
+    ticket: &[u8],
+    all: Intake,
+    limits: &[i16],
+    words: &[i16],
+    first: usize,
+    second: usize,
+) -> Tested
+    requires { ⌜ Waits (now ticket) all (now limits) (now words) 16384 ⌝ }
+    ensures { λ r. ⌜ answerOf r ≡ Entries.quick (now (ticket .entry)) first second ⌝ }
+{
+    let outline = all.outline;
+    if enclosure::stays_inside(outline, limits, words) {
+        return test(outline, limits, words, first, second);
+    }
+    let mut points = [0i64; 16384];
+    quick_by(ticket, all, limits, words, &mut points, first, second)
+}
+
 // Judges 1 to 9, then the two access numbers, from 1. Few points have fewer indices to clear. 'Apart' means that the two accesses never meet (model, Demands: apart-never-meet).
 pub fn quick(ticket: &[u8], first: usize, second: usize) -> Tested
     ensures { λ r. ⌜ answerOf r ≡ Entries.quick (now (ticket .entry)) first second ⌝ }
@@ -83,6 +103,5 @@ pub fn quick(ticket: &[u8], first: usize, second: usize) -> Tested
         let mut few = [0i64; 1024];
         return quick_by(ticket, all, &limits, &words, &mut few, first, second);
     }
-    let mut points = [0i64; 16384];
-    quick_by(ticket, all, &limits, &words, &mut points, first, second)
+    quick_many(ticket, all, &limits, &words, first, second)
 }

@@ -21,14 +21,17 @@ use Rattle.reading.specs.declared.Status.{Status}
 use Rattle.reading.specs.declared.Status.the-variants as Status
 use Rattle.reading.specs.Refusals.{refusal}
 use Rattle.ticket.specs.Ticket.{ticketOn, decoded}
-use Rattle.sheet.specs.Sheets.{Sheet, sheetOf, nestOf}
+use Rattle.sheet.specs.Sheets.{Sheet, sheetOf, nestOf, SheetIn}
 use Rattle.intake.specs.declared.Intake.{Intake}
 use Rattle.intake.specs.declared.Answer.{Answer}
 use Rattle.intake.specs.declared.Answer.the-variants.{Refused}
-use Rattle.intake.specs.Intake.{Admits}
+use Rattle.intake.specs.Intake.{Laid, Admits}
+use Rattle.intake.proofs.AdmitLaws.{admitted-too}
 use Rattle.intake.specs.Answers.{Hands}
 use Rattle.judgement.specs.declared.Judged.{Judged}
 use Rattle.judgement.specs.Judgement.{judgedAs, Judges}
+use Rattle.verdict.specs.Verdicts.{Judgeable}
+use Rattle.directions.specs.declared.DirectionSet.{DirectionSet}
 use Rattle.execution.specs.Execution.{opaqueAt, Executable}
 use Rattle.execution.proofs.AcceptedLaws.{new-count, new-arrays, new-executable}
 use Rattle.judged_run.specs.Outcomes.{tested, outcome, RunIn}
@@ -59,17 +62,21 @@ module _ (b w : List ℕ) where
 -- ---- the entry
 
 module _ (b w : List ℕ) (o e : List ℤ) (q : Intake) (l m : List ℤ) (h : Admits b o e q l m) where
+  pub not-admitted : (r : Refusal) → q .status ≡ Status.Refused r → Hands (runEntry b w) (Refused r) w
+  not-admitted r z = judgement-refused b w r (refused-judged b (sym (h .same) ∙ ap (λ (x : Status). decoded x (ticketOn (sheetOf (q .outline) l m) (q .steps))) z))
+
+module _ (b w : List ℕ) (q : Intake) (l m : List ℤ) (d : DirectionSet) (h : Judgeable b q l m d) where
   -- the ticket's own sheet
   abbrev own : Sheet
   own = sheetOf (q .outline) l m
 
-  admit-is : (s : Status) → q .status ≡ s → admit b ≡ decoded s (ticketOn own (q .steps))
-  admit-is s z = sym (h .same) ∙ ap (λ (x : Status). decoded x (ticketOn own (q .steps))) z
+  laid : Laid own (q .steps) (q .count)
+  laid = h .receives .laid (h .fine)
 
-  pub not-admitted : (r : Refusal) → q .status ≡ Status.Refused r → Hands (runEntry b w) (Refused r) w
-  not-admitted r z = judgement-refused b w r (refused-judged b (admit-is (Status.Refused r) z))
+  pub sheet-in : SheetIn own
+  sheet-in = laid .sheet
 
-  module _ (z : q .status ≡ Status.Fine) (r : Judged) (l′ m′ : List ℤ) (g : Judges own (q .steps) r l′ m′) where
+  module _ (r : Judged) (l′ m′ : List ℤ) (g : Judges own (q .steps) r l′ m′) where
     abbrev new : Nest
     new = nestOf (sheetOf (r .outline) l′ m′)
 
@@ -80,7 +87,7 @@ module _ (b w : List ℕ) (o e : List ℤ) (q : Intake) (l m : List ℤ) (h : Ad
     judge-is s y = sym (g .same) ∙ ap (λ (x : Status). judgedAs x whole) y
 
     judged-is : judged b ≡ judgeTicket (ticketOn own (q .steps))
-    judged-is = admitted-judged b (admit-is Status.Fine z)
+    judged-is = admitted-judged b (admitted-too b q l m (h .receives) (h .fine) (h .admitted-is))
 
     pub not-judged : (x : Refusal) → r .status ≡ Status.Refused x → Hands (runEntry b w) (Refused x) w
     not-judged x y = judgement-refused b w x (judged-is ∙ judge-is (Status.Refused x) y)
@@ -88,13 +95,13 @@ module _ (b w : List ℕ) (o e : List ℤ) (q : Intake) (l m : List ℤ) (h : Ad
     module _ (y : r .status ≡ Status.Fine) where
       pub run-in : (t : ℕ) → t ≡ total (nestOf own .arrays) → RunIn t (sheetOf (r .outline) l′ m′) (q .count)
       unfolding ticketOn
-      run-in n f = let t = h .taken z in record {
+      run-in n f = record {
         sheet = g .fine y .sheet;
-        executable = new-executable (ticketOn own (q .steps)) (t .ranges) (t .formed) (t .admitted-is) whole (judge-is Status.Fine y);
-        all-elements = f ∙ sym (ap total (new-arrays (ticketOn own (q .steps)) (t .ranges) (t .formed) (t .admitted-is) whole (judge-is Status.Fine y)));
-        counted = t .points-are .count ∙ sym (new-count (ticketOn own (q .steps)) (t .ranges) (t .formed) (t .admitted-is) whole (judge-is Status.Fine y));
+        executable = new-executable (ticketOn own (q .steps)) (laid .ranges) (laid .formed) (h .admitted-is) whole (judge-is Status.Fine y);
+        all-elements = f ∙ sym (ap total (new-arrays (ticketOn own (q .steps)) (laid .ranges) (laid .formed) (h .admitted-is) whole (judge-is Status.Fine y)));
+        counted = laid .count ∙ sym (new-count (ticketOn own (q .steps)) (laid .ranges) (laid .formed) (h .admitted-is) whole (judge-is Status.Fine y));
       }
 
       pub handed : (k t : ℕ) → opaqueAt k ≡ transparent 1 (nestOf own .statements) → t ≡ total (nestOf own .arrays) → (a : Answer) (v : List ℕ) → Hands (outcome (tested k t w) (q .count) new w) a v → Hands (runEntry b w) a v
       unfolding ticketOn
-      handed k t f i a v = subst (λ (x : Outcome). Hands x a v) (sym (judgement-passes b w whole (judged-is ∙ judge-is Status.Fine y) k t (q .count) f i (h .taken z .points-are .count)))
+      handed k t f i a v = subst (λ (x : Outcome). Hands x a v) (sym (judgement-passes b w whole (judged-is ∙ judge-is Status.Fine y) k t (q .count) f i (laid .count)))

@@ -1,3 +1,2 @@
 -- Laws that the crate's contracts need.
-pub mod JudgeLaws
 pub mod EntryLaws

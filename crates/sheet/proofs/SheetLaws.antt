@@ -15,7 +15,8 @@ use Rattle.model.specs.Ticket.{Access}
 use Rattle.model.specs.Bounds.{accessesOf}
 use Rattle.model.specs.Store.{sum}
 use Rattle.model.specs.Entries.{allAccesses}
-use Rattle.model.specs.Shape.{Fits, WellFormed}
+use Rattle.model.specs.Shape.{Runs, Fits, WellFormed}
+use Rattle.bounds.proofs.FlatLaws.{nest-runs}
 use Rattle.elements.specs.Layout.{accessAt, accessesFrom, bodiesFrom}
 use Rattle.sheet.specs.Sheets.{Sheet, extentsIn, sizesIn, ownersIn, wordsIn, statementsFrom, nestOf, SheetIn}
 use Rattle.sheet.specs.Stages.{noAccess, accessOf}
@@ -86,6 +87,12 @@ module _ (P : Sheet) where
 
     pub access-count : length (allAccesses (nestOf P)) ≡ P .accesses
     access-count = ap length all-accesses ∙ accesses-length w o a (P .depth) 0 (P .accesses)
+
+    -- ---- the loops can be run
+
+    pub loops-run : All Runs (nestOf P .loops)
+    unfolding nestOf
+    loops-run = nest-runs (P .limits) (P .counts) (P .depth) (h .nest)
 
     -- ---- the lengths of the parts in use
 

@@ -24,7 +24,8 @@ use Rattle.nest.specs.Nested.{limitOf}
 use Rattle.nest.specs.declared.Limit.{Limit}
 use Rattle.bounds.specs.Flat.{limitAt, limitsAt}
 use Rattle.sides.specs.Filling.{Holds, Natural, Filled, Adds, WideIn}
-use Rattle.sides.proofs.FlatLaws.{limits-length, limits-more, limits-put}
+use Rattle.bounds.proofs.FlatLaws.{limits-length}
+use Rattle.sides.proofs.FlatLaws.{limits-more, limits-put}
 
 -- ---- one limit
 

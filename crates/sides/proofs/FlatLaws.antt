@@ -1,6 +1,6 @@
--- Limits as they stand in a list of numbers (`limitsAt`). In order: how many, and of which shape; one more, and one of them; tests of them all;
--- a limit put behind them.
-use mathlib.Core.Path.{_≡_, refl, sym, _∙_, ap, ap₂, subst}
+-- Limits as they stand in a list of numbers (`limitsAt`). In order: of which shape; one more, and one of them; tests of them all; a limit put
+-- behind them. How many there are is in `bounds`.
+use mathlib.Core.Path.{_≡_, sym, _∙_, ap, ap₂, subst}
 use mathlib.Core.Bool.{Bool, true, false, _||_}
 use mathlib.Core.List.{List, [], _∷_, _++_, List·Memᴰ·head, List·Memᴰ·tail}
 use Prim.Native.Nat.{ℕ, zero, suc, _+_, _*_, _<_, _≤_}
@@ -10,7 +10,7 @@ use native.Mathlib.Numerals.{add-one}
 use lib.IntN.{ℤ}
 use lib.ListN.{length, drop, length-drop}
 use lib.Seq.{length-take-le}
-use Rattle.lists.specs.Membership.{Mem, All}
+use Rattle.lists.specs.Membership.{Mem}
 use Rattle.lists.specs.Parts.{put}
 use Rattle.lists.specs.Tests.{any}
 use Rattle.lists.proofs.MembershipLaws.{all-nil, all-cons}
@@ -20,21 +20,11 @@ use Rattle.model.specs.Ticket.{Limit}
 use Rattle.model.specs.Encode.{limitWords}
 use Rattle.model.specs.Shape.{Sized}
 use Rattle.bounds.specs.Flat.{limitAt, limitsAt}
+use Rattle.bounds.proofs.FlatLaws.{limits-all}
 use Rattle.nest.specs.Laid.{layLimits}
 use Rattle.nest.proofs.LimitLaws.{limits-front, limits-laid}
 
--- ---- how many, and of which shape
-
-pub limits-length : (s : List ℤ) (n j m : ℕ) → length (limitsAt s n j m) ≡ m
-unfolding limitsAt
-limits-length s n j zero = refl
-limits-length s n j (suc m) = ap suc (limits-length s n (suc j) m)
-
-pub limits-all : (P : Limit → Type 0) (s : List ℤ) (n j m : ℕ) → ((i : ℕ) → i < m → P (limitAt s n (j + i))) → All P (limitsAt s n j m)
-unfolding limitsAt
-limits-all P s n j zero h = all-nil P
-limits-all P s n j (suc m) h = all-cons P (subst (λ (i : ℕ). P (limitAt s n i)) (add-zero j) (h 0 (omega arith)))
-    (limits-all P s n (suc j) m (λ i g. let e : j + suc i ≡ suc j + i = omega arith in subst (λ (i : ℕ). P (limitAt s n i)) e (h (suc i) (omega arith))))
+-- ---- of which shape
 
 pub limits-sized : (s : List ℤ) (n j m : ℕ) → n ≤ 6 → (j + m) * 8 ≤ length s → Sized n (limitsAt s n j m)
 unfolding limitAt

@@ -19,7 +19,8 @@ use Rattle.nest.specs.Laid.{layLimits}
 use Rattle.nest.proofs.LimitLaws.{lay-more, lay-length}
 use Rattle.sides.specs.Filling.{PutIn, SidePut}
 use Rattle.sides.proofs.PutLaws.{limit-words, words-test, untrue}
-use Rattle.sides.proofs.FlatLaws.{limits-length, limits-sized, limits-more, limits-mem}
+use Rattle.bounds.proofs.FlatLaws.{limits-length}
+use Rattle.sides.proofs.FlatLaws.{limits-sized, limits-more, limits-mem}
 
 module _ (o : List ℤ) (j : ℕ) (f : List ℤ) (count n : ℕ) (p : PutIn (length o) j f count n) where
   abbrev first : ℕ → List Model.Limit

@@ -34,7 +34,7 @@ equal-digit a b e = let f : sign a b ≡ equal = digit-unique (sign a b) equal e
     means : sign a b ≡ equal → Means (sign a b) a b → a ≡ b
     means f m = rw f at m
 
-signs-getD : (p q : List ℤ) (k : ℕ) → length p ≡ length q → k < length p → getD (signs p q) k equal ≡ sign (getD p k (pos 0)) (getD q k (pos 0))
+pub signs-getD : (p q : List ℤ) (k : ℕ) → length p ≡ length q → k < length p → getD (signs p q) k equal ≡ sign (getD p k (pos 0)) (getD q k (pos 0))
 unfolding signs
 signs-getD [] q k e h = absurd (omega arith)
 signs-getD (x ∷ p) [] k e h = absurd (omega arith)
@@ -76,7 +76,7 @@ Outer v k w = (u : List Sign) → length u ≡ 6 → numberAfter 0 u ≡ v → w
 pub outer-all : (v : ℕ) → Outer v 6 v
 outer-all v u l e = sym e ∙ ap (numberAfter 0) (sym (take-all 6 u (omega arith)))
 
-after-take : (u : List Sign) (k : ℕ) → k < length u → numberAfter 0 (take (suc k) u) ≡ numberAfter 0 (take k u) * 3 + digit (getD u k equal)
+pub after-take : (u : List Sign) (k : ℕ) → k < length u → numberAfter 0 (take (suc k) u) ≡ numberAfter 0 (take k u) * 3 + digit (getD u k equal)
 unfolding numberAfter
 after-take u k h = ap (numberAfter 0) (take-suc u k equal h) ∙ after-append (take k u) (getD u k equal ∷ []) 0
 

@@ -1,8 +1,16 @@
--- `survey_new`: the survey's verdict as refusal 13.
+-- `survey_new`: the nest is compact, or the survey's verdict is refusal 13.
+use mathlib.Core.Path.{sym}
 use Rattle.judgement.proofs.TicketLaws.{new-admitted, new-far, new-crowded}
+use Rattle.sheet.specs.Sheets.{sheetOf}
 use borrow.Author.Needs.{needs}
 use Rattle.judgement.proofs.survey_new.Statement.{statement}
 use Rattle.judgement.proofs.survey_new.Tie as tie
+
+stays-compact-requires : tie.Need-stays-compact-requires
+stays-compact-requires c κs = search needs
+
+returns : tie.Need-returns
+returns c = sym (c .before .stays-compact .ensures (c .if1 .taken))
 
 survey-requires : tie.Need-survey-requires
 survey-requires c κs = search needs
@@ -16,16 +24,25 @@ enum-known-k c = search needs
 enum-known-k-2 : tie.Need-enum-known-k-2
 enum-known-k-2 c = search needs
 
-returns : tie.Need-returns
-returns c = let v = c .before .before .survey in new-admitted _ (v .result) (v .ensures) _ (c .enum-told .given .1)
-
 returns-2 : tie.Need-returns-2
-returns-2 c = let v = c .before .before .before .survey in new-far _ (v .result) (v .ensures) _ (c .before .k .given .1)
+returns-2 c = let v = c .before .before .survey in new-admitted (sheetOf (c .before .before .before .before .before .args .outline) (c .before .before .before .before .before .args .limits .now) (c .before .before .before .before .before .args .words .now)) (v .result) (v .ensures) _ (c .enum-told .given .1)
 
 returns-3 : tie.Need-returns-3
-returns-3 c = let v = c .before .before .before .survey in new-crowded _ (v .result) (v .ensures) _ (c .before .k2 .given .1)
+returns-3 c = let v = c .before .before .before .survey in new-far (sheetOf (c .before .before .before .before .before .before .args .outline) (c .before .before .before .before .before .before .args .limits .now) (c .before .before .before .before .before .before .args .words .now)) (v .result) (v .ensures) _ (c .before .k .given .1)
+
+returns-4 : tie.Need-returns-4
+returns-4 c = let v = c .before .before .before .survey in new-crowded (sheetOf (c .before .before .before .before .before .before .args .outline) (c .before .before .before .before .before .before .args .limits .now) (c .before .before .before .before .before .before .args .words .now)) (v .result) (v .ensures) _ (c .before .k2 .given .1)
 
 pub survey-new-spec : {M : Type 1} → statement M
 survey-new-spec =
     tie.close
-    (tie.spec survey-requires enum-told enum-known-k enum-known-k-2 returns returns-2 returns-3)
+    (tie.spec
+    stays-compact-requires
+    returns
+    survey-requires
+    enum-told
+    enum-known-k
+    enum-known-k-2
+    returns-2
+    returns-3
+    returns-4)

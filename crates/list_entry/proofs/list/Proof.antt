@@ -1,4 +1,4 @@
--- `list`: 1 to 8, then room for the points.
+-- `list`: 1 to 8, then few points or many.
 use Rattle.ticket.proofs.DecodeLaws.{zeros-lent}
 use Rattle.intake.proofs.AdmitLaws.{not-received, waits-few, waits}
 use Rattle.list_entry.proofs.ListLaws.{not-admitted}
@@ -42,17 +42,14 @@ same-length c = search needs
 returns-2 : tie.Need-returns-2
 returns-2 c = search needs
 
-slice-aggregate-list-by-4 : tie.Need-slice-aggregate-list-by-4
-slice-aggregate-list-by-4 c = search needs
+slice-aggregate-list-many : tie.Need-slice-aggregate-list-many
+slice-aggregate-list-many c = search needs
 
-slice-aggregate-list-by-5 : tie.Need-slice-aggregate-list-by-5
-slice-aggregate-list-by-5 c = search needs
+slice-aggregate-list-many-2 : tie.Need-slice-aggregate-list-many-2
+slice-aggregate-list-many-2 c = search needs
 
-slice-aggregate-list-by-6 : tie.Need-slice-aggregate-list-by-6
-slice-aggregate-list-by-6 c = search needs
-
-list-by-requires-2 : tie.Need-list-by-requires-2
-list-by-requires-2 c κs = let r = c .before .before .before .before .before .before .before .before .before .before .receive in waits _ (r .result) _ _ (r .ensures) (c .before .before .before .before .before .before .enum-told .given .1)
+list-many-requires : tie.Need-list-many-requires
+list-many-requires c κs = let r = c .before .before .before .before .before .before .before .before .before .receive in waits _ (r .result) _ _ (r .ensures) (c .before .before .before .before .before .enum-told .given .1)
 
 same-length-2 : tie.Need-same-length-2
 same-length-2 c = search needs
@@ -76,9 +73,8 @@ list-spec =
     list-by-requires
     same-length
     returns-2
-    slice-aggregate-list-by-4
-    slice-aggregate-list-by-5
-    slice-aggregate-list-by-6
-    list-by-requires-2
+    slice-aggregate-list-many
+    slice-aggregate-list-many-2
+    list-many-requires
     same-length-2
     returns-3)

@@ -72,7 +72,7 @@ unfolding ints
 ints-rise a zero = tt
 ints-rise a (suc n) = (λ x m. let r = ints-mem (a +ℤ pos 1) n m in omega (zarith, add-fact a (pos 1)), ints-rise (a +ℤ pos 1) n)
 
-span-iff : (a b x : ℤ) → a ≤ℤ x → (x ≤ℤ b) ↔ (x <ℤ (a +ℤ pos (span (b -ℤ a))))
+pub span-iff : (a b x : ℤ) → a ≤ℤ x → (x ≤ℤ b) ↔ (x <ℤ (a +ℤ pos (span (b -ℤ a))))
 unfolding span
 span-iff a b x h = go (b -ℤ a) refl
   where

@@ -95,13 +95,20 @@ module _ (rs : List Range) (outer : List ℤ) (inn : InRanges rs outer) (x : ℤ
   limit-high l h k = floor-iff (l .constant +ℤ greatestSum (l .coefficients) rs) (pos (l .multiplier)) x (omega zarith) .0
       (≤ℤ-trans k (+ℤ-mono (≤ℤ-refl (l .constant)) (greatest-sum (l .coefficients) rs outer inn)))
 
+  -- an index within its limits is so before the range is cut
+  pub largest-low : (L : Loop) → Runs L → InLimits L outer x → largest (map leastOf (L .lower)) ≤ℤ x
+  largest-low L r h = largest-iff x (map leastOf (L .lower)) (λ e. r .some-lower (map-eq-nil-iff leastOf .0 e)) .0 (λ y m.
+      let q = Memᴰ·of-map leastOf (L .lower) m in subst (λ y. y ≤ℤ x) (q .2) (limit-low (q .0) (r .positive-lower (q .0) (q .1)) (h .low (q .0) (q .1))))
+
+  pub smallest-high : (L : Loop) → Runs L → InLimits L outer x → x ≤ℤ smallest (map greatestOf (L .upper))
+  smallest-high L r h = smallest-iff x (map greatestOf (L .upper)) (λ e. r .some-upper (map-eq-nil-iff greatestOf .0 e)) .0 (λ y m.
+      let q = Memᴰ·of-map greatestOf (L .upper) m in subst (λ y. x ≤ℤ y) (q .2) (limit-high (q .0) (r .positive-upper (q .0) (q .1)) (h .high (q .0) (q .1))))
+
   in-range : (L : Loop) → Runs L → InLimits L outer x → negsuc 32766 ≤ℤ x → x ≤ℤ pos 32767 → InRange (rangeOf rs L) x
   unfolding rangeOf
   in-range L r h lo hi = record {
-    low = cut-le (largest (map leastOf (L .lower))) x (largest-iff x (map leastOf (L .lower)) (λ e. r .some-lower (map-eq-nil-iff leastOf .0 e)) .0 (λ y m.
-        let q = Memᴰ·of-map leastOf (L .lower) m in subst (λ y. y ≤ℤ x) (q .2) (limit-low (q .0) (r .positive-lower (q .0) (q .1)) (h .low (q .0) (q .1))))) lo;
-    high = le-cut (smallest (map greatestOf (L .upper))) x (smallest-iff x (map greatestOf (L .upper)) (λ e. r .some-upper (map-eq-nil-iff greatestOf .0 e)) .0 (λ y m.
-        let q = Memᴰ·of-map greatestOf (L .upper) m in subst (λ y. x ≤ℤ y) (q .2) (limit-high (q .0) (r .positive-upper (q .0) (q .1)) (h .high (q .0) (q .1))))) hi;
+    low = cut-le (largest (map leastOf (L .lower))) x (largest-low L r h) lo;
+    high = le-cut (smallest (map greatestOf (L .upper))) x (smallest-high L r h) hi;
   }
 
 in-ranges-from : (N : List Loop) (rs : List Range) (outer y : List ℤ) → All Runs N → InRanges rs outer → Inside N outer y → Within 32767 y → InRanges (rangesFrom rs N) (outer ++ y)

@@ -1,4 +1,4 @@
--- `quick`: 1 to 8, then room for the points.
+-- `quick`: 1 to 8, then few points or many.
 use Rattle.ticket.proofs.DecodeLaws.{zeros-lent}
 use Rattle.intake.proofs.AdmitLaws.{not-received, waits-few, waits}
 use Rattle.quick_entry.proofs.TestLaws.{not-admitted}
@@ -39,17 +39,14 @@ quick-by-requires c κs = let r = c .before .before .before .before .before .bef
 returns-2 : tie.Need-returns-2
 returns-2 c = search needs
 
-slice-aggregate-quick-by-4 : tie.Need-slice-aggregate-quick-by-4
-slice-aggregate-quick-by-4 c = search needs
+slice-aggregate-quick-many : tie.Need-slice-aggregate-quick-many
+slice-aggregate-quick-many c = search needs
 
-slice-aggregate-quick-by-5 : tie.Need-slice-aggregate-quick-by-5
-slice-aggregate-quick-by-5 c = search needs
+slice-aggregate-quick-many-2 : tie.Need-slice-aggregate-quick-many-2
+slice-aggregate-quick-many-2 c = search needs
 
-slice-aggregate-quick-by-6 : tie.Need-slice-aggregate-quick-by-6
-slice-aggregate-quick-by-6 c = search needs
-
-quick-by-requires-2 : tie.Need-quick-by-requires-2
-quick-by-requires-2 c κs = let r = c .before .before .before .before .before .before .before .before .before .receive in waits _ (r .result) _ _ (r .ensures) (c .before .before .before .before .before .enum-told .given .1)
+quick-many-requires : tie.Need-quick-many-requires
+quick-many-requires c κs = let r = c .before .before .before .before .before .before .before .before .receive in waits _ (r .result) _ _ (r .ensures) (c .before .before .before .before .enum-told .given .1)
 
 returns-3 : tie.Need-returns-3
 returns-3 c = search needs
@@ -69,8 +66,7 @@ quick-spec =
     slice-aggregate-quick-by-3
     quick-by-requires
     returns-2
-    slice-aggregate-quick-by-4
-    slice-aggregate-quick-by-5
-    slice-aggregate-quick-by-6
-    quick-by-requires-2
+    slice-aggregate-quick-many
+    slice-aggregate-quick-many-2
+    quick-many-requires
     returns-3)

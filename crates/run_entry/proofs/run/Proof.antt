@@ -1,6 +1,6 @@
--- `run`: 1 to 8, then room for the points.
+-- `run`: 1 to 8, then few points or many.
 use Rattle.ticket.proofs.DecodeLaws.{zeros-lent}
-use Rattle.intake.proofs.AdmitLaws.{not-received, waits-few, waits}
+use Rattle.intake.proofs.AdmitLaws.{not-received, waits-fewest, waits-few, waits}
 use Rattle.run_entry.proofs.EntryLaws.{not-admitted}
 use borrow.Author.Needs.{needs}
 use Rattle.run_entry.proofs.run.Statement.{statement}
@@ -34,7 +34,7 @@ slice-aggregate-run-by-3 : tie.Need-slice-aggregate-run-by-3
 slice-aggregate-run-by-3 c = search needs
 
 run-by-requires : tie.Need-run-by-requires
-run-by-requires c κs = let r = c .before .before .before .before .before .before .before .before .before .before .receive in waits-few _ (r .result) _ _ (r .ensures) (c .before .before .before .before .before .before .enum-told .given .1) (c .before .before .before .before .if1 .taken)
+run-by-requires c κs = let r = c .before .before .before .before .before .before .before .before .before .before .receive in waits-fewest _ (r .result) _ _ (r .ensures) (c .before .before .before .before .before .before .enum-told .given .1) (c .before .before .before .before .if1 .taken)
 
 same-length : tie.Need-same-length
 same-length c = search needs
@@ -52,13 +52,28 @@ slice-aggregate-run-by-6 : tie.Need-slice-aggregate-run-by-6
 slice-aggregate-run-by-6 c = search needs
 
 run-by-requires-2 : tie.Need-run-by-requires-2
-run-by-requires-2 c κs = let r = c .before .before .before .before .before .before .before .before .before .before .receive in waits _ (r .result) _ _ (r .ensures) (c .before .before .before .before .before .before .enum-told .given .1)
+run-by-requires-2 c κs = let r = c .before .before .before .before .before .before .before .before .before .before .before .before .receive in waits-few _ (r .result) _ _ (r .ensures) (c .before .before .before .before .before .before .before .before .enum-told .given .1) (c .before .before .before .before .if2 .taken)
 
 same-length-2 : tie.Need-same-length-2
 same-length-2 c = search needs
 
 returns-3 : tie.Need-returns-3
 returns-3 c = search needs
+
+slice-aggregate-run-many : tie.Need-slice-aggregate-run-many
+slice-aggregate-run-many c = search needs
+
+slice-aggregate-run-many-2 : tie.Need-slice-aggregate-run-many-2
+slice-aggregate-run-many-2 c = search needs
+
+run-many-requires : tie.Need-run-many-requires
+run-many-requires c κs = let r = c .before .before .before .before .before .before .before .before .before .before .before .receive in waits _ (r .result) _ _ (r .ensures) (c .before .before .before .before .before .before .before .enum-told .given .1)
+
+same-length-3 : tie.Need-same-length-3
+same-length-3 c = search needs
+
+returns-4 : tie.Need-returns-4
+returns-4 c = search needs
 
 pub run-spec : {M : Type 1} → statement M
 run-spec =
@@ -81,4 +96,9 @@ run-spec =
     slice-aggregate-run-by-6
     run-by-requires-2
     same-length-2
-    returns-3)
+    returns-3
+    slice-aggregate-run-many
+    slice-aggregate-run-many-2
+    run-many-requires
+    same-length-3
+    returns-4)

@@ -1,6 +1,6 @@
 -- `decide_by`: 9, the directions, 10 to 13.
 use Rattle.intake.specs.Intake.{withStatus}
-use Rattle.verdict.proofs.VerdictLaws.{not-admitted, directions-in, judge-in, decided}
+use Rattle.verdict.proofs.VerdictLaws.{not-admitted, directions-in, judgeable}
 use borrow.Author.Needs.{needs}
 use Rattle.verdict.proofs.decide_by.Statement.{statement}
 use Rattle.verdict.proofs.decide_by.Tie as tie
@@ -27,13 +27,13 @@ same-length-3 : tie.Need-same-length-3
 same-length-3 c = search needs
 
 returns : tie.Need-returns
-returns c = let s = c .before .before .before .before .before .before .before .before .before .before .before .before in let a = c .before .before .before .before .before .admit in not-admitted _ _ _ (withStatus (a .result) (s .args .all)) _ _ (a .ensures) _ (c .before .before .status .given .1) (c .refused .result) (c .refused .ensures)
+returns c = let s = c .before .before .before .before .before .before .before .before .before .before .before in let a = c .before .before .before .before .before .admit in not-admitted _ _ _ (withStatus (a .result) (s .args .all)) _ _ (a .ensures) _ (c .before .before .status .given .1) (c .refused .result) (c .refused .ensures)
 
 directions-in-requires : tie.Need-directions-in-requires
-directions-in-requires c κs = let s = c .before .before .before .before .before .before .before .before .before .before .before .before .before in let a = c .before .before .before .before .before .before .admit in directions-in _ _ _ (withStatus (a .result) (s .args .all)) _ _ (a .ensures) (c .before .before .before .enum-told .given .1)
+directions-in-requires c κs = let s = c .before .before .before .before .before .before .before .before .before .before .before .before in let a = c .before .before .before .before .before .before .admit in directions-in _ _ _ (withStatus (a .result) (s .args .all)) _ _ (a .ensures) (c .before .before .before .enum-told .given .1)
 
-judge-ticket-requires : tie.Need-judge-ticket-requires
-judge-ticket-requires c κs = let s = c .before .before .before .before .before .before .before .before .before .before .before .before .before .before .before .before in let a = c .before .before .before .before .before .before .before .before .before .admit in judge-in _ _ _ (withStatus (a .result) (s .args .all)) _ _ (a .ensures) (c .before .before .before .before .before .before .enum-told .given .1) (c .before .before .directions-in .result) (c .before .before .directions-in .ensures)
+decide-with-requires : tie.Need-decide-with-requires
+decide-with-requires c κs = let s = c .before .before .before .before .before .before .before .before .before .before .before .before .before .before .before in let a = c .before .before .before .before .before .before .before .before .before .admit in let d = c .before .before .directions-in in judgeable (s .args .bytes .now) _ _ (s .args .all) (s .args .limits .now) (s .args .words .now) _ (s .pre) (a .result) (a .ensures) (c .before .before .before .before .before .before .enum-told .given .1) (d .result) (d .ensures)
 
 same-length-4 : tie.Need-same-length-4
 same-length-4 c = search needs
@@ -45,7 +45,7 @@ same-length-6 : tie.Need-same-length-6
 same-length-6 c = search needs
 
 returns-2 : tie.Need-returns-2
-returns-2 c = let s = c .before .before .before .before .before .before .before .before .before .before .before .before .before .before .before .before .before .before .before .before in let a = c .before .before .before .before .before .before .before .before .before .before .before .before .before .admit in let j = c .before .before .before .judge-ticket in decided _ _ _ (withStatus (a .result) (s .args .all)) _ _ (a .ensures) (c .before .before .before .before .before .before .before .before .before .before .enum-told .given .1) (j .result) _ _ (j .ensures)
+returns-2 c = search needs
 
 pub decide-by-spec : {M : Type 1} → statement M
 decide-by-spec =
@@ -60,7 +60,7 @@ decide-by-spec =
     same-length-3
     returns
     directions-in-requires
-    judge-ticket-requires
+    decide-with-requires
     same-length-4
     same-length-5
     same-length-6

@@ -1,0 +1,9 @@
+-- Laws that the crate's contracts need.
+pub mod Witness
+pub mod CornerLaws
+pub mod MachineLaws
+pub mod SpanLaws
+pub mod SumLaws
+pub mod RegionLaws
+pub mod ExtentLaws
+pub mod CoverLaws

@@ -1,0 +1,67 @@
+-- `impossible`: no iterations, one dimension, or the sum of all.
+use Prim.Native.Nat.{_-_, _≤_}
+use native.Mathlib.Omega.{arith}
+use Rattle.banerjee.proofs.CoverLaws.{vacant-impossible, all-excluded, dimension-in, dimension-excluded}
+use Rattle.banerjee.proofs.impossible.Statement.{statement}
+use Rattle.banerjee.proofs.impossible.Tie as tie
+
+abbrev Inv-loop : tie.InvT-loop
+Inv-loop words i j d n ranges u t₀ t = t ≤ d
+
+abbrev μ-loop : tie.MeasureT-loop
+μ-loop words i j d n ranges u t₀ t = d - t
+
+vacant-requires : tie.Need-vacant-requires Inv-loop μ-loop
+vacant-requires c κs = c .pre .ranges
+
+returns : tie.Need-returns Inv-loop μ-loop
+returns c = let s = c .before .before in let a = s .args in λ _. vacant-impossible (a .words .now) (a .i) (a .j) (a .d) (a .n) (a .ranges) (s .pre) (a .u) (c .before .vacant .ensures (c .if1 .taken))
+
+loop-holds : tie.Need-loop-holds Inv-loop μ-loop
+loop-holds c = omega arith
+
+add-excludes : tie.Need-add-excludes Inv-loop μ-loop
+add-excludes c = let s = c .before .before .before .before in let x = s .pre .sums .source .inside in let r = s .pre .sums .source .room in let h = c .loop-test .taken in omega arith
+
+add-excludes-2 : tie.Need-add-excludes-2 Inv-loop μ-loop
+add-excludes-2 c = let s = c .before .before .before .before in let x = s .pre .sums .sink .inside in let r = s .pre .sums .sink .room in let h = c .loop-test .taken in omega arith
+
+excludes-requires : tie.Need-excludes-requires Inv-loop μ-loop
+excludes-requires c κs = let s = c .before .before .before .before in let a = s .args in dimension-in (a .words .now) (a .i) (a .j) (a .d) (a .n) (a .ranges) (s .pre) (a .u) (c .before .loop .t) (c .loop-test .taken)
+
+returns-2 : tie.Need-returns-2 Inv-loop μ-loop
+returns-2 c = let s = c .before .before .before .before .before .before in let a = s .args in λ _. dimension-excluded (a .words .now) (a .i) (a .j) (a .d) (a .n) (a .ranges) (s .pre) (a .u) (c .before .before .before .loop .t) (c .before .before .loop-test .taken) (c .before .excludes .ensures (c .if2 .taken))
+
+add-t : tie.Need-add-t Inv-loop μ-loop
+add-t c = let f = c .before .before .before .before .before .before .pre .sums .source .few in let h = c .before .before .loop-test .taken in omega arith
+
+loop-less : tie.Need-loop-less Inv-loop μ-loop
+loop-less c = let h = c .before .before .loop-test .taken in omega arith
+
+loop-again : tie.Need-loop-again Inv-loop μ-loop
+loop-again c = let h = c .before .before .loop-test .taken in omega arith
+
+excludes-requires-2 : tie.Need-excludes-requires-2 Inv-loop μ-loop
+excludes-requires-2 c κs = c .before .before .before .before .pre
+
+returns-3 : tie.Need-returns-3 Inv-loop μ-loop
+returns-3 c = let s = c .before .before .before .before .before in let a = s .args in λ e. all-excluded (a .words .now) (a .i) (a .j) (a .d) (a .n) (a .ranges) (s .pre) (a .u) (c .excludes2 .ensures e)
+
+pub impossible-spec : {M : Type 1} → statement M
+impossible-spec =
+    tie.close
+    (tie.spec
+    Inv-loop
+    μ-loop
+    vacant-requires
+    returns
+    loop-holds
+    add-excludes
+    add-excludes-2
+    excludes-requires
+    returns-2
+    add-t
+    loop-less
+    loop-again
+    excludes-requires-2
+    returns-3)

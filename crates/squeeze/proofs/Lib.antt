@@ -1,0 +1,8 @@
+-- Laws that the crate's contracts need.
+pub mod CopyLaws
+pub mod PairLaws
+pub mod FewLaws
+pub mod CornerLaws
+pub mod CoverLaws
+pub mod SqueezeLaws
+pub mod KnownLaws

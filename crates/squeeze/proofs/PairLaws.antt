@@ -1,0 +1,77 @@
+-- One pair of accesses, as the code goes: it is no conflict, the arrays differ, or what Banerjee's inequalities are asked is met and their answer
+-- covers the pair. Then the loops over sinks and sources.
+use mathlib.Core.Path.{_≡_, sym, ap, ap₂, _∙_, subst}
+use mathlib.Core.Bool.{Bool, true, false}
+use mathlib.Core.List.{List}
+use Prim.Native.Nat.{ℕ, zero, suc, _+_, _*_, _/_, _^_, _≤_, _<_}
+use native.Mathlib.Omega.{arith}
+use native.Mathlib.Nat.{mul-le-mul}
+use native.Mathlib.Decide.{decLt}
+use lib.Dec.{ltb}
+use lib.ListN.{length, getD}
+use Rattle.banerjee.specs.Covers.{Covers, CoverIn}
+use Rattle.vectors.specs.Numbers.{placeOf}
+use Rattle.dependence.proofs.FlatLaws.{block-fits}
+use Rattle.squeeze.specs.Covered.{Pairs, PairsIn, kindAt, PairCovered, CoveredFrom, CoveredTo}
+
+module _ (F : Pairs) (m : List Bool) (p : PairsIn F m) (a b : ℕ) (la : a < length (F .owners)) (lb : b < length (F .owners)) where
+  abbrev s : ℕ
+  s = getD (F .statements) a 0
+
+  abbrev t : ℕ
+  t = getD (F .statements) b 0
+
+  abbrev owner : ℕ
+  owner = getD (F .owners) a 0
+
+  pub no-conflict : (k : ℕ) → k ≡ kindAt F a b → 3 ≤ k → PairCovered F m a b
+  no-conflict k e h g = absurd (omega arith)
+
+  pub other-array : (owner ≡ getD (F .owners) b 0 → ⊥) → PairCovered F m a b
+  other-array h g e = absurd (h e)
+
+  -- the number of dimensions is there
+  pub dimensions-read : (owner < 4) × (owner * 4 < length (F .arrays))
+  dimensions-read = let f = p .accesses .few in let g = p .accesses .there a la in (omega arith, omega arith)
+
+  few-places : F .body * F .body * 2187 ≤ 34992
+  few-places = let f = p .few in let g = mul-le-mul f f in omega arith
+
+  pub block-in : (k : ℕ) → k < 3 → (F .body * F .body * 2187 < 2 ^ 64) × (s < F .body) × (t < F .body) × (k < 3)
+  block-in k h = let f = few-places in (omega arith, p .in-body a la, p .in-body b lb, h)
+
+  module _ (k base : ℕ) (e : k ≡ kindAt F a b) (h : k < 3) (q : base ≡ placeOf (F .body) s t k 0) where
+    pub cover-in : CoverIn (F .words) a b (getD (F .arrays) (owner * 4) 0) (F .depth) (F .ranges) base m
+    cover-in =
+        let w = p .accesses .words in
+        let n = p .accesses .many in
+        let d = p .accesses .dimensions owner (p .accesses .there a la) in
+        let f = block-fits (F .body) s t k (p .in-body a la) (p .in-body b lb) h in
+        let r = p .room in
+        record {
+          small = p .accesses .small;
+          room = omega arith;
+          source = omega arith;
+          sink = omega arith;
+          dimensions = d;
+          ranges = p .ranges;
+          marks = omega arith;
+        }
+
+    pub pair-is : (r : Bool) → (r ≡ true → Covers (F .words) a b (getD (F .arrays) (owner * 4) 0) (F .depth) (F .ranges) (ltb s t) base m) → r ≡ true → PairCovered F m a b
+    pair-is r f g i o = subst (λ (x : ℕ). Covers (F .words) a b (getD (F .arrays) (owner * 4) 0) (F .depth) (F .ranges) (ltb s t) x m) (q ∙ ap (λ (x : ℕ). placeOf (F .body) s t x 0) e) (f g)
+
+-- ---- loops
+
+module _ (P : ℕ → Type 0) where
+  pub none-yet : (i : ℕ) → i < 0 → P i
+  none-yet i h = absurd (omega arith)
+
+  pub one-more : (n : ℕ) → ((i : ℕ) → i < n → P i) → P n → (i : ℕ) → i < n + 1 → P i
+  one-more n f p i h = elim (decLt i n) [
+    | yes g ↦ f i g
+    | no g ↦ let e : n ≡ i = omega arith in subst P e p
+  ]
+
+  pub all-done : (n k : ℕ) → k ≤ n → ((i : ℕ) → i < n → P i) → (i : ℕ) → i < k → P i
+  all-done n k h f i g = f i (omega arith)

@@ -1,0 +1,96 @@
+-- The lines of a nest are squeezed: those of its corner are among them, and they are among those that are covered. Where the marks of the corner's
+-- lines cover every pair of accesses, they are the marks of all lines (`squeezed`). Last, what the code asks and gives on the way.
+use mathlib.Core.Path.{_≡_, sym, ap₂, _∙_, subst}
+use mathlib.Core.Bool.{Bool, true}
+use mathlib.Core.List.{List}
+use Prim.Native.Nat.{ℕ}
+use native.Mathlib.Omega.{arith}
+use lib.Dec.{T}
+use lib.IntN.{ℤ}
+use lib.ListN.{length}
+use Rattle.lists.specs.Membership.{Mem}
+use Rattle.lists.specs.Tests.{select}
+use Rattle.lists.proofs.TestLaws.{T-same, select-mem, mem-select}
+use Rattle.model.specs.Answer.{accepted}
+use Rattle.model.specs.Bounds.{admitted}
+use Rattle.model.specs.Points.{iterations}
+use Rattle.model.specs.Machine.{accesses}
+use Rattle.model.specs.Shape.{WellFormed}
+use Rattle.model.specs.Directions.{Line, occurs, allLines, lines}
+use Rattle.model.specs.Listing.{linesOf}
+use Rattle.bounds.specs.Flat.{NestOk}
+use Rattle.extremes.specs.declared.Range.{Range}
+use Rattle.extremes.specs.Ranges.{RangesIn}
+use Rattle.extremes.specs.Values.{RangesAre}
+use Rattle.listing_text.specs.Text.{marked, shown}
+use Rattle.corner.specs.Corners.{Narrower}
+use Rattle.sheet.specs.declared.Outline.{Outline}
+use Rattle.sheet.specs.Sheets.{Sheet, sheetOf, nestOf, SheetIn}
+use Rattle.sheet.proofs.StageLaws.{depth-is}
+use Rattle.lines.specs.Lines.{LinesAre}
+use Rattle.lines.proofs.MarkLaws.{select-same, statement-count}
+use Rattle.squeeze.specs.Squeezed.{limited, Recounted, SheetCovered, RangesOn, CoverIn, CornerIn, SqueezeIn}
+use Rattle.squeeze.proofs.CornerLaws.{corner-sheet, corner-formed, corner-lines}
+use Rattle.squeeze.proofs.CoverLaws.{covered-marked}
+
+module _ (P : Sheet) (t : List ℤ) (d : List ℕ) (h : SheetIn P) (g : Narrower (P .limits) (P .counts) (P .depth) t d) (f : WellFormed (nestOf P)) (adm : admitted (nestOf P) ≡ accepted tt)
+    (rs : List Range) (on : RangesOn P rs) (m : List Bool) (seen : LinesAre (limited P t d) m) (cov : SheetCovered P rs m) where
+  occursIn : Line → Bool
+  occursIn = occurs (accesses (nestOf P .statements)) (iterations (nestOf P .loops))
+
+  lines-in : linesOf (nestOf P) ≡ select (occurs (accesses (nestOf P .statements)) (iterations (nestOf P .loops))) (allLines (P .statements) (P .depth))
+  unfolding linesOf lines
+  lines-in = ap₂ (λ (i j : ℕ). select (occurs (accesses (nestOf P .statements)) (iterations (nestOf P .loops))) (allLines i j)) (statement-count P h) (depth-is P)
+
+  marked-occurs : (l : Line) → Mem l (allLines (P .statements) (P .depth)) → T (marked m (P .statements) l) → T (occurs (accesses (nestOf P .statements)) (iterations (nestOf P .loops)) l)
+  unfolding shown
+  marked-occurs l i q =
+      let a : Mem l (linesOf (nestOf (limited P t d))) = subst (Mem l) (seen .lines) (mem-select (marked m (P .statements)) (allLines (P .statements) (P .depth)) i q) in
+      let b : Mem l (linesOf (nestOf P)) = corner-lines P t d h g l a in
+      select-mem (occurs (accesses (nestOf P .statements)) (iterations (nestOf P .loops))) (allLines (P .statements) (P .depth)) (subst (Mem l) lines-in b) .1
+
+  occurs-marked : (l : Line) → Mem l (allLines (P .statements) (P .depth)) → T (occurs (accesses (nestOf P .statements)) (iterations (nestOf P .loops)) l) → T (marked m (P .statements) l)
+  occurs-marked l i q = covered-marked P h f adm rs on m cov l
+      (subst (Mem l) (sym lines-in) (mem-select (occurs (accesses (nestOf P .statements)) (iterations (nestOf P .loops))) (allLines (P .statements) (P .depth)) i q))
+
+  pub squeezed : LinesAre P m
+  unfolding shown
+  squeezed = record {
+    lines =
+        select-same (marked m (P .statements)) (occurs (accesses (nestOf P .statements)) (iterations (nestOf P .loops))) (allLines (P .statements) (P .depth))
+        (λ l i. T-same (marked m (P .statements) l) (occurs (accesses (nestOf P .statements)) (iterations (nestOf P .loops)) l) (marked-occurs l i) (occurs-marked l i))
+        ∙ sym lines-in;
+    marks-in = seen .marks-in;
+  }
+
+-- ---- as the code goes: the limits copied, the corner cut, its few points marked, the pairs looked at
+
+module _ (O : Outline) (s w : List ℤ) (m : List Bool) (p : SqueezeIn (sheetOf O s w) m) (rs : List Range) (found : RangesAre s (O .counts) (O .depth) rs) (f : List ℤ) (copied : f ≡ s) where
+  abbrev P : Sheet
+  P = sheetOf O s w
+
+  pub cut-in : NestOk f (O .counts) (O .depth) × RangesIn (O .depth) rs
+  cut-in = (subst (λ (l : List ℤ). NestOk l (O .counts) (O .depth)) (sym copied) (p .corner .sheet .nest), found .held)
+
+  ranges-on : RangesOn P rs
+  unfolding nestOf
+  ranges-on = record { are = found .are; held = found .held }
+
+  module _ (t : List ℤ) (d : List ℕ) (cut : Narrower f (O .counts) (O .depth) t d) (Q : Outline) (recounted : Recounted O d Q) where
+    narrower : Narrower s (O .counts) (O .depth) t d
+    narrower = subst (λ (l : List ℤ). Narrower l (O .counts) (O .depth) t d) copied cut
+
+    pub corner-in : CornerIn (sheetOf Q t w) m
+    corner-in = subst (λ (C : Sheet). CornerIn C m) (sym (recounted s t w)) (record {
+      sheet = corner-sheet P t d (p .corner .sheet) narrower;
+      formed = corner-formed P t d (p .corner .sheet) narrower (p .corner .formed);
+      clear = p .corner .clear;
+      room = p .corner .room;
+    })
+
+    module _ (n : List Bool) (b : Bool) (few : (b ≡ true → LinesAre (sheetOf Q t w) n) × (length n ≡ length m)) where
+      pub cover-in : CoverIn P rs n
+      cover-in = let q = few .1 in let r = p .corner .room in record { sheet = p .corner .sheet; ranges = found .held; room = omega arith }
+
+      pub lines-known : b ≡ true → (a : Bool) → (a ≡ true → SheetCovered P rs n) → a ≡ true → LinesAre P n
+      lines-known e a g z = squeezed P t d (p .corner .sheet) narrower (p .corner .formed) (p .admitted-is) rs ranges-on n (subst (λ (C : Sheet). LinesAre C n) (recounted s t w) (few .0 e)) (g z)

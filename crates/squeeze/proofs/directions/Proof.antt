@@ -1,0 +1,51 @@
+-- `directions`: marks for 1 statement, for 2, or for 4.
+use mathlib.Core.Path.{refl}
+use Rattle.sheet.specs.Sheets.{Sheet, sheetOf}
+use Rattle.squeeze.proofs.KnownLaws.{clear-in}
+use borrow.Author.Needs.{needs}
+use Rattle.squeeze.proofs.directions.Statement.{statement}
+use Rattle.squeeze.proofs.directions.Tie as tie
+
+abbrev sheet : tie.Start → Sheet
+sheet s = sheetOf (s .args .outline) (s .args .limits .now) (s .args .words .now)
+
+slice-aggregate-directions-by : tie.Need-slice-aggregate-directions-by
+slice-aggregate-directions-by c = search needs
+
+directions-by-requires : tie.Need-directions-by-requires
+directions-by-requires c κs = let s = c .before .before .before in clear-in (sheet s) (s .pre) 1 (c .before .if1 .taken) 2187 refl
+
+returns : tie.Need-returns
+returns c = search needs
+
+slice-aggregate-directions-by-2 : tie.Need-slice-aggregate-directions-by-2
+slice-aggregate-directions-by-2 c = search needs
+
+directions-by-requires-2 : tie.Need-directions-by-requires-2
+directions-by-requires-2 c κs = let s = c .before .before .before .before .before in clear-in (sheet s) (s .pre) 2 (c .before .if2 .taken) 8748 refl
+
+returns-2 : tie.Need-returns-2
+returns-2 c = search needs
+
+slice-aggregate-directions-by-3 : tie.Need-slice-aggregate-directions-by-3
+slice-aggregate-directions-by-3 c = search needs
+
+directions-by-requires-3 : tie.Need-directions-by-requires-3
+directions-by-requires-3 c κs = let s = c .before .before .before .before .before in clear-in (sheet s) (s .pre) 4 (s .pre .sheet .few-statements) 34992 refl
+
+returns-3 : tie.Need-returns-3
+returns-3 c = search needs
+
+pub directions-spec : {M : Type 1} → statement M
+directions-spec =
+    tie.close
+    (tie.spec
+    slice-aggregate-directions-by
+    directions-by-requires
+    returns
+    slice-aggregate-directions-by-2
+    directions-by-requires-2
+    returns-2
+    slice-aggregate-directions-by-3
+    directions-by-requires-3
+    returns-3)

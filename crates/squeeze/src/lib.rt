@@ -1,0 +1,282 @@
+// The lines of a nest without its points. They are squeezed: the lines of the nest's corner are among them, and Banerjee's inequalities allow no others
+// than are marked. Where the two agree the lines are known; where they do not, nothing is said.
+ghost use mathlib.Core.Path.{_≡_};
+ghost use mathlib.Core.Bool.{true};
+ghost use Prim.Native.Nat.{_<_};
+ghost use lib.ListN.{length};
+ghost use Rattle.sheet.specs.Sheets.{sheetOf};
+ghost use Rattle.lines.specs.Lines.{LinesAre};
+ghost use Rattle.squeeze.specs.Covered.{pairs, PairsIn, PairCovered, CoveredFrom, CoveredTo};
+ghost use Rattle.squeeze.specs.Squeezed.{Recounted, SheetCovered, CoverIn, CornerIn, SqueezeIn, Spacious, MarkIn, Marked, Knows};
+use admission::Counted;
+use directions::DirectionSet;
+use extremes::Range;
+use reading::Status;
+use sheet::Outline;
+
+// ---- pairs of accesses, all lent as flat slices
+
+// Whether every vector that access a, as the source, can have with access b is marked.
+fn pair_covered(
+    words: &[i16],
+    owners: &[usize],
+    arrays: &[usize],
+    depth: usize,
+    ranges: [Range; 6],
+    statements: &[usize],
+    writes: &[bool],
+    body: usize,
+    a: usize,
+    b: usize,
+    marks: &[bool],
+) -> bool
+    requires { ⌜ PairsIn (pairs (now words) (now owners) (now arrays) depth ranges (now statements) (now writes) body) (now marks) × (a < length (now owners)) × (b < length (now owners)) ⌝ }
+    ensures { λ r. ⌜ (r ≡ true → PairCovered (pairs (now (words .entry)) (now (owners .entry)) (now (arrays .entry)) depth ranges (now (statements .entry)) (now (writes .entry)) body) (now (marks .entry)) a b) ⌝ }
+{
+    let k = dependence::kind(writes[a], writes[b]);
+    if 3 <= k {
+        return true;
+    }
+    if owners[a] != owners[b] {
+        return true;
+    }
+    let s = statements[a];
+    let t = statements[b];
+    let first = dependence::block(body, s, t, k);
+    banerjee::covers(
+        words,
+        a,
+        b,
+        arrays[owners[a] * 4],
+        depth,
+        ranges,
+        s < t,
+        first,
+        marks,
+    )
+}
+
+// The same with every access as the sink.
+fn covered_from(
+    words: &[i16],
+    owners: &[usize],
+    arrays: &[usize],
+    depth: usize,
+    ranges: [Range; 6],
+    statements: &[usize],
+    writes: &[bool],
+    body: usize,
+    a: usize,
+    marks: &[bool],
+) -> bool
+    requires { ⌜ PairsIn (pairs (now words) (now owners) (now arrays) depth ranges (now statements) (now writes) body) (now marks) × (a < length (now owners)) ⌝ }
+    ensures { λ r. ⌜ (r ≡ true → CoveredFrom (pairs (now (words .entry)) (now (owners .entry)) (now (arrays .entry)) depth ranges (now (statements .entry)) (now (writes .entry)) body) (now (marks .entry)) a (length (now (owners .entry)))) ⌝ }
+{
+    let mut b = 0;
+    while b < owners.len() {
+        if !pair_covered(
+            words,
+            owners,
+            arrays,
+            depth,
+            ranges,
+            statements,
+            writes,
+            body,
+            a,
+            b,
+            marks,
+        ) {
+            return false;
+        }
+        b += 1;
+    }
+    true
+}
+
+// The same of every pair.
+fn covered(
+    words: &[i16],
+    owners: &[usize],
+    arrays: &[usize],
+    depth: usize,
+    ranges: [Range; 6],
+    statements: &[usize],
+    writes: &[bool],
+    body: usize,
+    marks: &[bool],
+) -> bool
+    requires { ⌜ PairsIn (pairs (now words) (now owners) (now arrays) depth ranges (now statements) (now writes) body) (now marks) ⌝ }
+    ensures { λ r. ⌜ (r ≡ true → CoveredTo (pairs (now (words .entry)) (now (owners .entry)) (now (arrays .entry)) depth ranges (now (statements .entry)) (now (writes .entry)) body) (now (marks .entry)) (length (now (owners .entry)))) ⌝ }
+{
+    let mut a = 0;
+    while a < owners.len() {
+        if !covered_from(
+            words,
+            owners,
+            arrays,
+            depth,
+            ranges,
+            statements,
+            writes,
+            body,
+            a,
+            marks,
+        ) {
+            return false;
+        }
+        a += 1;
+    }
+    true
+}
+
+// The same of the accesses of a nest whose loops have these ranges.
+fn sheet_covered(
+    outline: Outline,
+    limits: &[i16],
+    words: &[i16],
+    ranges: [Range; 6],
+    marks: &[bool],
+) -> bool
+    requires { ⌜ CoverIn (sheetOf outline (now limits) (now words)) ranges (now marks) ⌝ }
+    ensures { λ r. ⌜ (r ≡ true → SheetCovered (sheetOf outline (now (limits .entry)) (now (words .entry))) ranges (now (marks .entry))) ⌝ }
+{
+    let uses = lines::uses_of(outline, limits, words);
+    let owners = outline.owners;
+    let extents = outline.extents;
+    let statements = uses.statements;
+    let writes = uses.writes;
+    let accesses = outline.accesses;
+    covered(
+        &words[..accesses * 24],
+        &owners[..accesses],
+        &extents[..outline.arrays * 4],
+        outline.depth,
+        ranges,
+        &statements[..accesses],
+        &writes[..accesses],
+        outline.statements,
+        marks,
+    )
+}
+
+// ---- the corner
+
+// Marks the lines of a nest of few points, if it is one and admitted.
+fn mark_few(outline: Outline, limits: &[i16], words: &[i16], marks: &mut [bool]) -> bool
+    requires { ⌜ CornerIn (sheetOf outline (now limits) (now words)) (now marks) ⌝ }
+    ensures { λ r. ⌜ (r ≡ true → LinesAre (sheetOf outline (now (limits .entry)) (now (words .entry))) (now (marks .exit))) × (length (now (marks .exit)) ≡ length (now (marks .entry))) ⌝ }
+{
+    let count = match admission::count_points(outline, limits, words) {
+        Counted::Points(n) => n,
+        Counted::Refused(_) => return false,
+    };
+    if 128 < count {
+        return false;
+    }
+    let mut points = [0i64; 768];
+    let status = admission::enumerate(outline, limits, words, &mut points);
+    match status {
+        Status::Fine => {}
+        Status::Refused(_) => return false,
+    }
+    lines::mark_lines(outline, limits, words, &points, count, marks);
+    true
+}
+
+// Writes over one slice what another one of the same length holds.
+fn copy(out: &mut [i16], from: &[i16])
+    requires { ⌜ length (now out) ≡ length (now from) ⌝ }
+    ensures { λ _. ⌜ now (out .exit) ≡ now (from .entry) ⌝ }
+{
+    let mut i = 0;
+    while i < from.len() {
+        out[i] = from[i];
+        i += 1;
+    }
+}
+
+fn with_counts(outline: Outline, counts: [usize; 12]) -> Outline
+    ensures { λ r. ⌜ Recounted outline counts r ⌝ }
+{
+    let extents = outline.extents;
+    let sizes = outline.sizes;
+    let rules = outline.rules;
+    let constants = outline.constants;
+    let owners = outline.owners;
+    Outline {
+        depth: outline.depth,
+        counts,
+        arrays: outline.arrays,
+        extents,
+        statements: outline.statements,
+        sizes,
+        rules,
+        constants,
+        accesses: outline.accesses,
+        owners,
+    }
+}
+
+// Marks the lines of the nest's corner. Answers whether they are all lines of the nest.
+fn mark_admitted(outline: Outline, limits: &[i16], words: &[i16], marks: &mut [bool]) -> bool
+    requires { ⌜ SqueezeIn (sheetOf outline (now limits) (now words)) (now marks) ⌝ }
+    ensures { λ r. ⌜ (r ≡ true → LinesAre (sheetOf outline (now (limits .entry)) (now (words .entry))) (now (marks .exit))) × (length (now (marks .exit)) ≡ length (now (marks .entry))) ⌝ }
+{
+    let depth = outline.depth;
+    let mut counts = outline.counts;
+    let ranges = extremes::ranges_in_turn(limits, &counts, depth);
+    let mut few = [0i16; 1536];
+    copy(&mut few, limits);
+    corner::cut_corner(&mut few, &mut counts, depth, ranges);
+    let corner = with_counts(outline, counts);
+    if !mark_few(corner, &few, words, marks) {
+        return false;
+    }
+    sheet_covered(outline, limits, words, ranges, marks)
+}
+
+// Marks all lines of a nest that passes refusals 7 and 8, and says so: then refusal 9 is passed too. Or says nothing.
+pub fn mark_lines(outline: Outline, limits: &[i16], words: &[i16], marks: &mut [bool]) -> bool
+    requires { ⌜ MarkIn (sheetOf outline (now limits) (now words)) (now marks) ⌝ }
+    ensures { λ r. ⌜ (r ≡ true → Marked (sheetOf outline (now (limits .entry)) (now (words .entry))) (now (marks .exit))) × (length (now (marks .exit)) ≡ length (now (marks .entry))) ⌝ }
+{
+    if !enclosure::stays_inside(outline, limits, words) {
+        return false;
+    }
+    mark_admitted(outline, limits, words, marks)
+}
+
+// ---- directions
+
+// Where `known`, the nest is admitted, and the set has the vectors of its directions.
+pub struct Known {
+    pub known: bool,
+    pub set: DirectionSet,
+}
+
+fn directions_by(outline: Outline, limits: &[i16], words: &[i16], marks: &mut [bool]) -> Known
+    requires { ⌜ MarkIn (sheetOf outline (now limits) (now words)) (now marks) ⌝ }
+    ensures { λ r. ⌜ Knows (sheetOf outline (now (limits .entry)) (now (words .entry))) r ⌝ }
+{
+    let known = mark_lines(outline, limits, words, marks);
+    let set = lines::directions_of(marks, outline.statements, outline.depth);
+    Known { known, set }
+}
+
+// The directions of a nest that passes refusals 7 and 8. Few statements have fewer marks to clear.
+pub fn directions(outline: Outline, limits: &[i16], words: &[i16]) -> Known
+    requires { ⌜ Spacious (sheetOf outline (now limits) (now words)) ⌝ }
+    ensures { λ r. ⌜ Knows (sheetOf outline (now (limits .entry)) (now (words .entry))) r ⌝ }
+{
+    if outline.statements <= 1 {
+        let mut few = [false; 2187];
+        return directions_by(outline, limits, words, &mut few);
+    }
+    if outline.statements <= 2 {
+        let mut more = [false; 8748];
+        return directions_by(outline, limits, words, &mut more);
+    }
+    let mut marks = [false; 34992];
+    directions_by(outline, limits, words, &mut marks)
+}
