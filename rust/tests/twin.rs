@@ -1,14 +1,15 @@
 //! The twin answers as the proved entries do, so that the benchmarks time the same work on both sides: number, place, count and all lent
-//! memory, on 2,000 tickets of a fixed seed.
+//! memory, on 2,000 tickets of a fixed seed and 200 more of many iterations.
 
 use std::fmt::Debug;
 
 use hurkeztor::entries;
-use reference::Answers;
-use reference::tickets::{Random, as_words, ticket};
+use reference::reading;
+use reference::tickets::{Random, as_words, large_ticket, ticket};
 
 const SEED: u64 = 20_260_303;
 const TICKETS: u64 = 2_000;
+const LARGE_TICKETS: u64 = 200;
 const LONGEST: usize = 21_330;
 
 fn as_twin(answer: entries::Answer) -> twin::Answer {
@@ -74,10 +75,7 @@ impl Comparison {
     }
 
     fn run(&mut self) {
-        let elements = match &Answers::to(&self.ticket).judged {
-            Ok(judged) => judged.nest.elements() as usize,
-            Err(_) => 5,
-        };
+        let elements = reading::read(&self.ticket).map_or(5, |ticket| ticket.nest.elements() as usize);
         for length in [elements, elements + 1] {
             let memory: Vec<u32> = (0..length).map(|_| self.random.bits() as u32).collect();
             self.equal("run", &memory, entries::run, twin::run);
@@ -85,23 +83,35 @@ impl Comparison {
     }
 }
 
+/// All entries on one ticket; the number that judge gave.
+fn compare(ticket: Vec<u8>, index: u64) -> usize {
+    let mut comparison = Comparison {
+        ticket,
+        random: Random::of(!SEED, index),
+    };
+    let judge = |ticket: &[u8], _: &mut [u8]| entries::judge(ticket);
+    let answer = comparison.equal("judge", &[], judge, |ticket, _| twin::judge(ticket));
+    comparison.outputs();
+    comparison.quick();
+    comparison.run();
+    answer.number as usize
+}
+
 #[test]
 fn the_twin_answers_as_the_proved_entries() {
     let mut numbers = [0; 17];
     for index in 0..TICKETS {
-        let mut comparison = Comparison {
-            ticket: ticket(SEED, index),
-            random: Random::of(!SEED, index),
-        };
-        let judge = |ticket: &[u8], _: &mut [u8]| entries::judge(ticket);
-        let answer = comparison.equal("judge", &[], judge, |ticket, _| twin::judge(ticket));
-        numbers[answer.number as usize] += 1;
-        comparison.outputs();
-        comparison.quick();
-        comparison.run();
+        numbers[compare(ticket(SEED, index), index)] += 1;
     }
     assert!(
         numbers[..14].iter().all(|times| *times > 0),
         "judge never gave some number: {numbers:?}"
     );
+}
+
+#[test]
+fn the_twin_answers_so_on_many_iterations() {
+    for index in 0..LARGE_TICKETS {
+        compare(large_ticket(SEED, index), index);
+    }
 }

@@ -1,8 +1,11 @@
 //! The search for dependences along chains of points by element.
 
+use std::ops::Range;
+
 use crate::directions::{power, sign_at};
 use crate::elements::numbers;
-use crate::judgement::Admitted;
+use crate::points::Points;
+use crate::ticket::Nest;
 
 /// The lines of a listing: for each source, sink and kind one mark for each vector.
 pub struct Lines {
@@ -17,49 +20,67 @@ impl Lines {
         power(self.depth)
     }
 
-    fn block(&mut self, source: usize, sink: usize, kind: usize) -> &mut [bool] {
-        let (row, size) = ((source * self.statements + sink) * 3 + kind, self.vectors());
-        &mut self.marks[row * size..][..size]
+    /// Where the marks of a pair are.
+    pub fn block(&self, pair: &Pair) -> Range<usize> {
+        let size = self.vectors();
+        let row = (pair.source.statement * self.statements + pair.sink.statement) * 3 + pair.kind;
+        row * size..(row + 1) * size
     }
 }
 
-/// Of one access its statement, whether it is the one that is written, its array and its places.
-#[derive(PartialEq)]
-struct Use<'a> {
+/// An access of a statement, and whether it is the one that is written.
+#[derive(Clone, Copy)]
+pub struct Use {
     statement: usize,
     writes: bool,
-    array: usize,
-    places: &'a [u16],
+    pub access: usize,
 }
 
-/// Those that differ: a read that a statement makes twice is searched once.
-fn uses<'a>(admitted: &Admitted, numbers: &'a [u16]) -> Vec<Use<'a>> {
-    let nest = &admitted.ticket.nest;
-    let mut uses: Vec<Use> = Vec::with_capacity(nest.accesses.len());
-    for (statement, one) in nest.statements.iter().enumerate() {
-        for k in one.first..=one.first + one.reads {
-            let new = Use {
-                statement,
-                writes: k == one.first,
-                array: nest.accesses[k].array,
-                places: &numbers[k * admitted.count..][..admitted.count],
-            };
-            if !uses.contains(&new) {
-                uses.push(new);
-            }
+pub fn uses(nest: &Nest) -> impl Iterator<Item = Use> {
+    nest.statements.iter().enumerate().flat_map(|(statement, one)| {
+        (one.first..=one.first + one.reads).map(move |access| Use {
+            statement,
+            writes: access == one.first,
+            access,
+        })
+    })
+}
+
+/// Two accesses of one array of which one writes at least. Of kinds flow is 0, anti 1, output 2.
+pub struct Pair {
+    pub source: Use,
+    pub sink: Use,
+    kind: usize,
+}
+
+impl Pair {
+    fn new(nest: &Nest, source: Use, sink: Use) -> Option<Pair> {
+        if nest.accesses[source.access].array != nest.accesses[sink.access].array {
+            return None;
         }
+        let kind = match (source.writes, sink.writes) {
+            (true, false) => 0,
+            (false, true) => 1,
+            (true, true) => 2,
+            (false, false) => return None,
+        };
+        Some(Pair { source, sink, kind })
     }
-    uses
+
+    /// A statement's own iteration counts where the source stands before the sink.
+    fn own(&self) -> bool {
+        self.source.statement < self.sink.statement
+    }
+
+    /// The end of the vectors that it can have: those that do not point backwards, and that of one point alone if `own`.
+    pub fn end(&self, depth: usize) -> usize {
+        power(depth) / 2 + self.own() as usize
+    }
 }
 
-/// Flow is 0, anti 1, output 2.
-fn kind(source: &Use, sink: &Use) -> Option<usize> {
-    match (source.writes, sink.writes) {
-        (true, false) => Some(0),
-        (false, true) => Some(1),
-        (true, true) => Some(2),
-        (false, false) => None,
-    }
+pub fn pairs(nest: &Nest, uses: &[Use]) -> impl Iterator<Item = Pair> {
+    uses.iter()
+        .flat_map(move |source| uses.iter().filter_map(move |sink| Pair::new(nest, *source, *sink)))
 }
 
 /// The number of the vector of two points.
@@ -96,15 +117,15 @@ impl<const D: usize> Search<'_, D> {
 
     /// The vectors that the conflicts of two accesses can have: = at every loop whose index is one at all points with one element.
     fn possible(&self, source: &[u16], sink: &[u16]) -> Vec<bool> {
-        let mut first = vec![0; self.head.len()];
+        let mut first = vec![0u16; self.head.len()];
         for (x, element) in source.iter().enumerate().rev() {
-            first[*element as usize] = x + 1;
+            first[*element as usize] = x as u16 + 1;
         }
         let mut varies = [false; D];
         for (x, element) in source.iter().enumerate().chain(sink.iter().enumerate()) {
             if let Some(like) = first[*element as usize].checked_sub(1) {
                 for (k, varies) in varies.iter_mut().enumerate() {
-                    *varies |= self.points[x][k] != self.points[like][k];
+                    *varies |= self.points[x][k] != self.points[like as usize][k];
                 }
             }
         }
@@ -112,11 +133,9 @@ impl<const D: usize> Search<'_, D> {
         (0..power(D)).map(can).collect()
     }
 
-    /// Marks the vectors of all conflicts. A statement's own iteration counts where the source stands before the sink.
-    fn search(&mut self, source: &[u16], sink: &[u16], own: bool, marks: &mut [bool]) {
-        self.head.fill(0);
-        // Vectors that do not point backwards, and that of one point alone if `own`.
-        let end = marks.len() / 2 + own as usize;
+    /// Marks the vectors of all conflicts.
+    fn search(&mut self, source: &[u16], sink: &[u16], pair: &Pair, marks: &mut [bool]) {
+        let (own, end) = (pair.own(), pair.end(D));
         let mut possible = None;
         let mut spent = 0;
         for y in 0..source.len() {
@@ -128,64 +147,72 @@ impl<const D: usize> Search<'_, D> {
             if spent > 729 {
                 let possible = possible.get_or_insert_with(|| self.possible(source, sink));
                 if possible[..end].iter().zip(&*marks).all(|(possible, mark)| !possible || *mark) {
-                    return;
+                    break;
                 }
                 spent = 0;
             }
         }
+        // The points may be far fewer than the elements.
+        source.iter().for_each(|from| self.head[*from as usize] = 0);
     }
 }
 
-fn search_all<const D: usize>(admitted: &Admitted, uses: &[Use], lines: &mut Lines) {
-    let mut search = Search::<D> {
-        points: admitted.points.rows(),
-        head: vec![0; admitted.ticket.nest.elements()],
-        next: vec![0; admitted.count],
-    };
-    for source in uses {
-        for sink in uses.iter().filter(|sink| sink.array == source.array) {
-            if let Some(kind) = kind(source, sink) {
-                let (s, t) = (source.statement, sink.statement);
-                search.search(source.places, sink.places, s < t, lines.block(s, t, kind));
-            }
+fn places<'a>(numbers: &'a [u16], points: &Points, one: Use) -> &'a [u16] {
+    &numbers[one.access * points.count..][..points.count]
+}
+
+/// Those that differ: a read that a statement makes twice is searched once.
+fn distinct(nest: &Nest, points: &Points, numbers: &[u16]) -> Vec<Use> {
+    let places = |one: &Use| places(numbers, points, *one);
+    let alike = |one: &Use, other: &Use| one.statement == other.statement && one.writes == other.writes && places(one) == places(other);
+    let mut distinct: Vec<Use> = Vec::with_capacity(nest.accesses.len());
+    uses(nest).for_each(|new| {
+        if !distinct.iter().any(|old| alike(old, &new)) {
+            distinct.push(new);
         }
-    }
+    });
+    distinct
 }
 
-/// Every line that the listing of an admitted ticket has.
-pub fn lines(admitted: &Admitted) -> Lines {
-    let nest = &admitted.ticket.nest;
+fn search_all<const D: usize>(nest: &Nest, points: &Points, lines: &mut Lines) {
+    let numbers = numbers(nest, points);
+    let uses = distinct(nest, points, &numbers);
+    let places = |one| places(&numbers, points, one);
+    let mut search = Search::<D> {
+        points: points.rows(),
+        head: vec![0; nest.elements()],
+        next: vec![0; points.count],
+    };
+    pairs(nest, &uses).for_each(|pair| {
+        let block = lines.block(&pair);
+        search.search(places(pair.source), places(pair.sink), &pair, &mut lines.marks[block]);
+    });
+}
+
+/// Every line that has its source and its sink at these points of a nest.
+pub fn lines_at(nest: &Nest, points: &Points) -> Lines {
     let (statements, depth) = (nest.statements.len(), nest.loops.len());
-    let numbers = numbers(nest, &admitted.points);
-    let uses = uses(admitted, &numbers);
     let mut lines = Lines {
         statements,
         depth,
         marks: vec![false; statements * statements * 3 * power(depth)],
     };
-    at_depth!(depth, search_all(admitted, &uses, &mut lines));
+    at_depth!(depth, search_all(nest, points, &mut lines));
     lines
 }
 
 /// How many pairs of accesses the search would meet if it left none out.
-pub fn conflicts(admitted: &Admitted) -> u64 {
-    let nest = &admitted.ticket.nest;
-    let numbers = numbers(nest, &admitted.points);
-    let uses = uses(admitted, &numbers);
+pub fn conflicts(nest: &Nest, points: &Points) -> u64 {
+    let numbers = numbers(nest, points);
+    let uses = distinct(nest, points, &numbers);
     let mut total = 0;
-    for (source, sink) in uses.iter().flat_map(|source| uses.iter().map(move |sink| (source, sink))) {
-        if kind(source, sink).is_none() {
-            continue;
-        }
+    for pair in pairs(nest, &uses) {
+        let [source, sink] = [pair.source, pair.sink].map(|one| places(&numbers, points, one));
         let mut named = vec![0; nest.elements()];
-        for (from, to) in source.places.iter().zip(sink.places) {
+        for (from, to) in source.iter().zip(sink) {
             let before = named[*to as usize];
             named[*from as usize] += 1;
-            total += if source.statement < sink.statement {
-                named[*to as usize]
-            } else {
-                before
-            };
+            total += if pair.own() { named[*to as usize] } else { before };
         }
     }
     total

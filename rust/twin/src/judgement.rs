@@ -1,10 +1,12 @@
 //! From bytes to an admitted ticket, and on to its new nest.
 
-use crate::dependence::lines;
+use crate::dependence::{Lines, lines_at};
 use crate::directions::DirectionSet;
 use crate::elements::first_stray;
-use crate::points::{Bounds, Points, Trouble, points, survey};
+use crate::points::{Bounds, Points, Space, Trouble, survey};
+use crate::ranges::{Ranges, are_compact, enclose, ranges};
 use crate::reading::read;
+use crate::squeeze;
 use crate::ticket::{Nest, Ticket};
 use crate::{Outcome, Refusal};
 
@@ -14,10 +16,47 @@ pub const NEW: Bounds = Bounds {
     most: 65_536,
 };
 
+/// So many points are listed at once; more are not before they are needed.
+const FEW: usize = 256;
+
+/// The points of a nest. No subscript leaves its extent at any of them.
+pub enum Iterations {
+    Listed(Points),
+    /// Known from the ranges of the loops.
+    Enclosed(Space, Ranges),
+}
+
+impl Iterations {
+    pub fn into_points(self) -> Points {
+        match self {
+            Iterations::Listed(points) => points,
+            Iterations::Enclosed(space, _) => space.points(),
+        }
+    }
+}
+
 pub struct Admitted {
     pub ticket: Ticket,
-    pub points: Points,
     pub count: usize,
+    pub iterations: Iterations,
+}
+
+impl Admitted {
+    pub fn ranges(&self) -> Ranges {
+        match &self.iterations {
+            Iterations::Listed(_) => ranges(&self.ticket.nest.loops),
+            Iterations::Enclosed(_, ranges) => *ranges,
+        }
+    }
+
+    /// Every line of the listing.
+    pub fn lines(&self) -> Lines {
+        let nest = &self.ticket.nest;
+        match &self.iterations {
+            Iterations::Listed(points) => lines_at(nest, points),
+            Iterations::Enclosed(space, ranges) => squeeze::lines(nest, ranges).unwrap_or_else(|| lines_at(nest, &space.points())),
+        }
+    }
 }
 
 pub struct Judged {
@@ -25,24 +64,48 @@ pub struct Judged {
     pub count: usize,
 }
 
+/// Refusal 9.
+fn iterations(nest: &Nest, space: Space) -> Outcome<Iterations> {
+    if space.count > FEW {
+        let ranges = ranges(&nest.loops);
+        if enclose(&ranges, nest) {
+            return Ok(Iterations::Enclosed(space, ranges));
+        }
+    }
+    let points = space.points();
+    match first_stray(nest, &points) {
+        Some(statement) => Err(Refusal::new(9, statement)),
+        None => Ok(Iterations::Listed(points)),
+    }
+}
+
 /// Refusals 1 to 9.
 pub fn admit(bytes: &[u8]) -> Outcome<Admitted> {
     let ticket = read(bytes)?;
-    let points = points(&ticket.nest.loops, &OWN).map_err(|trouble| match trouble {
+    let space = survey(&ticket.nest.loops, &OWN).map_err(|trouble| match trouble {
         Trouble::Far(place) => Refusal::new(7, place),
         Trouble::Crowded(place) => Refusal::new(8, place),
     })?;
-    if let Some(statement) = first_stray(&ticket.nest, &points) {
-        return Err(Refusal::new(9, statement));
+    let count = space.count;
+    let iterations = iterations(&ticket.nest, space)?;
+    Ok(Admitted { ticket, count, iterations })
+}
+
+/// Refusal 13. Mostly the ranges of the loops are enough.
+fn survey_new(nest: &Nest) -> Outcome<()> {
+    if are_compact(&ranges(&nest.loops), NEW.most) {
+        return Ok(());
     }
-    let count = points.count;
-    Ok(Admitted { ticket, points, count })
+    match survey(&nest.loops, &NEW) {
+        Err(Trouble::Far(place) | Trouble::Crowded(place)) => Err(Refusal::new(13, place)),
+        Ok(_) => Ok(()),
+    }
 }
 
 /// Refusals 1 to 13.
 pub fn judged(bytes: &[u8]) -> Outcome<Judged> {
     let admitted = admit(bytes)?;
-    let mut set = DirectionSet::of(&lines(&admitted));
+    let mut set = DirectionSet::of(&admitted.lines());
     let Ticket { mut nest, steps } = admitted.ticket;
     for (step, number) in steps.into_iter().zip(1..) {
         set = set.after(step);
@@ -56,9 +119,7 @@ pub fn judged(bytes: &[u8]) -> Outcome<Judged> {
             return Err(Refusal::new(12, number));
         }
     }
-    survey(&nest.loops, &NEW).map_err(|trouble| match trouble {
-        Trouble::Far(place) | Trouble::Crowded(place) => Refusal::new(13, place),
-    })?;
+    survey_new(&nest)?;
     Ok(Judged {
         nest,
         count: admitted.count,

@@ -1,8 +1,10 @@
 //! The algorithm of the proved code in plain Rust; for benchmarks only.
 //!
-//! Stage by stage what the proved entries do: words into a ticket, points depth by depth, subscripts within their extents, the element of
-//! every access at every point, chains of points by element, marks of vectors, steps, the new nest's points. Where a Rust programmer would
-//! not copy, clear or compute something again, this does not either.
+//! Stage by stage what the proved entries do: words into a ticket, points counted depth by depth, subscripts within their extents, the
+//! element of every access at every point, chains of points by element, marks of vectors, steps, the size of the new nest. More than 256
+//! points are not listed where the ranges of the loops enclose every subscript and the lines are squeezed: between those of a corner of the
+//! nest and those that Banerjee's inequalities allow. Where a Rust programmer would not copy, clear or compute something again, this does
+//! not either.
 //!
 //! Nothing rests on these answers: they are compared with the proved entries, and timed beside them.
 
@@ -28,8 +30,10 @@ mod judgement;
 mod listing;
 mod points;
 mod quick;
+mod ranges;
 mod reading;
 mod run;
+mod squeeze;
 mod stepping;
 mod ticket;
 mod writing;
@@ -87,15 +91,12 @@ pub fn write(ticket: &[u8], out: &mut [u8]) -> Answer {
 
 /// The listing of all directions to the front of `out`.
 pub fn list(ticket: &[u8], out: &mut [u8]) -> Answer {
-    answer(admit(ticket).and_then(|admitted| {
-        let lines = dependence::lines(&admitted);
-        listing::write(&lines, admitted.count, out)
-    }))
+    answer(admit(ticket).and_then(|admitted| listing::write(&admitted.lines(), admitted.count, out)))
 }
 
 /// Whether two accesses, numbered from 1, are apart: 1, or else 0.
 pub fn quick(ticket: &[u8], first: u64, second: u64) -> Answer {
-    answer(admit(ticket).and_then(|admitted| quick::test(&admitted.ticket.nest, first, second).map(usize::from)))
+    answer(admit(ticket).and_then(|admitted| quick::test(&admitted, first, second).map(usize::from)))
 }
 
 /// The nest in its new order on `store`.
@@ -109,5 +110,6 @@ pub fn run(ticket: &[u8], store: &mut [u32]) -> Answer {
 /// The iterations of an admitted ticket and its conflicts: pairs of accesses, source and sink, that name one element.
 pub fn size(ticket: &[u8]) -> Option<(usize, u64)> {
     let admitted = admit(ticket).ok()?;
-    Some((admitted.count, dependence::conflicts(&admitted)))
+    let points = admitted.iterations.into_points();
+    Some((points.count, dependence::conflicts(&admitted.ticket.nest, &points)))
 }

@@ -66,58 +66,71 @@ impl Points {
         &self.indices[x * self.depth..][..self.depth]
     }
 
-    /// The ranges of the next loop, one for each point.
-    fn ranges(&self, one: &Loop, bounds: &Bounds) -> Result<(Vec<(i64, i64)>, usize), Trouble> {
+    /// The first and the last index of the next loop, for each point.
+    fn ends(&self, one: &Loop) -> impl Iterator<Item = (i64, i64)> {
+        (0..self.count).map(|x| range(one, self.row(x)))
+    }
+
+    /// Every point with every index of the next loop.
+    fn inside(self, one: &Loop, bounds: &Bounds) -> Result<Space, Trouble> {
         let (mut total, mut far) = (0, false);
-        let mut ranges = Vec::with_capacity(self.count);
-        for x in 0..self.count {
-            let (low, high) = range(one, self.row(x));
+        let mut ends = Vec::with_capacity(self.count);
+        for (low, high) in self.ends(one) {
             if low <= high {
                 far |= low < -bounds.far || high > bounds.far;
                 total += high - low + 1;
             }
-            ranges.push((low, high));
+            ends.push((low, high));
         }
         match (far, total > bounds.most) {
             (true, _) => Err(Trouble::Far(self.depth + 1)),
             (_, true) => Err(Trouble::Crowded(self.depth + 1)),
-            _ => Ok((ranges, total as usize)),
+            _ => Ok(Space {
+                outside: self,
+                ends,
+                count: total as usize,
+            }),
         }
     }
+}
 
-    /// Every point with every index of the next loop.
-    fn extended(&self, ranges: &[(i64, i64)], count: usize) -> Points {
-        let depth = self.depth + 1;
-        let mut indices = Vec::with_capacity(count * depth);
-        for (x, (low, high)) in ranges.iter().enumerate() {
-            let row = self.row(x);
+/// All points of one depth, of which those of the depth above alone are listed: with each goes the range of the last loop.
+pub struct Space {
+    outside: Points,
+    ends: Vec<(i64, i64)>,
+    pub count: usize,
+}
+
+impl Space {
+    pub fn points(&self) -> Points {
+        let depth = self.outside.depth + 1;
+        let mut indices = Vec::with_capacity(self.count * depth);
+        for (x, (low, high)) in self.ends.iter().enumerate() {
+            let row = self.outside.row(x);
             for index in *low..=*high {
                 indices.extend_from_slice(row);
                 indices.push(index as i32);
             }
         }
+        let count = self.count;
         Points { depth, count, indices }
     }
 }
 
-/// All points of a nest within bounds.
-pub fn points(loops: &[Loop], bounds: &Bounds) -> Result<Points, Trouble> {
-    let mut points = Points::root();
-    for one in loops {
-        let (ranges, count) = points.ranges(one, bounds)?;
-        points = points.extended(&ranges, count);
+/// The points of a nest within bounds, those of full depth not listed yet.
+pub fn survey(loops: &[Loop], bounds: &Bounds) -> Result<Space, Trouble> {
+    let mut space = Points::root().inside(&loops[0], bounds)?;
+    for one in &loops[1..] {
+        space = space.points().inside(one, bounds)?;
     }
-    Ok(points)
+    Ok(space)
 }
 
-/// Whether a nest keeps its bounds: as `points`, without those of full depth.
-pub fn survey(loops: &[Loop], bounds: &Bounds) -> Result<(), Trouble> {
-    let mut points = Points::root();
-    for (k, one) in loops.iter().enumerate() {
-        let (ranges, count) = points.ranges(one, bounds)?;
-        if k + 1 < loops.len() {
-            points = points.extended(&ranges, count);
-        }
-    }
-    Ok(())
+/// The points of a nest within bounds whose indices are at most the ceilings.
+pub fn points_below(loops: &[Loop], ceilings: &[i64]) -> Points {
+    loops.iter().zip(ceilings).fold(Points::root(), |outside, (one, ceiling)| {
+        let ends: Vec<_> = outside.ends(one).map(|(low, high)| (low, high.min(*ceiling))).collect();
+        let count = ends.iter().map(|(low, high)| (high - low + 1).max(0) as usize).sum();
+        Space { outside, ends, count }.points()
+    })
 }

@@ -2,7 +2,7 @@
 
 use crate::elements::numbers;
 use crate::judgement::NEW;
-use crate::points::points;
+use crate::points::survey;
 use crate::ticket::Nest;
 use crate::{Outcome, Refusal};
 
@@ -23,9 +23,10 @@ pub fn run(nest: &Nest, store: &mut [u32]) -> Outcome<()> {
     if store.len() != nest.elements() {
         return Err(Refusal::new(16, 0));
     }
-    let Ok(points) = points(&nest.loops, &NEW) else {
-        unreachable!("the new nest was surveyed")
+    let Ok(space) = survey(&nest.loops, &NEW) else {
+        unreachable!("the new nest is within bounds")
     };
+    let points = space.points();
     let (numbers, count) = (numbers(nest, &points), points.count);
     for x in 0..count {
         for statement in &nest.statements {

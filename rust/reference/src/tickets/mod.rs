@@ -103,9 +103,9 @@ fn beyond(random: &mut Random) -> Ticket {
     Ticket { nest, steps }
 }
 
-fn large(random: &mut Random) -> Ticket {
+fn large(random: &mut Random, body: Body) -> Ticket {
     let loops = spaces::large(random);
-    let nest = bodies::nest(random, loops, Body::Few);
+    let nest = bodies::nest(random, loops, body);
     let count = count(random).min(3);
     // Skews and sections are never out of order: no search for those that are accepted.
     let steps = chains::free(random, nest.loops.len(), count, [10, 5, 40, 45]);
@@ -123,7 +123,7 @@ pub fn ticket(seed: u64, index: u64) -> Vec<u8> {
         4 => spreading(random),
         5 => beyond(random),
         6 => longest(random),
-        7 => large(random),
+        7 => large(random, Body::Few),
         _ => return mangled::noise(random),
     };
     let bytes = bytes_of(&words_of(&ticket));
@@ -131,6 +131,11 @@ pub fn ticket(seed: u64, index: u64) -> Vec<u8> {
         return mangled::mangled(random, bytes, ticket.steps.len());
     }
     bytes
+}
+
+/// The same, of some hundreds to 4096 iterations: too many for all pairs of instances to be compared often.
+pub fn large_ticket(seed: u64, index: u64) -> Vec<u8> {
+    bytes_of(&words_of(&large(&mut Random::of(seed, index), Body::Any)))
 }
 
 /// A ticket's words parted by blanks; a half word at the end is given as one byte.
