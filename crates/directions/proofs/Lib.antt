@@ -1,11 +1,12 @@
 -- Laws of sets of marks (HornerLaws to SetLaws), of the model's tables read backwards (StepLaws, SkewLaws), and what they come to for the functions
--- (AfterLaws, BackLaws) and for the judgement (JudgeLaws).
+-- (AfterLaws, EmptyLaws, BackLaws) and for the judgement (JudgeLaws).
 pub mod HornerLaws
 pub mod VectorLaws
 pub mod SetLaws
 pub mod StepLaws
 pub mod SkewLaws
 pub mod AfterLaws
+pub mod EmptyLaws
 pub mod BackLaws
 pub mod JudgeLaws
 pub mod Examples

@@ -1,6 +1,7 @@
 // The set of direction vectors of a nest, by value through each step. Loops are counted from 0.
 ghost use mathlib.Core.Path.{_≡_};
-ghost use mathlib.Core.Bool.{false, _||_};
+ghost use mathlib.Core.Bool.{true, false, _||_};
+ghost use mathlib.Core.List.{[]};
 ghost use Prim.Native.Nat.{ℕ, suc, _+_, _-_, _≤_, _<_};
 ghost use lib.ListN.{length, replicate};
 ghost use Rattle.model.specs.Ticket.{exchange, reversal, skew, section};
@@ -153,7 +154,25 @@ pub fn sectioned(s: DirectionSet, a: usize) -> DirectionSet
     pulled(s, Change::Section(a), s.depth + 1)
 }
 
-// ---- the backward test
+// ---- tests
+
+// Whether the set has no vector.
+pub fn is_empty(s: DirectionSet) -> bool
+    requires { ⌜ s .depth ≤ 6 ⌝ }
+    ensures { λ r. ⌜ (r ≡ true → vectorsOf s ≡ []) ⌝ }
+{
+    let marks = s.marks;
+    let depth = s.depth;
+    let step = vectors::stride(depth);
+    let mut n = (step - 1) / 2;
+    while n < 729 {
+        if marks[n] {
+            return false;
+        }
+        n += step;
+    }
+    true
+}
 
 // Whether a vector of the set points backwards. 364 is the number of the vector whose signs are all =, and those beyond it point backwards.
 pub fn points_back(s: DirectionSet) -> bool

@@ -33,7 +33,7 @@ fn refused(r: Refusal, outline: Outline) -> Judged
 
 // ---- one step
 
-fn direction_after(set: DirectionSet, step: Step) -> DirectionSet
+fn direction_by(set: DirectionSet, step: Step) -> DirectionSet
     requires { ⌜ DirectionIn set step ⌝ }
     ensures { λ r. ⌜ After (stepOf step) set r × (r .depth ≤ 6) ⌝ }
 {
@@ -57,6 +57,17 @@ fn direction_after(set: DirectionSet, step: Step) -> DirectionSet
             directions::sectioned(set, a)
         }
     }
+}
+
+// A set without vectors stays one, whatever the step.
+fn direction_after(set: DirectionSet, step: Step) -> DirectionSet
+    requires { ⌜ DirectionIn set step ⌝ }
+    ensures { λ r. ⌜ After (stepOf step) set r × (r .depth ≤ 6) ⌝ }
+{
+    if directions::is_empty(set) {
+        return directions::empty(steps::depth_after(step, set.depth));
+    }
+    direction_by(set, step)
 }
 
 // Refusals 11 and 12 in this order.

@@ -39,7 +39,19 @@ impl DirectionSet {
         self.marks[size / 2 + 1..size].contains(&true)
     }
 
+    fn is_empty(&self) -> bool {
+        !self.marks[..power(self.depth)].contains(&true)
+    }
+
+    /// A set without vectors stays one, with a loop more after a section.
     pub fn after(self, step: Step) -> DirectionSet {
+        if self.is_empty() {
+            let more = matches!(step, Step::Section { .. }) as usize;
+            return DirectionSet {
+                depth: self.depth + more,
+                ..self
+            };
+        }
         match step {
             Step::Exchange { a } => self.exchanged(a),
             Step::Reversal { a } => self.reversed(a),

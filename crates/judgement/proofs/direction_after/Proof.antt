@@ -1,68 +1,44 @@
--- `direction_after`: the change that the step's match found.
-use native.Mathlib.Omega.{arith}
-use Rattle.steps.specs.declared.Step.the-variants.{Swap, Reverse, Lean, Strip}
-use Rattle.judgement.proofs.StepLaws.{there, vectors-are, skew-distance}
+-- `direction_after`: no vectors give none, and others go by the step.
+use mathlib.Core.Path.{refl, subst}
+use Prim.Native.Nat.{ℕ}
+use Rattle.steps.specs.Steps.{stepOf}
+use Rattle.directions.specs.Sets.{Empty}
+use Rattle.directions.proofs.EmptyLaws.{after-none}
+use Rattle.judgement.proofs.StepLaws.{vectors-are}
 use borrow.Author.Needs.{needs}
 use Rattle.judgement.proofs.direction_after.Statement.{statement}
 use Rattle.judgement.proofs.direction_after.Tie as tie
 
-enum-known-step : tie.Need-enum-known-step
-enum-known-step c = search needs
+is-empty-requires : tie.Need-is-empty-requires
+is-empty-requires c κs = search needs
 
-exchanged-requires : tie.Need-exchanged-requires
-exchanged-requires c κs = let s = c .before .before .before in let v = c .before .step .given in let h = there (s .args .set) (s .args .step) (Swap (v .0 .0)) (v .1) (s .pre) in record { few = s .pre .few; inside = h }
+depth-after-requires : tie.Need-depth-after-requires
+depth-after-requires c κs = search needs
 
-enum-known-step-2 : tie.Need-enum-known-step-2
-enum-known-step-2 c = search needs
-
-reversed-requires : tie.Need-reversed-requires
-reversed-requires c κs = let s = c .before .before .before in let v = c .before .step2 .given in let h = there (s .args .set) (s .args .step) (Reverse (v .0 .0)) (v .1) (s .pre) in record { few = s .pre .few; inside = h }
-
-enum-known-step-3 : tie.Need-enum-known-step-3
-enum-known-step-3 c = search needs
-
-add-b : tie.Need-add-b
-add-b c = let s = c .before .before .before in let v = c .before .step3 .given in let h = there (s .args .set) (s .args .step) (Lean (v .0 .0)) (v .1) (s .pre) in let f = s .pre .few in omega arith
-
-add-b-2 : tie.Need-add-b-2
-add-b-2 c = let s = c .before .before .before .before in let v = c .before .before .step3 .given in let h = there (s .args .set) (s .args .step) (Lean (v .0 .0)) (v .1) (s .pre) in let f = s .pre .few in omega arith
-
-skewed-requires : tie.Need-skewed-requires
-skewed-requires c κs = let s = c .before .before .before .before in let v = c .before .before .step3 .given in let h = there (s .args .set) (s .args .step) (Lean (v .0 .0)) (v .1) (s .pre) in record { few = s .pre .few; outer = omega arith; inside = omega arith }
-
-enum-known-step-4 : tie.Need-enum-known-step-4
-enum-known-step-4 c = search needs
-
-sectioned-requires : tie.Need-sectioned-requires
-sectioned-requires c κs = let s = c .before .before .before in let v = c .before .step4 .given in let h = there (s .args .set) (s .args .step) (Strip (v .0 .0)) (v .1) (s .pre) in record { few = h .1; inside = h .0 }
+empty-requires : tie.Need-empty-requires
+empty-requires c κs = search needs
 
 returns : tie.Need-returns
-returns c = let s = c .before .before .before .before in let v = c .before .before .step .given in vectors-are (s .args .set) (s .args .step) (Swap (v .0 .0)) (v .1) (s .pre) (c .exchanged .result) (c .exchanged .ensures)
+returns c =
+    let s = c .before .before .before .before in
+    let d = c .before .depth-after in
+    let r = c .empty in
+    vectors-are (s .args .set) (s .args .step) (s .args .step) refl (s .pre) (r .result)
+    (after-none (stepOf (s .args .step)) (s .args .set) (r .result) (c .before .before .before .is-empty .ensures (c .before .before .if1 .taken)) (subst (λ (n : ℕ). Empty n (r .result)) (d .ensures) (r .ensures)))
+
+direction-by-requires : tie.Need-direction-by-requires
+direction-by-requires c κs = search needs
 
 returns-2 : tie.Need-returns-2
-returns-2 c = let s = c .before .before .before .before in let v = c .before .before .step2 .given in vectors-are (s .args .set) (s .args .step) (Reverse (v .0 .0)) (v .1) (s .pre) (c .reversed .result) (c .reversed .ensures)
-
-returns-3 : tie.Need-returns-3
-returns-3 c = let s = c .before .before .before .before .before in let v = c .before .before .before .step3 .given in vectors-are (s .args .set) (s .args .step) (Lean (v .0 .0)) (v .1) (s .pre) (c .skewed .result) (skew-distance (s .args .set) (c .skewed .result) (v .0 .0 .outer) (v .0 .0 .distance) (v .0 .0 .forward) (c .skewed .ensures))
-
-returns-4 : tie.Need-returns-4
-returns-4 c = let s = c .before .before .before .before in let v = c .before .before .step4 .given in vectors-are (s .args .set) (s .args .step) (Strip (v .0 .0)) (v .1) (s .pre) (c .sectioned .result) (c .sectioned .ensures (v .0 .0 .width))
+returns-2 c = search needs
 
 pub direction-after-spec : {M : Type 1} → statement M
 direction-after-spec =
     tie.close
     (tie.spec
-    enum-known-step
-    exchanged-requires
-    enum-known-step-2
-    reversed-requires
-    enum-known-step-3
-    add-b
-    add-b-2
-    skewed-requires
-    enum-known-step-4
-    sectioned-requires
+    is-empty-requires
+    depth-after-requires
+    empty-requires
     returns
-    returns-2
-    returns-3
-    returns-4)
+    direction-by-requires
+    returns-2)
