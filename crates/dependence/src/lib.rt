@@ -222,18 +222,18 @@ fn from_all(
     }
 }
 
-// Whether links and heads of a small nest do: 256 points and 1024 elements.
-fn few(count: usize, elements: usize) -> bool
-    ensures { λ r. ⌜ (r ≡ true → (count ≤ 256) × (elements ≤ 1024)) ⌝ }
+// Whether links for so many points and heads for so many elements do.
+fn few(count: usize, elements: usize, links: usize, heads: usize) -> bool
+    ensures { λ r. ⌜ (r ≡ true → (count ≤ links) × (elements ≤ heads)) ⌝ }
 {
-    if 256 < count {
+    if links < count {
         return false;
     }
-    elements <= 1024
+    elements <= heads
 }
 
-// Marks every line that the listing of the nest has. All numbers are below `elements`; a small nest has fewer links and heads to clear.
-pub fn dependences(
+// `dependences` of a nest that is not small: of few points, or of any.
+fn dependences_in_large(
     points: &[i64],
     depth: usize,
     count: usize,
@@ -247,9 +247,9 @@ pub fn dependences(
     requires { ⌜ Ready (flat (now points) depth count (now numbers) (now statements) (now writes) body) (now marks) × NumbersBelow elements (flat (now points) depth count (now numbers) (now statements) (now writes) body) ⌝ }
     ensures { λ _. ⌜ Searched (flat (now (points .entry)) depth count (now (numbers .entry)) (now (statements .entry)) (now (writes .entry)) body) (now (marks .entry)) (now (marks .exit)) ⌝ }
 {
-    if few(count, elements) {
+    if few(count, elements, 256, 8192) {
         let mut next = [0u16; 256];
-        let mut head = [0u16; 1024];
+        let mut head = [0u16; 8192];
         let mut start = [0u16; 256];
         from_all(
             points,
@@ -280,6 +280,53 @@ pub fn dependences(
         &mut next,
         &mut head,
         &mut start,
+        marks,
+    );
+}
+
+// Marks every line that the listing of the nest has. All numbers are below `elements`; fewer points and elements have fewer links and heads to clear.
+pub fn dependences(
+    points: &[i64],
+    depth: usize,
+    count: usize,
+    numbers: &[u16],
+    elements: usize,
+    statements: &[usize],
+    writes: &[bool],
+    body: usize,
+    marks: &mut [bool],
+)
+    requires { ⌜ Ready (flat (now points) depth count (now numbers) (now statements) (now writes) body) (now marks) × NumbersBelow elements (flat (now points) depth count (now numbers) (now statements) (now writes) body) ⌝ }
+    ensures { λ _. ⌜ Searched (flat (now (points .entry)) depth count (now (numbers .entry)) (now (statements .entry)) (now (writes .entry)) body) (now (marks .entry)) (now (marks .exit)) ⌝ }
+{
+    if few(count, elements, 256, 1024) {
+        let mut next = [0u16; 256];
+        let mut head = [0u16; 1024];
+        let mut start = [0u16; 256];
+        from_all(
+            points,
+            depth,
+            count,
+            numbers,
+            statements,
+            writes,
+            body,
+            &mut next,
+            &mut head,
+            &mut start,
+            marks,
+        );
+        return;
+    }
+    dependences_in_large(
+        points,
+        depth,
+        count,
+        numbers,
+        elements,
+        statements,
+        writes,
+        body,
         marks,
     );
 }

@@ -1,4 +1,4 @@
--- `dependences`: links and heads for a small nest, or for the largest.
+-- `dependences`: links and heads for a small nest, or for a large one.
 use mathlib.Core.Bool.{true}
 use mathlib.Core.Path.{refl}
 use native.Mathlib.Omega.{arith}
@@ -32,17 +32,8 @@ same-length c = search needs
 returns : tie.Need-returns
 returns c = search needs
 
-slice-aggregate-from-all-4 : tie.Need-slice-aggregate-from-all-4
-slice-aggregate-from-all-4 c = search needs
-
-slice-aggregate-from-all-5 : tie.Need-slice-aggregate-from-all-5
-slice-aggregate-from-all-5 c = search needs
-
-slice-aggregate-from-all-6 : tie.Need-slice-aggregate-from-all-6
-slice-aggregate-from-all-6 c = search needs
-
-from-all-requires-2 : tie.Need-from-all-requires-2
-from-all-requires-2 c κs = let s = c .before .before .before .before .before .before .before .before .before .before in (s .pre .0, lent-clear (nest s) (s .args .elements) 4096 16384 (s .pre .1) (s .pre .0 .few) (s .pre .1 .few) (omega arith))
+dependences-in-large-requires : tie.Need-dependences-in-large-requires
+dependences-in-large-requires c κs = search needs
 
 same-length-2 : tie.Need-same-length-2
 same-length-2 c = search needs
@@ -61,9 +52,6 @@ dependences-spec =
     from-all-requires
     same-length
     returns
-    slice-aggregate-from-all-4
-    slice-aggregate-from-all-5
-    slice-aggregate-from-all-6
-    from-all-requires-2
+    dependences-in-large-requires
     same-length-2
     returns-2)

@@ -1,0 +1,69 @@
+-- `dependences_in_large`: links and heads for few points, or for the most.
+use mathlib.Core.Bool.{true}
+use mathlib.Core.Path.{refl}
+use native.Mathlib.Omega.{arith}
+use Rattle.dependence.specs.Flat.{Flat, flat}
+use Rattle.dependence.proofs.FlatLaws.{lent-clear}
+use borrow.Author.Needs.{needs}
+use Rattle.dependence.proofs.dependences_in_large.Statement.{statement}
+use Rattle.dependence.proofs.dependences_in_large.Tie as tie
+
+abbrev nest : tie.Start → Flat
+nest s = flat (s .args .points .now) (s .args .depth) (s .args .count) (s .args .numbers .now) (s .args .statements .now) (s .args .writes .now) (s .args .body)
+
+few-requires : tie.Need-few-requires
+few-requires c κs = search needs
+
+slice-aggregate-from-all : tie.Need-slice-aggregate-from-all
+slice-aggregate-from-all c = search needs
+
+slice-aggregate-from-all-2 : tie.Need-slice-aggregate-from-all-2
+slice-aggregate-from-all-2 c = search needs
+
+slice-aggregate-from-all-3 : tie.Need-slice-aggregate-from-all-3
+slice-aggregate-from-all-3 c = search needs
+
+from-all-requires : tie.Need-from-all-requires
+from-all-requires c κs = let s = c .before .before .before .before .before .before .before .before .before .before in let f = c .before .before .before .before .before .few .ensures (c .before .before .before .before .if1 .taken) in (s .pre .0, lent-clear (nest s) (s .args .elements) 256 8192 (s .pre .1) (f .0) (f .1) (omega arith))
+
+same-length : tie.Need-same-length
+same-length c = search needs
+
+returns : tie.Need-returns
+returns c = search needs
+
+slice-aggregate-from-all-4 : tie.Need-slice-aggregate-from-all-4
+slice-aggregate-from-all-4 c = search needs
+
+slice-aggregate-from-all-5 : tie.Need-slice-aggregate-from-all-5
+slice-aggregate-from-all-5 c = search needs
+
+slice-aggregate-from-all-6 : tie.Need-slice-aggregate-from-all-6
+slice-aggregate-from-all-6 c = search needs
+
+from-all-requires-2 : tie.Need-from-all-requires-2
+from-all-requires-2 c κs = let s = c .before .before .before .before .before .before .before .before .before .before in (s .pre .0, lent-clear (nest s) (s .args .elements) 4096 16384 (s .pre .1) (s .pre .0 .few) (s .pre .1 .few) (omega arith))
+
+same-length-2 : tie.Need-same-length-2
+same-length-2 c = search needs
+
+returns-2 : tie.Need-returns-2
+returns-2 c = search needs
+
+pub dependences-in-large-spec : {M : Type 1} → statement M
+dependences-in-large-spec =
+    tie.close
+    (tie.spec
+    few-requires
+    slice-aggregate-from-all
+    slice-aggregate-from-all-2
+    slice-aggregate-from-all-3
+    from-all-requires
+    same-length
+    returns
+    slice-aggregate-from-all-4
+    slice-aggregate-from-all-5
+    slice-aggregate-from-all-6
+    from-all-requires-2
+    same-length-2
+    returns-2)
