@@ -11,6 +11,7 @@ use std::process::ExitCode;
 use std::time::{Duration, Instant};
 
 use compare::{Tally, compare};
+use reference::tickets::ticket;
 
 const HELP: &str = "Compares the five entries of Hurkeztor with the reference: number, place, count and all lent memory.
 
@@ -85,7 +86,7 @@ fn compare_all(wanted: &Wanted) -> u64 {
     };
     for done in 0..wanted.tickets {
         progress.tell(done, wanted.tickets, differences);
-        if let Err(difference) = compare(wanted.seed, wanted.first + done, &mut tally) {
+        if let Err(difference) = compare(ticket, wanted.seed, wanted.first + done, &mut tally) {
             differences += 1;
             if differences <= MOST_SHOWN {
                 progress.end();

@@ -4,7 +4,7 @@ use std::fmt;
 
 use hurkeztor::entries;
 use reference::Answers;
-use reference::tickets::{Random, as_words, ticket};
+use reference::tickets::{Random, as_words};
 
 /// Words or bytes on either side of what is lent, which no entry may touch.
 const GUARD: usize = 16;
@@ -197,8 +197,8 @@ impl Comparison<'_> {
     }
 }
 
-/// All five entries on the ticket of a seed and an index.
-pub fn compare(seed: u64, index: u64, tally: &mut Tally) -> Result<(), Box<Difference>> {
+/// All five entries on the ticket that is made of a seed and an index.
+pub fn compare(ticket: fn(u64, u64) -> Vec<u8>, seed: u64, index: u64, tally: &mut Tally) -> Result<(), Box<Difference>> {
     let bytes = ticket(seed, index);
     let lent = bytes.clone();
     let mut comparison = Comparison {
