@@ -8,7 +8,7 @@ pub struct Kernel {
     pub sizes: fn() -> Vec<String>,
 }
 
-pub const KERNELS: [Kernel; 9] = [
+pub const KERNELS: [Kernel; 10] = [
     Kernel {
         name: "stencil in one dimension",
         sizes: || [(1, 6), (4, 25), (4, 250), (4, 1024)].map(stencil_1d).into(),
@@ -44,6 +44,10 @@ pub const KERNELS: [Kernel; 9] = [
     Kernel {
         name: "chain of eight steps",
         sizes: || PLANES.map(eight_steps).into(),
+    },
+    Kernel {
+        name: "mirrored access",
+        sizes: || [6, 100, 1000, 4096].map(mirrored).into(),
     },
 ];
 
@@ -160,6 +164,17 @@ fn eight_steps((rows, columns): (u32, u32)) -> String {
          exchange 2 3
          exchange 1 2
          reverse 2"
+    )
+}
+
+/// Conflicts lie far apart, so that all points have to be searched however many there are.
+fn mirrored(count: u32) -> String {
+    format!(
+        "array A({count})
+         for i = 0 to {count}-1
+           A(i) = A({}-i) + 1
+         section 1 by 8",
+        count - 1
     )
 }
 
