@@ -18,11 +18,11 @@ use Rattle.space.specs.declared.Verdict.the-variants.{Admitted, FarIndex, Crowd
 use Rattle.space.proofs.ListLaws.{admitted-near, admitted-few}
 use Rattle.elements.specs.Search as Elements
 use Rattle.sheet.specs.Sheets.{Sheet, nestOf, SheetIn}
-use Rattle.sheet.specs.Stages.{Surveyed, ListIn, PointsAre, StrayIn, Searched}
+use Rattle.sheet.specs.Stages.{Surveyed, ListIn, PointsAre, Searched}
 use Rattle.sheet.proofs.StageLaws.{depth-is}
 use Rattle.admission.specs.declared.Counted.{Counted}
 use Rattle.admission.specs.declared.Counted.the-variants.{Points, Refused}
-use Rattle.admission.specs.Admission.{answerOf, passed, Counts, EnumerateIn, Enumerates}
+use Rattle.admission.specs.Admission.{answerOf, passed, Counts, FindIn, EnumerateIn, Enumerates}
 
 -- a refusal is no count of points
 pub not-points : {A : Type 0} (r : Refusal) (n : ℕ) → Refused r ≡ Points n → A
@@ -68,8 +68,8 @@ module _ (P : Sheet) (o : List ℤ) (h : EnumerateIn P (length o)) where
   rest = ap (_>> inArrays (nestOf P .arrays) (iterations (nestOf P .loops)) 1 (nestOf P .statements)) (h .spacious)
 
   module _ (e : List ℤ) (n : ℕ) (f : PointsAre P e n × (length e ≡ length o)) where
-    pub stray-in : StrayIn P e n
-    stray-in = record { sheet = h .sheet; points-are = f .0 }
+    pub find-in : FindIn P e n
+    find-in = record { stray = record { sheet = h .sheet; points-are = f .0 }; spacious = h .spacious }
 
     points : PointsAre P e (length (iterations (nestOf P .loops)))
     points = subst (PointsAre P e) (f .0 .count) (f .0)

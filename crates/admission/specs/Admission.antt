@@ -11,7 +11,7 @@ use Rattle.reading.specs.Refusals.{refusal}
 use Rattle.reading.specs.declared.Status.{Status}
 use Rattle.reading.specs.declared.Status.the-variants as Status
 use Rattle.sheet.specs.Sheets.{Sheet, nestOf, SheetIn}
-use Rattle.sheet.specs.Stages.{PointsAre}
+use Rattle.sheet.specs.Stages.{PointsAre, StrayIn}
 use Rattle.admission.specs.declared.Counted.{Counted}
 use Rattle.admission.specs.declared.Counted.the-variants.{Points, Refused}
 
@@ -27,6 +27,11 @@ pub record Counts (P : Sheet) (r : Counted) : Type 0 where
 abbrev pub passed : Status → Answer (Unit {0})
 passed Status.Fine = accepted tt
 passed (Status.Refused r) = refusal r
+
+-- a nest that passes 7 and 8, and its n points
+pub record FindIn (P : Sheet) (points : List ℤ) (n : ℕ) : Type 0 where
+  pub stray : StrayIn P points n
+  pub spacious : space (nestOf P .loops) ≡ accepted tt
 
 -- a nest that passes 7 and 8, and room for its points
 pub record EnumerateIn (P : Sheet) (room : ℕ) : Type 0 where

@@ -2,7 +2,8 @@
 ghost use mathlib.Core.Path.{_≡_};
 ghost use lib.ListN.{length};
 ghost use Rattle.sheet.specs.Sheets.{sheetOf, SheetIn};
-ghost use Rattle.admission.specs.Admission.{Counts, EnumerateIn, Enumerates};
+ghost use Rattle.sheet.specs.Stages.{Searched};
+ghost use Rattle.admission.specs.Admission.{Counts, FindIn, EnumerateIn, Enumerates};
 use reading::Refusal;
 use reading::Status;
 use sheet::Outline;
@@ -25,13 +26,32 @@ pub fn count_points(outline: Outline, limits: &[i16], words: &[i16]) -> Counted
     }
 }
 
+// The number of the first statement that has a subscript which leaves its extent, or 0. Of many points the ranges of the loops are asked first.
+fn find_stray(
+    outline: Outline,
+    limits: &[i16],
+    words: &[i16],
+    points: &[i64],
+    count: usize,
+) -> usize
+    requires { ⌜ FindIn (sheetOf outline (now limits) (now words)) (now points) count ⌝ }
+    ensures { λ r. ⌜ Searched (sheetOf outline (now (limits .entry)) (now (words .entry))) r ⌝ }
+{
+    if 32 < count {
+        if enclosure::stays_inside(outline, limits, words) {
+            return 0;
+        }
+    }
+    sheet::find_stray(outline, limits, words, points, count)
+}
+
 // Writes the points row by row in order, then looks for a subscript that leaves its extent.
 pub fn enumerate(outline: Outline, limits: &[i16], words: &[i16], points: &mut [i64]) -> Status
     requires { ⌜ EnumerateIn (sheetOf outline (now limits) (now words)) (length (now points)) ⌝ }
     ensures { λ r. ⌜ Enumerates (sheetOf outline (now (limits .entry)) (now (words .entry))) (now (points .entry)) (now (points .exit)) r ⌝ }
 {
     let count = sheet::list_points(outline, limits, words, points);
-    let stray = sheet::find_stray(outline, limits, words, points, count);
+    let stray = find_stray(outline, limits, words, points, count);
     if 0 < stray {
         return Status::Refused(Refusal::SubscriptOutOfBounds(stray));
     }

@@ -3,9 +3,10 @@ use mathlib.Core.Path.{_≡_, refl, sym, ap, _∙_, subst}
 use mathlib.Core.Bool.{Bool, true, false, _||_}
 use mathlib.Core.Logic.{_⊎_, inl, inr, ⊎-elim}
 use mathlib.Core.List.{List, [], _∷_}
-use Prim.Native.Nat.{ℕ, zero, suc, _+_, _*_, _-_, _≤_, _<_}
+use Prim.Native.Nat.{ℕ, zero, suc, _+_, _*_, _-_, _/_, _≤_, _<_}
 use native.Mathlib.Nat.{eq-or-lt-of-le}
 use native.Mathlib.Omega.{arith}
+use native.Mathlib.Decide.{decLt}
 use lib.Dec.{T, eqb, eqb→eq}
 use lib.IntN.{ℤ, pos}
 use lib.ListN.{length, getD, set, take, drop}
@@ -20,22 +21,31 @@ use Rattle.lists.proofs.TestLaws.{T-same, true-T, and-both, or-cases, or-left, 
 use Rattle.model.specs.Directions.{signs}
 use Rattle.model.specs.Inside.{Earlier}
 use Rattle.vectors.specs.Numbers.{number}
-use Rattle.vectors.specs.Candidates.{row, code, Agree, Steady}
+use Rattle.vectors.specs.Candidates.{row, code, stride, Agree, Steady}
 use Rattle.chains.specs.Search.{some, latest, upTo, Links, hit, found, Adds, Level, LevelElse, Full, Searchable, Followable}
 use Rattle.chains.proofs.SomeLaws.{some-there, there-some}
 use Rattle.chains.proofs.ChainLaws.{latest-there, upTo-le}
-use Rattle.vectors.proofs.NumberLaws.{number-self, number-earlier, signs-short}
-use Rattle.vectors.proofs.VectorLaws.{row-length, row-short}
+use Rattle.vectors.proofs.NumberLaws.{number-self, number-earlier, signs-length}
+use Rattle.vectors.proofs.DepthLaws.{OfDepth, depth-number, depth-least, depth-apart}
+use Rattle.vectors.proofs.VectorLaws.{row-length}
 use Rattle.vectors.proofs.CandidateLaws.{agreed-steady}
 
 -- ---- the loop
 
 -- those of numbers below v
-abbrev pub FullBelow : List Bool → ℕ → List Bool → ℕ → Type 0
-FullBelow varying base m v = (u : List Sign) → length u ≤ 6 → Steady varying u → number u < v → getD m (base + number u) false ≡ true
+abbrev pub FullBelow : ℕ → List Bool → ℕ → List Bool → ℕ → Type 0
+FullBelow d varying base m v = (u : List Sign) → length u ≡ d → Steady varying u → number u < v → getD m (base + number u) false ≡ true
 
-pub full-next : (varying : List Bool) (base : ℕ) (m : List Bool) (v : ℕ) → ((u : List Sign) → length u ≤ 6 → Steady varying u → number u ≡ v → getD m (base + v) false ≡ true) → FullBelow varying base m v → FullBelow varying base m (v + 1)
-full-next varying base m v h f u l steady g = ⊎-elim (λ e. subst (λ z. getD m (base + z) false ≡ true) (sym e) (h u l steady e)) (f u l steady) (eq-or-lt-of-le (let z : number u ≤ v = omega arith in z))
+module _ (d s : ℕ) (e : s ≡ stride (6 - d)) (varying : List Bool) (base : ℕ) (m : List Bool) where
+  pub full-first : FullBelow d varying base m ((s - 1) / 2)
+  full-first u l steady h = let a = depth-least d s e (number u) (depth-number u d l) in absurd (omega arith)
+
+  pub full-next : (v : ℕ) → OfDepth d v → ((u : List Sign) → length u ≡ d → Steady varying u → number u ≡ v → getD m (base + v) false ≡ true) → FullBelow d varying base m v → FullBelow d varying base m (v + s)
+  full-next v o h f u l steady g = elim (decLt (number u) v) [
+    | yes k ↦ f u l steady k
+    | no k ↦ ⊎-elim (λ i. subst (λ z. getD m (base + z) false ≡ true) i (h u l steady (sym i))) (λ i. let a = depth-apart d s e v (number u) o (depth-number u d l) i in absurd (omega arith))
+        (eq-or-lt-of-le (let z : v ≤ number u = omega arith in z))
+  ]
 
 -- ---- points in order
 
@@ -116,7 +126,7 @@ module _ (d : ℕ) (s : List ℤ) (from next : List ℕ) (k : ℕ) (nexts : Link
 
 pub left-early : (s : List ℤ) (d : ℕ) (varying : List Bool) (from to : List ℕ) (own : Bool) (base : ℕ) (next start : List ℕ) (m₀ m : List Bool) (y : ℕ) → Searchable s d from to base m₀ → Followable from to own next start
     → LevelElse d s (length from) next start d varying → y ≤ length from
-    → Full varying own base m → Adds m₀ m (found d s y from to own base) → Adds m₀ m (found d s (length from) from to own base)
+    → Full d varying own base m → Adds m₀ m (found d s y from to own base) → Adds m₀ m (found d s (length from) from to own base)
 unfolding found hit code
 left-early s d varying from to own base next start m₀ m y ok links else h full a j = T-same (getD m j false) (getD m₀ j false || found d s n from to own base j)
     (λ g. ⊎-elim (λ k. or-left (getD m₀ j false) (found d s n from to own base j) k)
@@ -139,10 +149,10 @@ left-early s d varying from to own base next start m₀ m y ok links else h full
         let t = and-both (eqb (getD from x 0) (getD to y 0)) (eqb (base + code d s x y) j) (q .2) in
         let e : base + code d s x y ≡ j = eqb→eq (base + code d s x y) j (t .1) in
         true-T (getD m j false) (subst (λ z. getD m z false ≡ true) e
-        (full (signs (row d s x) (row d s y)) (short x y) (steady x y (p .1) (q .1) (eqb→eq (getD from x 0) (getD to y 0) (t .0))) (code-forward d n s (ok .shallow) (ok .stored) (ok .rising) own x y (q .1) (p .1))))
+        (full (signs (row d s x) (row d s y)) (sized x y (omega arith) (p .1)) (steady x y (p .1) (q .1) (eqb→eq (getD from x 0) (getD to y 0) (t .0))) (code-forward d n s (ok .shallow) (ok .stored) (ok .rising) own x y (q .1) (p .1))))
       where
-        short : (x y : ℕ) → length (signs (row d s x) (row d s y)) ≤ 6
-        short x y = let a = signs-short (row d s x) (row d s y) in let b = row-short d s x in let c = ok .shallow in omega arith
+        sized : (x y : ℕ) → x < n → y < n → length (signs (row d s x) (row d s y)) ≡ d
+        sized x y h g = let a = row-is d n s (ok .shallow) (ok .stored) (ok .rising) x h in let b = row-is d n s (ok .shallow) (ok .stored) (ok .rising) y g in signs-length (row d s x) (row d s y) (a ∙ sym b) ∙ a
 
         fits : (x : ℕ) → x < n → x * d + d ≤ length s
         fits x h = let a = row-fits d x n h in let b = ok .stored in omega arith

@@ -115,9 +115,9 @@ pub record Tabled (s : List ℤ) (d n : ℕ) (links : List ℕ) : Type 0 where
 
 -- ---- all marks that two accesses can set
 
--- every vector that does not point backwards and is = at the loops that do not vary is marked, that of = alone only where it can be
-abbrev pub Full : List Bool → Bool → ℕ → List Bool → Type 0
-Full varying own base m = (u : List Sign) → length u ≤ 6 → Steady varying u → number u < upTo own 364 → getD m (base + number u) false ≡ true
+-- every vector of d loops that does not point backwards and is = at the loops that do not vary is marked, that of = alone only where it can be
+abbrev pub Full : ℕ → List Bool → Bool → ℕ → List Bool → Type 0
+Full d varying own base m = (u : List Sign) → length u ≡ d → Steady varying u → number u < upTo own 364 → getD m (base + number u) false ≡ true
 
 -- ---- what the search of two accesses asks
 

@@ -3,6 +3,7 @@ ghost use mathlib.Core.Path.{_≡_};
 ghost use mathlib.Core.Bool.{true, false};
 ghost use Prim.Native.Nat.{_+_, _-_, _≤_, _<_};
 ghost use lib.ListN.{length};
+ghost use Rattle.vectors.specs.Candidates.{stride};
 ghost use Rattle.chains.specs.Search.{Below, Links, Unlinked, NextLinked, Clear, ClearElse, Linkable, Linked, Followable, upTo, Adds, walked, Walkable, Level, LevelElse, Tabled, Full, found, Searchable};
 
 // ---- chains of points by element
@@ -55,24 +56,25 @@ pub fn link(from: &[u16], to: &[u16], own: bool, head: &mut [u16], out: &mut [u1
     any
 }
 
-// Marks the vectors of the sink y with all sources of the chain that begins at `first`, and counts them.
+// Marks the vectors of the sink y with all sources of the chain that begins at `first`, and counts them. `step` is the stride of the depth.
 fn walk(
     points: &[i64],
     depth: usize,
+    step: usize,
     y: usize,
     first: usize,
     next: &[u16],
     base: usize,
     marks: &mut [bool],
 ) -> usize
-    requires { ⌜ Walkable (now points) depth y first (now next) base (now marks) ⌝ }
+    requires { ⌜ Walkable (now points) depth y first (now next) base (now marks) × (step ≡ stride (6 - depth)) ⌝ }
     ensures { λ r. ⌜ (r ≤ first) × Adds (now (marks .entry)) (now (marks .exit)) (walked depth (now (points .entry)) (now (next .entry)) base y first) ⌝ }
 {
     let mut steps = 0;
     let mut l = first;
     while l != 0 {
         let x = l - 1;
-        marks[base + vectors::pair(points, depth, x, y)] = true;
+        marks[base + vectors::pair(points, depth, step, x, y)] = true;
         l = wide(next[x]);
         steps += 1;
     }
@@ -138,20 +140,20 @@ fn vary(
     }
 }
 
-// Whether every vector that the search of two accesses can find is marked: it is = at the loops that do not vary.
-fn full(marks: &[bool], base: usize, varying: &[bool], own: bool) -> bool
-    requires { ⌜ (base + 729 ≤ length (now marks)) × (length (now varying) ≡ 6) ⌝ }
-    ensures { λ r. ⌜ (r ≡ true → Full (now (varying .entry)) own base (now (marks .entry))) ⌝ }
+// Whether every vector of the depth that the search of two accesses can find is marked: it is = at the loops that do not vary.
+fn full(marks: &[bool], base: usize, depth: usize, step: usize, varying: &[bool], own: bool) -> bool
+    requires { ⌜ (base + 729 ≤ length (now marks)) × (depth ≤ 6) × (step ≡ stride (6 - depth)) × (step ≤ 729) × (length (now varying) ≡ 6) ⌝ }
+    ensures { λ r. ⌜ (r ≡ true → Full depth (now (varying .entry)) own base (now (marks .entry))) ⌝ }
 {
     let end = limit(own);
-    let mut v = 0;
+    let mut v = (step - 1) / 2;
     while v < end {
         if !marks[base + v] {
             if vectors::candidate(v, varying) {
                 return false;
             }
         }
-        v += 1;
+        v += step;
     }
     true
 }
@@ -187,19 +189,20 @@ fn follow(
     requires { ⌜ Searchable (now points) depth (now from) (now to) base (now marks) × Followable (now from) (now to) own (now next) (now start) ⌝ }
     ensures { λ _. ⌜ Adds (now (marks .entry)) (now (marks .exit)) (found depth (now (points .entry)) (length (now (from .entry))) (now (from .entry)) (now (to .entry)) own base) ⌝ }
 {
+    let step = vectors::stride(depth);
     let mut varying = [false; 6];
     let mut known = false;
     let mut spent = 0;
     let mut y = linked(start, 0, from.len());
     while y < from.len() {
-        spent = spent + walk(points, depth, y, wide(start[y]), next, base, marks);
+        spent = spent + walk(points, depth, step, y, wide(start[y]), next, base, marks);
         y = linked(start, y + 1, from.len());
-        if 729 < spent {
+        if 64 < spent {
             if !known {
                 vary(points, depth, from.len(), next, start, &mut varying);
                 known = true;
             }
-            if full(marks, base, &varying, own) {
+            if full(marks, base, depth, step, &varying, own) {
                 return;
             }
             spent = 0;

@@ -222,7 +222,7 @@ pub fn limit_at(words: &[i16], j: usize, n: usize) -> Limit
     let at = j * 8;
     let p = rows::word_at(words, at);
     let c = rows::word_at(words, at + 1);
-    let cs = rows::row_at(words, at + 2, n);
+    let cs = rows::row_at(words, at + 2);
     Limit {
         multiplier: p as u32,
         constant: c,

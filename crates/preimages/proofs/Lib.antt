@@ -2,3 +2,4 @@
 pub mod NumberLaws
 pub mod DigitLaws
 pub mod SourceLaws
+pub mod WeightLaws

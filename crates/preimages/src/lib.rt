@@ -5,6 +5,7 @@ ghost use Prim.Native.Nat.{_+_, _-_, _<_};
 ghost use Rattle.integers.specs.Sign.{turned};
 ghost use Rattle.lists.specs.Place.{«under», onHead, swapped};
 ghost use Rattle.preimages.specs.Numbers.{base3, digitsOf, Digits};
+ghost use Rattle.preimages.specs.Weights.{ChangeIn};
 ghost use Rattle.preimages.specs.Sources.{SourceIn, Source, joined, JoinedIn, joinedDigit, mayBeDigit, Signed, GaveIn, gaveDigits, SkewSourceIn, SkewSource};
 
 // ---- numbers
@@ -27,28 +28,54 @@ fn value(d: [usize; 6]) -> usize
 
 // ---- exchange
 
+// The number with the digits of weight 3 w and w exchanged. Called with a weight that is written out, so that no division is left.
+fn traded(n: usize, w: usize) -> usize
+    requires { ⌜ ChangeIn n w 4 ⌝ }
+    ensures { λ r. ⌜ r ≡ Rattle.preimages.specs.Weights.traded n w ⌝ }
+{
+    let x = n / (w * 3) % 3;
+    let y = n / w % 3;
+    n + (y * (w * 3) + x * w) - (x * (w * 3) + y * w)
+}
+
 // The number of the vector that the exchange of loops a and a + 1 turns into the one with number n.
 pub fn exchange_source(n: usize, a: usize) -> usize
     requires { ⌜ SourceIn n (a + 2) ⌝ }
     ensures { λ r. ⌜ Source («under» a swapped) (a + 2) n r ⌝ }
 {
-    let mut d = digits(n);
-    let s = d[a];
-    d[a] = d[a + 1];
-    d[a + 1] = s;
-    value(d)
+    match a {
+        0 => traded(n, 81),
+        1 => traded(n, 27),
+        2 => traded(n, 9),
+        3 => traded(n, 3),
+        _ => traded(n, 1),
+    }
 }
 
 // ---- reversal
+
+// The number with the digit of weight w turned over.
+fn overturned(n: usize, w: usize) -> usize
+    requires { ⌜ ChangeIn n w 5 ⌝ }
+    ensures { λ r. ⌜ r ≡ Rattle.preimages.specs.Weights.overturned n w ⌝ }
+{
+    let x = n / w % 3;
+    n + 2 * w - 2 * (x * w)
+}
 
 // The number of the vector that the reversal of loop a turns into the one with number n.
 pub fn reversal_source(n: usize, a: usize) -> usize
     requires { ⌜ SourceIn n (a + 1) ⌝ }
     ensures { λ r. ⌜ Source («under» a (onHead turned)) (a + 1) n r ⌝ }
 {
-    let mut d = digits(n);
-    d[a] = 2 - d[a];
-    value(d)
+    match a {
+        0 => overturned(n, 243),
+        1 => overturned(n, 81),
+        2 => overturned(n, 27),
+        3 => overturned(n, 9),
+        4 => overturned(n, 3),
+        _ => overturned(n, 1),
+    }
 }
 
 // ---- skew

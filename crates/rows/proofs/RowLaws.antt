@@ -2,12 +2,12 @@
 use mathlib.Core.Path.{_≡_, refl, sym, ap, ap₂, _∙_}
 use mathlib.Core.Bool.{Bool, true, false}
 use mathlib.Core.List.{List, [], _∷_, _++_}
-use Prim.Native.Nat.{ℕ, _+_, _≤_, _<_}
+use Prim.Native.Nat.{ℕ, suc, _+_, _≤_, _<_}
 use native.Mathlib.Omega.{arith}
 use native.Mathlib.Numerals.{add-one}
 use lib.IntN.{ℤ, pos}
 use lib.ListN.{length, getD, take, drop, set, length-drop}
-use lib.Seq.{take-suc, take-length, take-suc-set, length-take-le, getD-drop}
+use lib.Seq.{take-suc, take-length, take-suc-set, take-take, length-take-le, drop-cons, getD-drop}
 use mir.Syntax.{w16, w32}
 use mir.Val.{SFits, toZ, ofZ}
 use mir.Facts.{toZ-ofZ}
@@ -20,7 +20,7 @@ use Rattle.integers.specs.Affine.{Within}
 use Rattle.integers.proofs.RangeLaws.{sfits-up, sfits-down, sfits, word-fits}
 use Rattle.integers.proofs.AffineLaws.{within-at}
 use Rattle.model.specs.Judge.{small}
-use Rattle.rows.specs.Rows.{Tried}
+use Rattle.rows.specs.Rows.{RowIs, Tried}
 use Rattle.rows.proofs.SmallLaws.{row-small}
 
 -- ---- one word
@@ -45,6 +45,21 @@ pub read-more : (w : List ℤ) (at k : ℕ) (r : List ℤ) (z : ℤ) → k < len
     → take (k + 1) (set r k z) ≡ take (k + 1) (drop at w)
 read-more w at k r z h g e q = let d = length-drop at w in
     rw add-one (take-suc-set r k z h ∙ ap₂ (λ (x : List ℤ) (y : ℤ). x ++ (y ∷ [])) e (q ∙ sym (getD-drop at w k (pos 0))) ∙ sym (take-suc (drop at w) k (pos 0) (omega arith)))
+
+-- six words, one by one
+module _ (w : List ℤ) (at : ℕ) (h : at + 6 ≤ length w) where
+  read-one : (k m n : ℕ) (z : ℤ) (l : List ℤ) → m ≡ suc k → k < length w → z ≡ getD w k (pos 0) → l ≡ take n (drop m w) → z ∷ l ≡ take (suc n) (drop k w)
+  read-one k m n z l q g e f = ap₂ _∷_ e (f ∙ ap (λ (i : ℕ). take n (drop i w)) q) ∙ sym (ap (take (suc n)) (drop-cons w k (pos 0) g))
+
+  pub six-read : (a b c d e f : ℤ) → a ≡ getD w at (pos 0) → b ≡ getD w (at + 1) (pos 0) → c ≡ getD w (at + 2) (pos 0) → d ≡ getD w (at + 3) (pos 0) → e ≡ getD w (at + 4) (pos 0) → f ≡ getD w (at + 5) (pos 0)
+      → a ∷ b ∷ c ∷ d ∷ e ∷ f ∷ [] ≡ take 6 (drop at w)
+  six-read a b c d e f p q r s t u =
+      read-one at (at + 1) 5 a _ (omega arith) (omega arith) p (read-one (at + 1) (at + 2) 4 b _ (omega arith) (omega arith) q (read-one (at + 2) (at + 3) 3 c _ (omega arith) (omega arith) r
+      (read-one (at + 3) (at + 4) 2 d _ (omega arith) (omega arith) s (read-one (at + 4) (at + 5) 1 e _ (omega arith) (omega arith) t (read-one (at + 5) (at + 6) 0 f [] (omega arith) (omega arith) u refl)))))
+
+-- those that count
+pub row-part : (w : List ℤ) (at n : ℕ) (r : List ℤ) → at + 6 ≤ length w → n ≤ 6 → r ≡ take 6 (drop at w) → RowIs n r (take n (drop at w))
+row-part w at n r h g e = let d = length-drop at w in record { is = ap (take n) e ∙ take-take n 6 (drop at w) g; room = ap length e ∙ length-take-le 6 (drop at w) (omega arith) }
 
 -- ---- a row that is written
 

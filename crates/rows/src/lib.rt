@@ -8,7 +8,7 @@ ghost use Rattle.lists.specs.Tests.{all};
 ghost use Rattle.integers.specs.Affine.{Within};
 ghost use Rattle.integers.specs.Difference.{size};
 ghost use Rattle.model.specs.Judge.{small};
-ghost use Rattle.rows.specs.Rows.{RowIs, Tried};
+ghost use Rattle.rows.specs.Rows.{Tried};
 
 // ---- the test
 
@@ -54,18 +54,19 @@ pub fn word_at(words: &[i16], at: usize) -> i32
     wide(words[at])
 }
 
-pub fn row_at(words: &[i16], at: usize, n: usize) -> [i32; 6]
-    requires { ⌜ (at + n ≤ length (now words)) × (n ≤ 6) ⌝ }
-    ensures { λ r. ⌜ RowIs n r (take n (drop at (now (words .entry)))) ⌝ }
+// Six words, whether or not all of them count: with no loop.
+pub fn row_at(words: &[i16], at: usize) -> [i32; 6]
+    requires { ⌜ at + 6 ≤ length (now words) ⌝ }
+    ensures { λ r. ⌜ r ≡ take 6 (drop at (now (words .entry))) ⌝ }
 {
-    let mut r = [0i32; 6];
-    let mut k = 0;
-    while k < n {
-        let x = word_at(words, at + k);
-        r[k] = x;
-        k += 1;
-    }
-    r
+    [
+        word_at(words, at),
+        word_at(words, at + 1),
+        word_at(words, at + 2),
+        word_at(words, at + 3),
+        word_at(words, at + 4),
+        word_at(words, at + 5),
+    ]
 }
 
 // ---- put back

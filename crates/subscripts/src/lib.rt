@@ -42,7 +42,7 @@ fn change_subscript(words: &mut [i16], j: usize, n: usize, m: usize, step: Step)
     ensures { λ r. ⌜ Changes (stepOf step) (now (words .entry)) n j 1 (now (words .exit)) r ⌝ }
 {
     let at = j * 8 + 1;
-    let cs = rows::row_at(words, at, n);
+    let cs = rows::row_at(words, at);
     let ds = row_after(cs, n, step);
     rows::put_row(words, at, m, ds)
 }

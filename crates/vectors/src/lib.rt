@@ -55,23 +55,23 @@ pub fn stride(depth: usize) -> usize
     }
 }
 
-// The number of the vector of two points of at most six indices: missing loops are =.
-pub fn vector(p: &[i64], q: &[i64]) -> usize
-    requires { ⌜ (length (now p) ≤ 6) × (length (now p) ≡ length (now q)) ⌝ }
+// The number of the vector of two points of at most six indices: missing loops are =. `step` is the stride of their depth.
+pub fn vector(p: &[i64], q: &[i64], step: usize) -> usize
+    requires { ⌜ (length (now p) ≤ 6) × (length (now p) ≡ length (now q)) × (step ≡ «stride-of» (6 - length (now p))) ⌝ }
     ensures { λ r. ⌜ r ≡ number (signs (now (p .entry)) (now (q .entry))) ⌝ }
 {
-    let step = stride(p.len());
     digits(p, q) * step + (step - 1) / 2
 }
 
 // The number of the vector of the stored points x and y.
-pub fn pair(points: &[i64], depth: usize, x: usize, y: usize) -> usize
-    requires { ⌜ (depth ≤ 6) × (x * depth + depth ≤ length (now points)) × (y * depth + depth ≤ length (now points)) ⌝ }
+pub fn pair(points: &[i64], depth: usize, step: usize, x: usize, y: usize) -> usize
+    requires { ⌜ (depth ≤ 6) × (step ≡ «stride-of» (6 - depth)) × (x * depth + depth ≤ length (now points)) × (y * depth + depth ≤ length (now points)) ⌝ }
     ensures { λ r. ⌜ (r ≡ code depth (now (points .entry)) x y) × (r < 729) ⌝ }
 {
     vector(
         &points[x * depth..x * depth + depth],
         &points[y * depth..y * depth + depth],
+        step,
     )
 }
 

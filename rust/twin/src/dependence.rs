@@ -1,5 +1,6 @@
 //! The search for dependences along chains of points by element.
 
+use std::array::from_fn;
 use std::ops::Range;
 
 use crate::directions::{power, sign_at};
@@ -94,14 +95,29 @@ fn vector<const D: usize>(source: &[i32; D], sink: &[i32; D]) -> usize {
     (signs.sum::<i32>() + power(D) as i32 / 2) as usize
 }
 
-struct Search<'a, const D: usize> {
-    points: &'a [[i32; D]],
-    /// For each element one more than the last point that named it, or 0; for each point the same of the point before it.
-    head: Vec<u16>,
-    next: Vec<u16>,
+/// For each point y, one more than the last point before it (or up to it, if `own`) that has its element in `to` in `from`, or 0.
+/// Says whether there is a link. No element has a head before and after.
+fn link(from: &[u16], to: &[u16], own: bool, head: &mut [u16], links: &mut [u16]) -> bool {
+    let mut any = false;
+    for (y, ((from, to), link)) in from.iter().zip(to).zip(&mut *links).enumerate() {
+        let before = head[*to as usize];
+        head[*from as usize] = y as u16 + 1;
+        *link = if own { head[*to as usize] } else { before };
+        any |= *link != 0;
+    }
+    // The points may be far fewer than the elements.
+    from.iter().for_each(|from| head[*from as usize] = 0);
+    any
 }
 
-impl<const D: usize> Search<'_, D> {
+/// The links of the sources and of the sinks of two accesses.
+struct Chains<'a, const D: usize> {
+    points: &'a [[i32; D]],
+    next: &'a [u16],
+    start: &'a [u16],
+}
+
+impl<const D: usize> Chains<'_, D> {
     /// Marks the vectors of the sink y with the chain of sources that begins at `first`, and counts them.
     fn walk(&self, y: usize, first: u16, marks: &mut [bool]) -> usize {
         let sink = &self.points[y];
@@ -115,45 +131,33 @@ impl<const D: usize> Search<'_, D> {
         seen
     }
 
-    /// The vectors that the conflicts of two accesses can have: = at every loop whose index is one at all points with one element.
-    fn possible(&self, source: &[u16], sink: &[u16]) -> Vec<bool> {
-        let mut first = vec![0u16; self.head.len()];
-        for (x, element) in source.iter().enumerate().rev() {
-            first[*element as usize] = x as u16 + 1;
-        }
-        let mut varies = [false; D];
-        for (x, element) in source.iter().enumerate().chain(sink.iter().enumerate()) {
-            if let Some(like) = first[*element as usize].checked_sub(1) {
-                for (k, varies) in varies.iter_mut().enumerate() {
-                    *varies |= self.points[x][k] != self.points[like as usize][k];
-                }
-            }
-        }
-        let can = |number| (0..D).all(|k| varies[k] || sign_at(number, D, k) == 1);
-        (0..power(D)).map(can).collect()
+    /// Whether the index of loop k at some point differs from that at the point of its link.
+    fn varies(&self, k: usize) -> bool {
+        let changes = |(x, link): (usize, &u16)| *link != 0 && self.points[*link as usize - 1][k] != self.points[x][k];
+        self.next.iter().enumerate().any(changes) || self.start.iter().enumerate().any(changes)
     }
 
-    /// Marks the vectors of all conflicts.
-    fn search(&mut self, source: &[u16], sink: &[u16], pair: &Pair, marks: &mut [bool]) {
-        let (own, end) = (pair.own(), pair.end(D));
+    /// The vectors below `end` that the conflicts can have: = at every loop that does not vary.
+    fn possible(&self, end: usize) -> Vec<usize> {
+        let varies: [bool; D] = from_fn(|k| self.varies(k));
+        let can = |number: &usize| (0..D).all(|k| varies[k] || sign_at(*number, D, k) == 1);
+        (0..end).filter(can).collect()
+    }
+
+    /// Marks the vectors of all conflicts. Left once there is nothing more to find.
+    fn follow(&self, end: usize, marks: &mut [bool]) {
         let mut possible = None;
         let mut spent = 0;
-        for y in 0..source.len() {
-            let (from, to) = (source[y] as usize, sink[y] as usize);
-            let before = self.head[to];
-            self.next[y] = self.head[from];
-            self.head[from] = y as u16 + 1;
-            spent += self.walk(y, if own { self.head[to] } else { before }, marks);
-            if spent > 729 {
-                let possible = possible.get_or_insert_with(|| self.possible(source, sink));
-                if possible[..end].iter().zip(&*marks).all(|(possible, mark)| !possible || *mark) {
+        for (y, first) in self.start.iter().enumerate() {
+            spent += self.walk(y, *first, marks);
+            if spent > 64 {
+                let possible = possible.get_or_insert_with(|| self.possible(end));
+                if possible.iter().all(|number| marks[*number]) {
                     break;
                 }
                 spent = 0;
             }
         }
-        // The points may be far fewer than the elements.
-        source.iter().for_each(|from| self.head[*from as usize] = 0);
     }
 }
 
@@ -178,15 +182,23 @@ fn search_all<const D: usize>(nest: &Nest, points: &Points, lines: &mut Lines) {
     let numbers = numbers(nest, points);
     let uses = distinct(nest, points, &numbers);
     let places = |one| places(&numbers, points, one);
-    let mut search = Search::<D> {
-        points: points.rows(),
-        head: vec![0; nest.elements()],
-        next: vec![0; points.count],
-    };
-    pairs(nest, &uses).for_each(|pair| {
-        let block = lines.block(&pair);
-        search.search(places(pair.source), places(pair.sink), &pair, &mut lines.marks[block]);
-    });
+    let mut head = vec![0; nest.elements()];
+    let (mut next, mut start) = (vec![0; points.count], vec![0; points.count]);
+    for source in &uses {
+        let from = places(*source);
+        link(from, from, false, &mut head, &mut next);
+        for pair in uses.iter().filter_map(|sink| Pair::new(nest, *source, *sink)) {
+            if link(from, places(pair.sink), pair.own(), &mut head, &mut start) {
+                let chains = Chains::<D> {
+                    points: points.rows(),
+                    next: &next,
+                    start: &start,
+                };
+                let block = lines.block(&pair);
+                chains.follow(pair.end(D), &mut lines.marks[block]);
+            }
+        }
+    }
 }
 
 /// Every line that has its source and its sink at these points of a nest.

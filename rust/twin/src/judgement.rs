@@ -16,8 +16,11 @@ pub const NEW: Bounds = Bounds {
     most: 65_536,
 };
 
+/// The subscripts of so many points are looked at one by one; of more the ranges of the loops are asked first.
+const FEW: usize = 32;
+
 /// So many points are listed at once; more are not before they are needed.
-const FEW: usize = 256;
+const LISTED: usize = 256;
 
 /// The points of a nest. No subscript leaves its extent at any of them.
 pub enum Iterations {
@@ -69,7 +72,11 @@ fn iterations(nest: &Nest, space: Space) -> Outcome<Iterations> {
     if space.count > FEW {
         let ranges = ranges(&nest.loops);
         if enclose(&ranges, nest) {
-            return Ok(Iterations::Enclosed(space, ranges));
+            return Ok(if space.count > LISTED {
+                Iterations::Enclosed(space, ranges)
+            } else {
+                Iterations::Listed(space.points())
+            });
         }
     }
     let points = space.points();

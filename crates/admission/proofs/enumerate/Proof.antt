@@ -1,5 +1,5 @@
 -- `enumerate`: the points, the search for a stray subscript.
-use Rattle.admission.proofs.AdmissionLaws.{list-in, stray-in, stray-out, admitted-out}
+use Rattle.admission.proofs.AdmissionLaws.{list-in, find-in, stray-out, admitted-out}
 use borrow.Author.Needs.{needs}
 use Rattle.admission.proofs.enumerate.Statement.{statement}
 use Rattle.admission.proofs.enumerate.Tie as tie
@@ -8,7 +8,7 @@ list-points-requires : tie.Need-list-points-requires
 list-points-requires c κs = let s = c .before in list-in _ (s .args .points .now) (s .pre)
 
 find-stray-requires : tie.Need-find-stray-requires
-find-stray-requires c κs = let s = c .before .before .before .before in let l = c .before .before .list-points in stray-in _ (s .args .points .now) (s .pre) _ (l .result) (l .ensures)
+find-stray-requires c κs = let s = c .before .before .before .before in let l = c .before .before .list-points in find-in _ (s .args .points .now) (s .pre) _ (l .result) (l .ensures)
 
 same-length : tie.Need-same-length
 same-length c = search needs

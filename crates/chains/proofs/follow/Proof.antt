@@ -15,22 +15,22 @@ use Rattle.chains.proofs.follow.Statement.{statement}
 use Rattle.chains.proofs.follow.Tie as tie
 
 abbrev Inv-loop : tie.InvT-loop
-Inv-loop points depth from to own base next start marks₀ varying₀ known₀ spent₀ y₀ marks varying known spent y = Searching points depth from to own base next start marks₀ marks spent y × (length varying ≡ 6)
+Inv-loop points depth from to own base next start marks₀ step varying₀ known₀ spent₀ y₀ marks varying known spent y = Searching points depth from to own base next start marks₀ marks spent y × (length varying ≡ 6)
     × (known ≡ true → LevelElse depth points (length from) next start depth varying)
 
 abbrev μ-loop : tie.MeasureT-loop
-μ-loop points depth from to own base next start marks₀ varying₀ known₀ spent₀ y₀ marks varying known spent y = length from - y
+μ-loop points depth from to own base next start marks₀ step varying₀ known₀ spent₀ y₀ marks varying known spent y = length from - y
 
 abbrev top : tie.At-loop Inv-loop μ-loop → tie.Start Inv-loop μ-loop
-top c = c .before .before .before .before .before .before .before
+top c = c .before .before .before .before .before .before .before .before
 
 -- the sink y is done, and those without a source after it are
 done : (c : tie.After-linked2 Inv-loop μ-loop) (spent : ℕ) → spent ≤ 729 → (let a = c .before .before .before .before .before .before .before .before in let s = top a .args in
-    Searching (s .points .now) (s .depth) (s .from .now) (s .to .now) (s .own) (s .base) (s .next .now) (s .start .now) (s .marks .now) (c .before .before .before .walk .last .1 .1 .1 .1 .1 .1 .0) spent (c .linked2 .result))
+    Searching (s .points .now) (s .depth) (s .from .now) (s .to .now) (s .own) (s .base) (s .next .now) (s .start .now) (s .marks .now) (c .before .before .before .walk .last .1 .1 .1 .1 .1 .1 .1 .0) spent (c .linked2 .result))
 done c spent l = let a = c .before .before .before .before .before .before .before .before in let s = top a .args in let w = c .before .before .before .walk in
-    search-skips (s .points .now) (s .depth) (s .from .now) (s .to .now) (s .own) (s .base) (s .next .now) (s .start .now) (s .marks .now) (w .last .1 .1 .1 .1 .1 .1 .0) spent (a .loop .y + 1) (c .linked2 .result) (c .linked2 .ensures)
+    search-skips (s .points .now) (s .depth) (s .from .now) (s .to .now) (s .own) (s .base) (s .next .now) (s .start .now) (s .marks .now) (w .last .1 .1 .1 .1 .1 .1 .1 .0) spent (a .loop .y + 1) (c .linked2 .result) (c .linked2 .ensures)
     (search-turns (s .points .now) (s .depth) (s .from .now) (s .to .now) (s .own) (s .base) (s .next .now) (s .start .now) (s .marks .now) (a .loop .marks) (a .loop .spent) (a .loop .y) (c .before .before .before .before .before .wide .result)
-    (c .before .before .before .before .before .before .before .loop-test .taken) (c .before .before .before .before .before .wide .ensures) (a .loop .inv .0) (w .last .1 .1 .1 .1 .1 .1 .0) spent (w .kept .1 .1 .1 .1 .1 .1 .0) l (w .ensures .1))
+    (c .before .before .before .before .before .before .before .loop-test .taken) (c .before .before .before .before .before .wide .ensures) (a .loop .inv .0) (w .last .1 .1 .1 .1 .1 .1 .1 .0) spent (w .kept .1 .1 .1 .1 .1 .1 .1 .0) l (w .ensures .1))
 
 -- it is known which loops vary
 known : (c : tie.Joined2 Inv-loop μ-loop) → (let s = top (c .before .before .before .before .before .before .before .before .before .before) .args in (length (c .if2 .varying) ≡ 6) × LevelElse (s .depth) (s .points .now) (length (s .from .now)) (s .next .now) (s .start .now) (s .depth) (c .if2 .varying))
@@ -38,11 +38,14 @@ known c = let a = c .before .before .before .before .before .before .before .bef
     ⊎-elim (λ w. (ap length (w .4) ∙ (w .2 .kept .1 .1 .1 .1 .1 .0 ∙ a .loop .inv .1), subst level (sym (w .4)) (w .2 .ensures)))
     (λ w. (ap length (w .1) ∙ a .loop .inv .1, subst level (sym (w .1)) (a .loop .inv .2 (not-false _ (w .0 .left))))) (c .if2 .came)
 
+stride-requires : tie.Need-stride-requires Inv-loop μ-loop
+stride-requires c κs = c .before .before .before .before .before .pre .0 .shallow
+
 linked-requires : tie.Need-linked-requires Inv-loop μ-loop
-linked-requires c κs = let r = c .before .before .before .before .before .pre .1 .room in (omega arith, r)
+linked-requires c κs = let r = c .before .before .before .before .before .before .pre .1 .room in (omega arith, r)
 
 loop-holds : tie.Need-loop-holds Inv-loop μ-loop
-loop-holds c = let s = c .before .before .before .before .before .before .args in let p = c .before .before .before .before .before .before .pre .1 in (
+loop-holds c = let s = c .before .before .before .before .before .before .before .args in let p = c .before .before .before .before .before .before .before .pre .1 in (
   search-skips (s .points .now) (s .depth) (s .from .now) (s .to .now) (s .own) (s .base) (s .next .now) (s .start .now) (s .marks .now) (s .marks .now) 0 0 (c .linked .result) (c .linked .ensures) (search-begins (s .points .now) (s .depth) (s .from .now) (s .to .now) (s .own) (s .base) (s .next .now) (s .start .now) (s .marks .now) (p .table) (p .nexts) (p .starts)),
   length-replicate {A = Bool} 6 false,
   λ e. absurd (false≢true e),
@@ -58,9 +61,11 @@ wide-requires : tie.Need-wide-requires Inv-loop μ-loop
 wide-requires c κs = search needs
 
 walk-requires : tie.Need-walk-requires Inv-loop μ-loop
-walk-requires c κs = let a = c .before .before .before .before in let s = top a .args in
-    walkable (s .points .now) (s .depth) (s .from .now) (s .to .now) (s .own) (s .base) (s .next .now) (s .start .now) (s .marks .now) (a .loop .marks) (a .loop .spent) (a .loop .y) (c .before .wide .result)
-    (c .before .before .before .loop-test .taken) (c .before .wide .ensures) (a .loop .inv .0) (top a .pre .0)
+walk-requires c κs = let a = c .before .before .before .before in let s = top a .args in (
+  walkable (s .points .now) (s .depth) (s .from .now) (s .to .now) (s .own) (s .base) (s .next .now) (s .start .now) (s .marks .now) (a .loop .marks) (a .loop .spent) (a .loop .y) (c .before .wide .result)
+      (c .before .before .before .loop-test .taken) (c .before .wide .ensures) (a .loop .inv .0) (top a .pre .0),
+  a .before .before .stride .ensures .0,
+)
 
 add-spent : tie.Need-add-spent Inv-loop μ-loop
 add-spent c = let a = c .before .before .before .before .before .before .before in let s = top a .args in
@@ -84,14 +89,15 @@ slice-aggregate-full : tie.Need-slice-aggregate-full Inv-loop μ-loop
 slice-aggregate-full c = let l = known (c .before .before) .0 in search (needs, l)
 
 full-requires : tie.Need-full-requires Inv-loop μ-loop
-full-requires c κs = let r = top (c .before .before .before .before .before .before .before .before .before .before .before .before) .pre .0 .room in let l = (done (c .before .before .before .before) 0 (omega arith)) .same-length in (omega arith, known (c .before .before) .0)
+full-requires c κs = let a = c .before .before .before .before .before .before .before .before .before .before .before .before in let t = top a in let r = t .pre .0 .room in let l = (done (c .before .before .before .before) 0 (omega arith)) .same-length in
+    (omega arith, t .pre .0 .shallow, a .before .before .stride .ensures .0, a .before .before .stride .ensures .1, known (c .before .before) .0)
 
 same-length : tie.Need-same-length Inv-loop μ-loop
 same-length c = (done (c .before .before .before .before .before .before) 0 (omega arith)) .same-length
 
 returns : tie.Need-returns Inv-loop μ-loop
 returns c = let a = c .before .before .before .before .before .before .before .before .before .before .before .before .before .before in let s = top a .args in
-    left-early (s .points .now) (s .depth) (c .before .before .before .before .if2 .varying) (s .from .now) (s .to .now) (s .own) (s .base) (s .next .now) (s .start .now) (s .marks .now) (c .before .before .before .before .before .before .before .before .before .walk .last .1 .1 .1 .1 .1 .1 .0) (c .before .before .before .before .before .before .linked2 .result) (top a .pre .0) (top a .pre .1) (known (c .before .before .before .before) .1) (c .before .before .before .before .before .before .linked2 .ensures .inside) (c .before .full .ensures (c .if3 .taken))
+    left-early (s .points .now) (s .depth) (c .before .before .before .before .if2 .varying) (s .from .now) (s .to .now) (s .own) (s .base) (s .next .now) (s .start .now) (s .marks .now) (c .before .before .before .before .before .before .before .before .before .walk .last .1 .1 .1 .1 .1 .1 .1 .0) (c .before .before .before .before .before .before .linked2 .result) (top a .pre .0) (top a .pre .1) (known (c .before .before .before .before) .1) (c .before .before .before .before .before .before .linked2 .ensures .inside) (c .before .full .ensures (c .if3 .taken))
     ((done (c .before .before .before .before .before .before) 0 (omega arith)) .adds)
 
 loop-less : tie.Need-loop-less Inv-loop μ-loop
@@ -104,7 +110,7 @@ loop-less-2 : tie.Need-loop-less-2 Inv-loop μ-loop
 loop-less-2 c = let t = c .before .before .before .before .before .before .before .before .loop-test .taken in let r = c .before .linked2 .ensures .after in omega arith
 
 loop-again-2 : tie.Need-loop-again-2 Inv-loop μ-loop
-loop-again-2 c = (done (c .before) _ (c .if1 .left), c .before .before .before .before .before .before .before .before .before .loop .inv .1, c .before .before .before .before .before .before .before .before .before .loop .inv .2)
+loop-again-2 c = (done (c .before) _ (let l = c .if1 .left in omega arith), c .before .before .before .before .before .before .before .before .before .loop .inv .1, c .before .before .before .before .before .before .before .before .before .loop .inv .2)
 
 same-length-2 : tie.Need-same-length-2 Inv-loop μ-loop
 same-length-2 c = c .before .loop .inv .0 .same-length
@@ -119,6 +125,7 @@ follow-spec =
     (tie.spec
     Inv-loop
     μ-loop
+    stride-requires
     linked-requires
     loop-holds
     mul-wide

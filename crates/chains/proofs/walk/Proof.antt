@@ -11,18 +11,18 @@ use Rattle.chains.proofs.walk.Statement.{statement}
 use Rattle.chains.proofs.walk.Tie as tie
 
 abbrev Inv-loop : tie.InvT-loop
-Inv-loop points depth y first next base marks₀ steps₀ l₀ marks steps l = Walking depth points next base y first marks₀ marks l steps
+Inv-loop points depth step y first next base marks₀ steps₀ l₀ marks steps l = Walking depth points next base y first marks₀ marks l steps
 
 abbrev μ-loop : tie.MeasureT-loop
-μ-loop points depth y first next base marks₀ steps₀ l₀ marks steps l = l
+μ-loop points depth step y first next base marks₀ steps₀ l₀ marks steps l = l
 
 mark-in : (c : tie.After-pair Inv-loop μ-loop) → c .before .before .before .before .before .args .base + c .pair .result < length (c .before .before .loop .marks)
-mark-in c = let p = c .before .before .before .before .before .pre .room in let e = c .pair .ensures .1 in let i = c .before .before .loop .inv .same-length in omega arith
+mark-in c = let p = c .before .before .before .before .before .pre .0 .room in let e = c .pair .ensures .1 in let i = c .before .before .loop .inv .same-length in omega arith
 
 turn : (c : tie.After-wide Inv-loop μ-loop) → (let s = c .before .before .before .before .before .before .before .args in let l = c .before .before .before .before .loop in
     (c .wide .result < l .l) × Walking (s .depth) (s .points .now) (s .next .now) (s .base) (s .y) (s .first) (s .marks .now) (set (l .marks) (s .base + c .before .before .pair .result) true) (c .wide .result) (l .steps + 1))
 turn c = let s = c .before .before .before .before .before .before .before .args in let l = c .before .before .before .before .loop in
-    walk-turns (s .depth) (s .points .now) (s .next .now) (s .base) (s .y) (s .first) (s .marks .now) (l .marks) (l .l) (l .steps) (c .before .before .pair .result) (c .wide .result) (c .before .before .before .before .before .before .before .pre .falling)
+    walk-turns (s .depth) (s .points .now) (s .next .now) (s .base) (s .y) (s .first) (s .marks .now) (l .marks) (l .l) (l .steps) (c .before .before .pair .result) (c .wide .result) (c .before .before .before .before .before .before .before .pre .0 .falling)
     (c .before .before .before .loop-test .taken) (c .before .before .pair .ensures .0) (mark-in (c .before .before)) (c .wide .ensures) (l .inv)
 
 loop-holds : tie.Need-loop-holds Inv-loop μ-loop
@@ -33,7 +33,7 @@ sub-x c = let t = c .loop-test .taken in omega arith
 
 pair-requires : tie.Need-pair-requires Inv-loop μ-loop
 pair-requires c κs = let s = c .before .before .before .before in let l = c .before .loop in let i = l .inv .inside in let t = c .loop-test .taken in
-    let r = row-fits (s .args .depth) (l .l - 1) (s .args .first) (omega arith) in let p = s .pre .sources in (s .pre .shallow, omega arith, s .pre .sink)
+    let r = row-fits (s .args .depth) (l .l - 1) (s .args .first) (omega arith) in let p = s .pre .0 .sources in (s .pre .0 .shallow, s .pre .1, omega arith, s .pre .0 .sink)
 
 add-marks : tie.Need-add-marks Inv-loop μ-loop
 add-marks c = let h = mark-in c in let i = c .before .before .loop .inv .same-length in let g = c .before .before .before .before .before .good in omega arith

@@ -1,3 +1,6 @@
+use Prim.Native.Nat.{_+_, _*_}
+use native.Mathlib.Omega.{arith}
+use Rattle.rows.proofs.RowLaws.{row-part}
 use Rattle.limits.proofs.WordLaws.{multiplier-fits, limit-read}
 use borrow.Author.Needs.{needs}
 use Rattle.limits.proofs.limit_at.Statement.{statement}
@@ -25,7 +28,7 @@ cast-t9 : tie.Need-cast-t9
 cast-t9 c = let s = c .before .before .before in multiplier-fits (s .args .words .now) (s .args .j) (s .args .n) (s .pre) (c .before .before .word-at .result) (c .before .before .word-at .ensures)
 
 returns : tie.Need-returns
-returns c = let s = c .before .before .before in limit-read (s .args .words .now) (s .args .j) (s .args .n) (s .pre) (c .before .before .word-at .result) (c .before .word-at2 .result) (c .row-at .result) (c .before .before .word-at .ensures) (c .before .word-at2 .ensures) (c .row-at .ensures)
+returns c = let s = c .before .before .before in limit-read (s .args .words .now) (s .args .j) (s .args .n) (s .pre) (c .before .before .word-at .result) (c .before .word-at2 .result) (c .row-at .result) (c .before .before .word-at .ensures) (c .before .word-at2 .ensures) (let r = s .pre .room .fits in row-part (s .args .words .now) (s .args .j * 8 + 2) (s .args .n) (c .row-at .result) (omega arith) (s .pre .room .shallow) (c .row-at .ensures))
 
 pub limit-at-spec : {M : Type 1} → statement M
 limit-at-spec =

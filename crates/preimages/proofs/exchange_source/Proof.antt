@@ -1,65 +1,40 @@
--- `exchange_source`: two digits trade places.
-use borrow.Author.Needs.{needs}
-use Rattle.preimages.proofs.SourceLaws.{swap-digits, swap-source}
+-- `exchange_source`: each place has its weight.
+use mathlib.Core.Path.{refl}
+use native.Mathlib.Omega.{arith}
+use Rattle.preimages.proofs.WeightLaws.{exchange-at, fifth}
 use Rattle.preimages.proofs.exchange_source.Statement.{statement}
 use Rattle.preimages.proofs.exchange_source.Tie as tie
 
-digits-requires : tie.Need-digits-requires
-digits-requires c κs = search needs
+traded-requires : tie.Need-traded-requires
+traded-requires c κs = record { below = c .before .pre .below; inside = 4; outermost = omega arith; weighs = refl }
 
-mul-s : tie.Need-mul-s
-mul-s c = search needs
+traded-requires-2 : tie.Need-traded-requires-2
+traded-requires-2 c κs = record { below = c .before .pre .below; inside = 3; outermost = omega arith; weighs = refl }
 
-array-read-s : tie.Need-array-read-s
-array-read-s c = search needs
+traded-requires-3 : tie.Need-traded-requires-3
+traded-requires-3 c κs = record { below = c .before .pre .below; inside = 2; outermost = omega arith; weighs = refl }
 
-add-d : tie.Need-add-d
-add-d c = search needs
+traded-requires-4 : tie.Need-traded-requires-4
+traded-requires-4 c κs = record { below = c .before .pre .below; inside = 1; outermost = omega arith; weighs = refl }
 
-mul-d : tie.Need-mul-d
-mul-d c = search needs
-
-array-read-d : tie.Need-array-read-d
-array-read-d c = search needs
-
-mul-d-2 : tie.Need-mul-d-2
-mul-d-2 c = search needs
-
-array-write-d : tie.Need-array-write-d
-array-write-d c = search needs
-
-add-d-2 : tie.Need-add-d-2
-add-d-2 c = search needs
-
-mul-d-3 : tie.Need-mul-d-3
-mul-d-3 c = search needs
-
-array-write-d-2 : tie.Need-array-write-d-2
-array-write-d-2 c = search needs
-
-value-requires : tie.Need-value-requires
-value-requires c κs = swap-digits (c .digits .result) (c .before .args .n) (c .before .args .a) (c .before .pre .below) (c .digits .ensures)
+traded-requires-5 : tie.Need-traded-requires-5
+traded-requires-5 c κs = record { below = c .before .pre .below; inside = 0; outermost = omega arith; weighs = refl }
 
 returns : tie.Need-returns
-returns c =
-    let s = c .before .before in
-    let d = c .before .digits in
-    swap-source (d .result) (s .args .n) (s .args .a) (s .pre .below) (d .ensures) (c .value .result) (c .value .ensures)
+returns c = let s = c .before .before in let e = c .before .match .keys1 in exchange-at (s .args .n) (s .pre .below) (s .args .a) 81 _ (omega arith) (rw e refl) (c .traded .ensures)
+
+returns-2 : tie.Need-returns-2
+returns-2 c = let s = c .before .before in let e = c .before .match .keys2 in exchange-at (s .args .n) (s .pre .below) (s .args .a) 27 _ (omega arith) (rw e refl) (c .traded2 .ensures)
+
+returns-3 : tie.Need-returns-3
+returns-3 c = let s = c .before .before in let e = c .before .match .keys3 in exchange-at (s .args .n) (s .pre .below) (s .args .a) 9 _ (omega arith) (rw e refl) (c .traded3 .ensures)
+
+returns-4 : tie.Need-returns-4
+returns-4 c = let s = c .before .before in let e = c .before .match .keys4 in exchange-at (s .args .n) (s .pre .below) (s .args .a) 3 _ (omega arith) (rw e refl) (c .traded4 .ensures)
+
+returns-5 : tie.Need-returns-5
+returns-5 c = let s = c .before .before in let h = s .pre .few in let r = c .before .match .rest in let e = fifth (s .args .a) (omega arith) (r .0 .0 .0 .1) (r .0 .0 .1) (r .0 .1) (r .1) in exchange-at (s .args .n) (s .pre .below) (s .args .a) 1 _ (omega arith) (rw e refl) (c .traded5 .ensures)
 
 pub exchange-source-spec : {M : Type 1} → statement M
 exchange-source-spec =
-    tie.close
-    (tie.spec
-    digits-requires
-    mul-s
-    array-read-s
-    add-d
-    mul-d
-    array-read-d
-    mul-d-2
-    array-write-d
-    add-d-2
-    mul-d-3
-    array-write-d-2
-    value-requires
-    returns)
+    tie.close (tie.spec traded-requires traded-requires-2 traded-requires-3 traded-requires-4 traded-requires-5 returns returns-2 returns-3 returns-4 returns-5)

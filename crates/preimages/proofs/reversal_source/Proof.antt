@@ -1,48 +1,46 @@
--- `reversal_source`: a digit is turned over.
+-- `reversal_source`: each place has its weight.
+use mathlib.Core.Path.{refl}
 use native.Mathlib.Omega.{arith}
-use borrow.Author.Needs.{needs}
-use Rattle.preimages.proofs.SourceLaws.{these-digits, digit-below, turn-digits, turn-source}
+use Rattle.preimages.proofs.WeightLaws.{reversal-at, sixth}
 use Rattle.preimages.proofs.reversal_source.Statement.{statement}
 use Rattle.preimages.proofs.reversal_source.Tie as tie
 
-digits-requires : tie.Need-digits-requires
-digits-requires c κs = search needs
+overturned-requires : tie.Need-overturned-requires
+overturned-requires c κs = record { below = c .before .pre .below; inside = 5; outermost = omega arith; weighs = refl }
 
-mul-d : tie.Need-mul-d
-mul-d c = search needs
+overturned-requires-2 : tie.Need-overturned-requires-2
+overturned-requires-2 c κs = record { below = c .before .pre .below; inside = 4; outermost = omega arith; weighs = refl }
 
-array-read-d : tie.Need-array-read-d
-array-read-d c = search needs
+overturned-requires-3 : tie.Need-overturned-requires-3
+overturned-requires-3 c κs = record { below = c .before .pre .below; inside = 3; outermost = omega arith; weighs = refl }
 
-sub-d : tie.Need-sub-d
-sub-d c =
-    let s = c .before in
-    omega (arith, digit-below (c .digits .result) (s .args .a) (these-digits (c .digits .result) (s .args .n) (s .pre .below) (c .digits .ensures)))
+overturned-requires-4 : tie.Need-overturned-requires-4
+overturned-requires-4 c κs = record { below = c .before .pre .below; inside = 2; outermost = omega arith; weighs = refl }
 
-mul-d-2 : tie.Need-mul-d-2
-mul-d-2 c = search needs
+overturned-requires-5 : tie.Need-overturned-requires-5
+overturned-requires-5 c κs = record { below = c .before .pre .below; inside = 1; outermost = omega arith; weighs = refl }
 
-array-write-d : tie.Need-array-write-d
-array-write-d c = search needs
-
-value-requires : tie.Need-value-requires
-value-requires c κs = turn-digits (c .digits .result) (c .before .args .n) (c .before .args .a) (c .before .pre .below) (c .digits .ensures)
+overturned-requires-6 : tie.Need-overturned-requires-6
+overturned-requires-6 c κs = record { below = c .before .pre .below; inside = 0; outermost = omega arith; weighs = refl }
 
 returns : tie.Need-returns
-returns c =
-    let s = c .before .before in
-    let d = c .before .digits in
-    turn-source (d .result) (s .args .n) (s .args .a) (s .pre .below) (d .ensures) (c .value .result) (c .value .ensures)
+returns c = let s = c .before .before in let e = c .before .match .keys1 in reversal-at (s .args .n) (s .pre .below) (s .args .a) 243 _ (omega arith) (rw e refl) (c .overturned .ensures)
+
+returns-2 : tie.Need-returns-2
+returns-2 c = let s = c .before .before in let e = c .before .match .keys2 in reversal-at (s .args .n) (s .pre .below) (s .args .a) 81 _ (omega arith) (rw e refl) (c .overturned2 .ensures)
+
+returns-3 : tie.Need-returns-3
+returns-3 c = let s = c .before .before in let e = c .before .match .keys3 in reversal-at (s .args .n) (s .pre .below) (s .args .a) 27 _ (omega arith) (rw e refl) (c .overturned3 .ensures)
+
+returns-4 : tie.Need-returns-4
+returns-4 c = let s = c .before .before in let e = c .before .match .keys4 in reversal-at (s .args .n) (s .pre .below) (s .args .a) 9 _ (omega arith) (rw e refl) (c .overturned4 .ensures)
+
+returns-5 : tie.Need-returns-5
+returns-5 c = let s = c .before .before in let e = c .before .match .keys5 in reversal-at (s .args .n) (s .pre .below) (s .args .a) 3 _ (omega arith) (rw e refl) (c .overturned5 .ensures)
+
+returns-6 : tie.Need-returns-6
+returns-6 c = let s = c .before .before in let h = s .pre .few in let r = c .before .match .rest in let e = sixth (s .args .a) (omega arith) (r .0 .0 .0 .0 .1) (r .0 .0 .0 .1) (r .0 .0 .1) (r .0 .1) (r .1) in reversal-at (s .args .n) (s .pre .below) (s .args .a) 1 _ (omega arith) (rw e refl) (c .overturned6 .ensures)
 
 pub reversal-source-spec : {M : Type 1} → statement M
 reversal-source-spec =
-    tie.close
-    (tie.spec
-    digits-requires
-    mul-d
-    array-read-d
-    sub-d
-    mul-d-2
-    array-write-d
-    value-requires
-    returns)
+    tie.close (tie.spec overturned-requires overturned-requires-2 overturned-requires-3 overturned-requires-4 overturned-requires-5 overturned-requires-6 returns returns-2 returns-3 returns-4 returns-5 returns-6)

@@ -1,61 +1,69 @@
-use mathlib.Core.Path.{_≡_, refl, _∙_}
-use Prim.Native.Nat.{_-_, _≤_}
-use native.Mathlib.Omega.{arith}
-use lib.ListN.{length, take, drop, length-set}
-use borrow.Author.Needs.{needs}
+-- `row_at`: six words as they stand.
+use mathlib.Core.Path.{_≡_, _∙_}
 use mir.Syntax.{w32}
 use mir.Val.{toZ, ofZ}
-use Rattle.rows.proofs.RowLaws.{read-more}
+use Rattle.rows.proofs.RowLaws.{six-read}
+use borrow.Author.Needs.{needs}
 use Rattle.rows.proofs.row_at.Statement.{statement}
 use Rattle.rows.proofs.row_at.Tie as tie
 
-abbrev Inv-loop : tie.InvT-loop
-Inv-loop words at n r₀ k₀ r k = (k ≤ n) × (length r ≡ 6) × (take k r ≡ take k (drop at words))
-
-abbrev μ-loop : tie.MeasureT-loop
-μ-loop words at n r₀ k₀ r k = n - k
-
-loop-holds : tie.Need-loop-holds Inv-loop μ-loop
-loop-holds c = (omega arith, refl, refl)
-
-add-word-at : tie.Need-add-word-at Inv-loop μ-loop
-add-word-at c = search needs
-
-word-at-requires : tie.Need-word-at-requires Inv-loop μ-loop
+word-at-requires : tie.Need-word-at-requires
 word-at-requires c κs = search needs
 
-mul-r : tie.Need-mul-r Inv-loop μ-loop
-mul-r c = search needs
+add-word-at : tie.Need-add-word-at
+add-word-at c = search needs
 
-array-set-from-r : tie.Need-array-set-from-r Inv-loop μ-loop
-array-set-from-r c = search needs
+word-at-requires-2 : tie.Need-word-at-requires-2
+word-at-requires-2 c κs = search needs
 
-add-k : tie.Need-add-k Inv-loop μ-loop
-add-k c = search needs
+add-word-at-2 : tie.Need-add-word-at-2
+add-word-at-2 c = search needs
 
-loop-less : tie.Need-loop-less Inv-loop μ-loop
-loop-less c = search needs
+word-at-requires-3 : tie.Need-word-at-requires-3
+word-at-requires-3 c κs = search needs
 
-loop-again : tie.Need-loop-again Inv-loop μ-loop
-loop-again c = let l = c .before .before .loop in let s = c .before .before .before in let p = s .pre in
-    let e : toZ w32 (ofZ w32 (c .word-at .result)) ≡ c .word-at .result = search needs in
-    (omega arith, simp length-set (l .inv .1), read-more (s .args .words .now) (s .args .at) (l .k) (l .r) _ (omega arith) (omega arith) (l .inv .2) (e ∙ c .word-at .ensures))
+add-word-at-3 : tie.Need-add-word-at-3
+add-word-at-3 c = search needs
 
-returns : tie.Need-returns Inv-loop μ-loop
-returns c = let s = c .before .before in let l = c .before .loop in let e : l .k ≡ s .args .n = omega arith in record { is = simp e at (l .inv .2); room = l .inv .1 }
+word-at-requires-4 : tie.Need-word-at-requires-4
+word-at-requires-4 c κs = search needs
+
+add-word-at-4 : tie.Need-add-word-at-4
+add-word-at-4 c = search needs
+
+word-at-requires-5 : tie.Need-word-at-requires-5
+word-at-requires-5 c κs = search needs
+
+add-word-at-5 : tie.Need-add-word-at-5
+add-word-at-5 c = search needs
+
+word-at-requires-6 : tie.Need-word-at-requires-6
+word-at-requires-6 c κs = search needs
+
+returns : tie.Need-returns
+returns c =
+    let s = c .before .before .before .before .before .before in
+    let e1 : toZ w32 (ofZ w32 (c .before .before .before .before .before .word-at .result)) ≡ c .before .before .before .before .before .word-at .result = search needs in
+    let e2 : toZ w32 (ofZ w32 (c .before .before .before .before .word-at2 .result)) ≡ c .before .before .before .before .word-at2 .result = search needs in
+    let e3 : toZ w32 (ofZ w32 (c .before .before .before .word-at3 .result)) ≡ c .before .before .before .word-at3 .result = search needs in
+    let e4 : toZ w32 (ofZ w32 (c .before .before .word-at4 .result)) ≡ c .before .before .word-at4 .result = search needs in
+    let e5 : toZ w32 (ofZ w32 (c .before .word-at5 .result)) ≡ c .before .word-at5 .result = search needs in
+    let e6 : toZ w32 (ofZ w32 (c .word-at6 .result)) ≡ c .word-at6 .result = search needs in
+    six-read (s .args .words .now) (s .args .at) (s .pre) _ _ _ _ _ _ (e1 ∙ c .before .before .before .before .before .word-at .ensures) (e2 ∙ c .before .before .before .before .word-at2 .ensures) (e3 ∙ c .before .before .before .word-at3 .ensures) (e4 ∙ c .before .before .word-at4 .ensures) (e5 ∙ c .before .word-at5 .ensures) (e6 ∙ c .word-at6 .ensures)
 
 pub row-at-spec : {M : Type 1} → statement M
 row-at-spec =
     tie.close
     (tie.spec
-    Inv-loop
-    μ-loop
-    loop-holds
-    add-word-at
     word-at-requires
-    mul-r
-    array-set-from-r
-    add-k
-    loop-less
-    loop-again
+    add-word-at
+    word-at-requires-2
+    add-word-at-2
+    word-at-requires-3
+    add-word-at-3
+    word-at-requires-4
+    add-word-at-4
+    word-at-requires-5
+    add-word-at-5
+    word-at-requires-6
     returns)

@@ -1,4 +1,7 @@
 -- `pair` meets its contract.
+use mathlib.Core.Path.{ap, _∙_}
+use Prim.Native.Nat.{_-_}
+use Rattle.vectors.specs.Candidates.{stride}
 use Rattle.vectors.proofs.VectorLaws.{code-is}
 use borrow.Author.Needs.{needs}
 use Rattle.vectors.proofs.pair.Statement.{statement}
@@ -47,7 +50,7 @@ part-vector-end-2 : tie.Need-part-vector-end-2
 part-vector-end-2 c = search needs
 
 vector-requires : tie.Need-vector-requires
-vector-requires c κs = search needs
+vector-requires c κs = (search needs, search needs, c .before .before .pre .1 ∙ ap (λ k. stride (6 - k)) (search needs))
 
 returns : tie.Need-returns
 returns c = let s = c .before .before .before in code-is (s .args .points .now) (s .args .depth) (s .args .x) (s .args .y) (s .pre .0) (c .vector .ensures)
