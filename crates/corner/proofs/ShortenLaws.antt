@@ -1,5 +1,5 @@
--- A loop with one upper limit more. In order: a nest is no wider than itself, and narrower nests compose; the loop that was shortened; the others; the
--- nest.
+-- A loop with one limit more on a side: 0 is the lower one, 1 the upper one. In order: a nest is no wider than itself, and narrower nests compose; a side;
+-- the loop that was shortened; the others; the nest.
 use mathlib.Core.Path.{_≡_, refl, sym, ap, _∙_, subst}
 use mathlib.Core.Bool.{Bool, true, false}
 use mathlib.Core.Logic.{_⊎_, inl, inr, ⊎-elim}
@@ -12,6 +12,7 @@ use lib.IntN.{ℤ, pos}
 use lib.Signed.{_<ℤ_}
 use lib.ListN.{length, getD, set, length-set}
 use lib.Seq.{getD-set-same, getD-set-other, length-take-le}
+use Rattle.lists.specs.Membership.{Mem}
 use Rattle.lists.specs.Parts.{put}
 use Rattle.lists.proofs.PartLaws.{length-put}
 use Rattle.lists.proofs.TestLaws.{true-T}
@@ -28,7 +29,7 @@ use Rattle.nest.specs.declared.Limit as Nest
 use Rattle.nest.proofs.PutLaws.{within-put}
 use Rattle.limits.specs.Words.{LoopOk}
 use Rattle.limits.proofs.FlatLaws.{limit-put, head-put, put-before, put-after, limit-small, words-within}
-use Rattle.loop_changes.proofs.LoopLaws.{limits-same, positive-same, same-loop, loop-same, ok-same}
+use Rattle.loop_changes.proofs.LoopLaws.{limits-same, positive-same, loop-same, ok-same}
 use Rattle.sides.proofs.FlatLaws.{limits-more}
 use Rattle.restructure.proofs.HeldLaws.{ok-at}
 use Rattle.corner.specs.Corners.{Narrower, ShortenIn, Shortens}
@@ -41,6 +42,9 @@ narrower-itself s c depth o = record { nest = o; inside = λ i h outer x g. g }
 pub narrower-more : (s t u : List ℤ) (c d e : List ℕ) (depth : ℕ) → Narrower s c depth t d → Narrower t d depth u e → Narrower s c depth u e
 narrower-more s t u c d e depth f g = record { nest = g .nest; inside = λ i h outer x q. f .inside i h outer x (g .inside i h outer x q) }
 
+pub shortens-more : (s t u : List ℤ) (c d e : List ℕ) (k : ℕ) → Shortens s c k t d → Shortens t d k u e → Shortens s c k u e
+shortens-more s t u c d e k f g depth h o = let a = f depth h o in narrower-more s t u c d e depth a (g depth h (a .nest))
+
 one-or-other : (i k : ℕ) → (i ≡ k) ⊎ ((i < k) ⊎ (k < i))
 one-or-other i k = elim (decLt i k) [
   | yes l ↦ inr (inl l)
@@ -50,21 +54,31 @@ one-or-other i k = elim (decLt i k) [
   ]
 ]
 
--- ---- the loop that was shortened
+-- ---- a side of a loop
 
-module _ (s : List ℤ) (c : List ℕ) (k : ℕ) (l : Limit) (words : length s ≡ 1536) (counts : length c ≡ 12) (deep : k < 6) (one : l .multiplier ≡ 1) (sized : length (l .coefficients) ≡ k)
-    (few : getD c (k * 2 + 1) 0 < 16) (passes : T (smallLimit l)) where
+-- how many limits it has is in `c` at `at`, and they stand from limit `from` on
+record SideOk (s : List ℤ) (c : List ℕ) (at from : ℕ) : Type 0 where
+  count : (1 ≤ getD c at 0) × (getD c at 0 ≤ 16)
+  positive : Positive s from (getD c at 0)
+
+-- no limit of it is lost
+record SideKept (s : List ℤ) (c : List ℕ) (k : ℕ) (t : List ℤ) (d : List ℕ) (at from : ℕ) : Type 0 where
+  ok : SideOk t d at from
+  there : (m : Limit) → Mem m (limitsAt s k from (getD c at 0)) → Mem m (limitsAt t k from (getD d at 0))
+
+module _ (s : List ℤ) (c : List ℕ) (k side : ℕ) (l : Limit) (words : length s ≡ 1536) (counts : length c ≡ 12) (deep : k < 6) (either : side < 2) (one : l .multiplier ≡ 1)
+    (sized : length (l .coefficients) ≡ k) (few : getD c (k * 2 + side) 0 < 16) (passes : T (smallLimit l)) where
   abbrev n : ℕ
-  n = getD c (k * 2 + 1) 0
+  n = getD c (k * 2 + side) 0
 
   abbrev j : ℕ
-  j = k * 32 + 16 + n
+  j = k * 32 + side * 16 + n
 
   abbrev t : List ℤ
   t = put s (j * 8) (limitWords l)
 
   abbrev d : List ℕ
-  d = set c (k * 2 + 1) (n + 1)
+  d = set c (k * 2 + side) (n + 1)
 
   shallow : k ≤ 6
   shallow = omega arith
@@ -85,53 +99,81 @@ module _ (s : List ℤ) (c : List ℕ) (k : ℕ) (l : Limit) (words : length s �
   after : (i : ℕ) → j * 8 + 8 ≤ i → getD t i (pos 0) ≡ getD s i (pos 0)
   after i h = put-after s j k l shallow sized fits i h
 
-  up-count : getD d (k * 2 + 1) 0 ≡ n + 1
-  up-count = getD-set-same c (k * 2 + 1) (n + 1) 0 (omega arith)
+  own-count : getD d (k * 2 + side) 0 ≡ n + 1
+  own-count = getD-set-same c (k * 2 + side) (n + 1) 0 (omega arith)
 
-  other-count : (i : ℕ) → (i ≡ k * 2 + 1 → ⊥) → getD d i 0 ≡ getD c i 0
-  other-count i h = getD-set-other c (k * 2 + 1) i (n + 1) 0 h
+  other-count : (i : ℕ) → (i ≡ k * 2 + side → ⊥) → getD d i 0 ≡ getD c i 0
+  other-count i h = getD-set-other c (k * 2 + side) i (n + 1) 0 h
 
   within : Within 32767 s → Within 32767 t
   within w = within-put 32767 s (j * 8) (limitWords l) w (words-within l (limit-small l passes))
 
-  module _ (ok : LoopOk s c k) where
-    lower-same : limitsAt t k (k * 32) (getD d (k * 2) 0) ≡ limitsAt s k (k * 32) (getD c (k * 2) 0)
-    lower-same =
-        let a = ok .lower-count .1 in
-        ap (limitsAt t k (k * 32)) (other-count (k * 2) (λ e. omega arith)) ∙ limits-same s t k (k * 32) (getD c (k * 2) 0) shallow (omega arith) room (λ i h g. before i (omega arith))
+  -- the side that has the limit
 
-    upper-more : limitsAt t k (k * 32 + 16) (getD d (k * 2 + 1) 0) ≡ limitsAt s k (k * 32 + 16) n ++ (l ∷ [])
-    upper-more =
-        ap (limitsAt t k (k * 32 + 16)) up-count ∙ limits-more t k (k * 32 + 16) n
-        ∙ ap (_++ (limitAt t k j ∷ [])) (limits-same s t k (k * 32 + 16) n shallow (omega arith) room (λ i h g. before i (omega arith)))
-        ∙ ap (λ x. limitsAt s k (k * 32 + 16) n ++ (x ∷ [])) (limit-put s j k l shallow sized fits)
+  own-limits : limitsAt t k (k * 32 + side * 16) (getD d (k * 2 + side) 0) ≡ limitsAt s k (k * 32 + side * 16) n ++ (l ∷ [])
+  own-limits =
+      ap (limitsAt t k (k * 32 + side * 16)) own-count ∙ limits-more t k (k * 32 + side * 16) n
+      ∙ ap (_++ (limitAt t k j ∷ [])) (limits-same s t k (k * 32 + side * 16) n shallow (omega arith) room (λ i h g. before i (omega arith)))
+      ∙ ap (λ x. limitsAt s k (k * 32 + side * 16) n ++ (x ∷ [])) (limit-put s j k l shallow sized fits)
+
+  new-positive : pos 0 <ℤ getD t (j * 8) (pos 0)
+  new-positive = let u = one in subst (λ (z : ℤ). pos 0 <ℤ z) (sym (head-put s j k l shallow sized fits)) (omega zarith)
+
+  own-positive : Positive s (k * 32 + side * 16) n → Positive t (k * 32 + side * 16) (n + 1)
+  own-positive f i h = elim (decLt i n) [
+    | yes g ↦ positive-same s t (k * 32 + side * 16) n (λ p a b. before p (omega arith)) f i g
+    | no g ↦ let e : n ≡ i = omega arith in subst (λ (q : ℕ). pos 0 <ℤ getD t ((k * 32 + side * 16 + q) * 8) (pos 0)) e new-positive
+  ]
+
+  own-side : SideOk s c (k * 2 + side) (k * 32 + side * 16) → SideKept s c k t d (k * 2 + side) (k * 32 + side * 16)
+  own-side o = let y = own-count in record {
+    ok = record { count = (omega arith, omega arith); positive = subst (Positive t (k * 32 + side * 16)) (sym y) (own-positive (o .positive)) };
+    there = λ m i. subst (Mem m) (sym own-limits) (Memᴰ·append-left (l ∷ []) i);
+  }
+
+  -- the other one
+
+  module _ (e at from : ℕ) (a : at ≡ k * 2 + e) (f : from ≡ k * 32 + e * 16) (h : e < 2) (o : SideOk s c at from) where
+    other-side : (e < side) ⊎ (side < e) → SideKept s c k t d at from
+    other-side g =
+        let z = o .count in
+        let x = other-count at (λ q. ⊎-elim (λ r. omega arith) (λ r. omega arith) g) in
+        let w : (p : ℕ) → from * 8 ≤ p → p < (from + getD c at 0) * 8 → getD t p (pos 0) ≡ getD s p (pos 0) = λ p u v. ⊎-elim (λ r. before p (omega arith)) (λ r. after p (omega arith)) g in
+        record {
+          ok = record { count = (omega arith, omega arith); positive = subst (Positive t from) (sym x) (positive-same s t from (getD c at 0) w (o .positive)) };
+          there = λ m i. subst (Mem m) (sym (ap (limitsAt t k from) x ∙ limits-same s t k from (getD c at 0) shallow (omega arith) room w)) i;
+        }
+
+    side-kept : SideKept s c k t d at from
+    side-kept = ⊎-elim
+        (λ q.
+        let x : at ≡ k * 2 + side = omega arith in
+        let y : from ≡ k * 32 + side * 16 = omega arith in
+        subst (λ (p : ℕ). SideKept s c k t d p from) (sym x) (subst (SideKept s c k t d (k * 2 + side)) (sym y)
+        (own-side (subst (λ (p : ℕ). SideOk s c p (k * 32 + side * 16)) x (subst (SideOk s c at) y o)))))
+        other-side
+        (one-or-other e side)
+
+  -- ---- the loop that was shortened
+
+  module _ (ok : LoopOk s c k) where
+    lower : SideKept s c k t d (k * 2) (k * 32)
+    lower = side-kept 0 (k * 2) (k * 32) (omega arith) (omega arith) (omega arith) (record { count = ok .lower-count; positive = ok .lower-positive })
+
+    upper : SideKept s c k t d (k * 2 + 1) (k * 32 + 16)
+    upper = side-kept 1 (k * 2 + 1) (k * 32 + 16) (omega arith) (omega arith) (omega arith) (record { count = ok .upper-count; positive = ok .upper-positive })
 
     own-inside : (outer : List ℤ) (x : ℤ) → InLimits (loopAt t d k) outer x → InLimits (loopAt s c k) outer x
     unfolding loopAt
-    own-inside outer x g =
-        let h = subst (λ L. InLimits L outer x) (same-loop lower-same upper-more) g in
-        record { low = h .low; high = λ m i. h .high m (Memᴰ·append-left (l ∷ []) i) }
-
-    new-positive : pos 0 <ℤ getD t (j * 8) (pos 0)
-    new-positive = let u = one in subst (λ (z : ℤ). pos 0 <ℤ z) (sym (head-put s j k l shallow sized fits)) (omega zarith)
-
-    upper-positive : Positive t (k * 32 + 16) (n + 1)
-    upper-positive i h = elim (decLt i n) [
-      | yes g ↦ positive-same s t (k * 32 + 16) n (λ p a b. before p (omega arith)) (ok .upper-positive) i g
-      | no g ↦ let e : n ≡ i = omega arith in subst (λ (q : ℕ). pos 0 <ℤ getD t ((k * 32 + 16 + q) * 8) (pos 0)) e new-positive
-    ]
+    own-inside outer x g = record { low = λ m i. g .low m (lower .there m i); high = λ m i. g .high m (upper .there m i) }
 
     own-ok : LoopOk t d k
-    own-ok =
-        let a = ok .lower-count in
-        let x = other-count (k * 2) (λ e. omega arith) in
-        let y = up-count in
-        record {
-          lower-count = (omega arith, omega arith);
-          upper-count = (omega arith, omega arith);
-          lower-positive = subst (Positive t (k * 32)) (sym x) (positive-same s t (k * 32) (getD c (k * 2) 0) (λ i h g. before i (omega arith)) (ok .lower-positive));
-          upper-positive = subst (Positive t (k * 32 + 16)) (sym y) upper-positive;
-        }
+    own-ok = record {
+      lower-count = lower .ok .count;
+      upper-count = upper .ok .count;
+      lower-positive = lower .ok .positive;
+      upper-positive = upper .ok .positive;
+    }
 
   -- ---- the others
 
@@ -161,7 +203,7 @@ module _ (s : List ℤ) (c : List ℕ) (k : ℕ) (l : Limit) (words : length s �
     shortened = record {
       nest = record {
         words = room ∙ words;
-        counts = length-set c (k * 2 + 1) (n + 1) ∙ counts;
+        counts = length-set c (k * 2 + side) (n + 1) ∙ counts;
         shallow = o .shallow;
         small = within (o .small);
         lower-count = λ i g. loop-ok i g .lower-count;
@@ -174,15 +216,15 @@ module _ (s : List ℤ) (c : List ℕ) (k : ℕ) (l : Limit) (words : length s �
 
 -- ---- as the code has it: the limit passed the test and is counted, or nothing changed
 
-module _ (s : List ℤ) (c : List ℕ) (k : ℕ) (p : ShortenIn s c k) (X : Nest.Limit) (x : (X .multiplier ≡ 1) × LimitIn X) (few : getD c (k * 2 + 1) 0 < 16) (r : Bool) (t : List ℤ)
-    (y : Tried (smallLimit (limitOf k X)) s ((k * 32 + 16 + getD c (k * 2 + 1) 0) * 8) (limitWords (limitOf k X)) r t) where
-  pub limit-counted : r ≡ true → Shortens s c k t (set c (k * 2 + 1) (getD c (k * 2 + 1) 0 + 1))
+module _ (s : List ℤ) (c : List ℕ) (k side : ℕ) (p : ShortenIn s c k × (side < 2)) (X : Nest.Limit) (x : (X .multiplier ≡ 1) × LimitIn X) (few : getD c (k * 2 + side) 0 < 16) (r : Bool) (t : List ℤ)
+    (y : Tried (smallLimit (limitOf k X)) s ((k * 32 + side * 16 + getD c (k * 2 + side) 0) * 8) (limitWords (limitOf k X)) r t) where
+  pub limit-counted : r ≡ true → Shortens s c k t (set c (k * 2 + side) (getD c (k * 2 + side) 0 + 1))
   unfolding limitOf
   limit-counted e depth h o =
-      let g = p .deep in
+      let g = p .0 .deep in
       let z = x .1 .room in
-      subst (λ u. Narrower s c depth u (set c (k * 2 + 1) (getD c (k * 2 + 1) 0 + 1))) (sym (y .made e))
-      (shortened s c k (limitOf k X) (p .words) (p .counts) g (x .0) (length-take-le k (X .coefficients) (omega arith)) few (true-T (smallLimit (limitOf k X)) (sym (y .passed) ∙ e)) depth o h)
+      subst (λ u. Narrower s c depth u (set c (k * 2 + side) (getD c (k * 2 + side) 0 + 1))) (sym (y .made e))
+      (shortened s c k side (limitOf k X) (p .0 .words) (p .0 .counts) g (p .1) (x .0) (length-take-le k (X .coefficients) (omega arith)) few (true-T (smallLimit (limitOf k X)) (sym (y .passed) ∙ e)) depth o h)
 
   pub limit-refused : r ≡ false → Shortens s c k t c
   limit-refused e depth h o = subst (λ u. Narrower s c depth u c) (sym (y .kept e)) (narrower-itself s c depth o)

@@ -1,6 +1,6 @@
-// The corner of an iteration space: the nest with one more upper limit on each loop, so that few of its points are left.
+// The corner or the centre of an iteration space: the nest with one more limit on a side of each loop, or on both, so that few of its points are left.
 ghost use mathlib.Core.Path.{_≡_};
-ghost use Prim.Native.Nat.{_≤_};
+ghost use Prim.Native.Nat.{_≤_, _<_};
 ghost use Rattle.integers.specs.Difference.{size};
 ghost use Rattle.bounds.specs.Flat.{NestOk};
 ghost use Rattle.extremes.specs.Ranges.{rangeAs, NearRange, RangesIn};
@@ -9,8 +9,14 @@ ghost use Rattle.corner.specs.Corners.{ShortenIn, Shortens, Narrower};
 use extremes::Range;
 use nest::Limit;
 
-// index ≤ v
-fn at_most(v: i32) -> Limit
+// A part of a nest has few values of each loop: the least ones, or those round the middle.
+pub enum Part {
+    Corner,
+    Centre,
+}
+
+// index ≥ v among lower limits, index ≤ v among upper ones
+fn bound(v: i32) -> Limit
     ensures { λ r. ⌜ (r .multiplier ≡ 1) × LimitIn r ⌝ }
 {
     Limit {
@@ -20,28 +26,21 @@ fn at_most(v: i32) -> Limit
     }
 }
 
-// Gives loop k the upper limit v more, where there is room and v is within ±32767.
-fn shorten(limits: &mut [i16], counts: &mut [usize], k: usize, v: i32)
-    requires { ⌜ ShortenIn (now limits) (now counts) k ⌝ }
+// Gives loop k the limit v more, on side 0 a lower one and on side 1 an upper one, where there is room and v is within ±32767.
+fn shorten(limits: &mut [i16], counts: &mut [usize], k: usize, side: usize, v: i32)
+    requires { ⌜ ShortenIn (now limits) (now counts) k × (side < 2) ⌝ }
     ensures { λ _. ⌜ Shortens (now (limits .entry)) (now (counts .entry)) k (now (limits .exit)) (now (counts .exit)) ⌝ }
 {
-    let n = counts[k * 2 + 1];
+    let n = counts[k * 2 + side];
     if n < 16 {
-        let limit = at_most(v);
-        if limits::put_limit(limits, k * 32 + 16 + n, limit, k) {
-            counts[k * 2 + 1] = n + 1;
+        let limit = bound(v);
+        if limits::put_limit(limits, k * 32 + side * 16 + n, limit, k) {
+            counts[k * 2 + side] = n + 1;
         }
     }
 }
 
-// The index so many places after the least.
-fn after_least(r: Range, places: i64) -> i32
-    requires { ⌜ NearRange (rangeAs r) × (size places ≤ 64) ⌝ }
-{
-    (r.least + places) as i32
-}
-
-// How many values a loop of the corner has after its least: no more than 81 points are left.
+// How many values a loop of a part has after the first: no more than 81 points are left.
 fn places_of(depth: usize) -> i64
     ensures { λ r. ⌜ size r ≤ 64 ⌝ }
 {
@@ -53,15 +52,43 @@ fn places_of(depth: usize) -> i64
     }
 }
 
-// Leaves the corner in place of the nest whose loops have these ranges.
-pub fn cut_corner(limits: &mut [i16], counts: &mut [usize], depth: usize, ranges: [Range; 6])
+// The first of them. Round the middle, it is as far from the least value of the loop as the last is from the greatest, or one nearer.
+fn first_of(r: Range, places: i64, part: Part) -> i64
+    requires { ⌜ NearRange (rangeAs r) × (size places ≤ 64) ⌝ }
+    ensures { λ v. ⌜ size v ≤ 65598 ⌝ }
+{
+    match part {
+        Part::Corner => r.least,
+        Part::Centre => integers::floor_div(r.least + r.greatest - places, 2),
+    }
+}
+
+// Leaves loop k these values.
+fn cut_loop(limits: &mut [i16], counts: &mut [usize], k: usize, r: Range, places: i64, part: Part)
+    requires { ⌜ ShortenIn (now limits) (now counts) k × NearRange (rangeAs r) × (size places ≤ 64) ⌝ }
+    ensures { λ _. ⌜ Shortens (now (limits .entry)) (now (counts .entry)) k (now (limits .exit)) (now (counts .exit)) ⌝ }
+{
+    let first = first_of(r, places, part);
+    shorten(limits, counts, k, 1, (first + places) as i32);
+    if r.least < first {
+        shorten(limits, counts, k, 0, first as i32);
+    }
+}
+
+// Leaves a part in place of the nest whose loops have these ranges.
+pub fn cut_part(
+    limits: &mut [i16],
+    counts: &mut [usize],
+    depth: usize,
+    ranges: [Range; 6],
+    part: Part,
+)
     requires { ⌜ NestOk (now limits) (now counts) depth × RangesIn depth ranges ⌝ }
     ensures { λ _. ⌜ Narrower (now (limits .entry)) (now (counts .entry)) depth (now (limits .exit)) (now (counts .exit)) ⌝ }
 {
     let mut k = 0;
     while k < depth {
-        let r = ranges[k];
-        shorten(limits, counts, k, after_least(r, places_of(depth)));
+        cut_loop(limits, counts, k, ranges[k], places_of(depth), part);
         k += 1;
     }
 }

@@ -1,4 +1,4 @@
--- The corner of a nest. In order: the shape of a nest on flat slices (`nest-shaped`); the points of a narrower nest are points of the
+-- A part of a nest, as its corner is. In order: the shape of a nest on flat slices (`nest-shaped`); the points of a narrower nest are points of the
 -- other (`corner-points`); its sheet (`corner-sheet`, `corner-formed`); its lines are lines of the other (`corner-lines`).
 use mathlib.Core.Path.{_≡_, refl, sym, ap, _∙_, subst}
 use mathlib.Core.List.{List, [], _∷_, _++_, List·Memᴰ·not-nil}

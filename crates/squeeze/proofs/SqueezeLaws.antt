@@ -1,13 +1,13 @@
--- The lines of a nest are squeezed: those of its corner are among them, and they are among those that are covered. Where the marks of the corner's
+-- The lines of a nest are squeezed: those of a part of it are among them, and they are among those that are covered. Where the marks of the part's
 -- lines cover every pair of accesses, they are the marks of all lines (`squeezed`). Last, what the code asks and gives on the way.
 use mathlib.Core.Path.{_≡_, sym, ap₂, _∙_, subst}
-use mathlib.Core.Bool.{Bool, true}
+use mathlib.Core.Bool.{Bool, true, false}
 use mathlib.Core.List.{List}
 use Prim.Native.Nat.{ℕ}
 use native.Mathlib.Omega.{arith}
 use lib.Dec.{T}
 use lib.IntN.{ℤ}
-use lib.ListN.{length}
+use lib.ListN.{length, getD}
 use Rattle.lists.specs.Membership.{Mem}
 use Rattle.lists.specs.Tests.{select}
 use Rattle.lists.proofs.TestLaws.{T-same, select-mem, mem-select}
@@ -63,7 +63,7 @@ module _ (P : Sheet) (t : List ℤ) (d : List ℕ) (h : SheetIn P) (g : Narrower
     marks-in = seen .marks-in;
   }
 
--- ---- as the code goes: the limits copied, the corner cut, its few points marked, the pairs looked at
+-- ---- as the code goes: the limits copied, the part cut, its few points marked, the pairs looked at
 
 module _ (O : Outline) (s w : List ℤ) (m : List Bool) (p : SqueezeIn (sheetOf O s w) m) (rs : List Range) (found : RangesAre s (O .counts) (O .depth) rs) (f : List ℤ) (copied : f ≡ s) where
   abbrev P : Sheet
@@ -94,3 +94,10 @@ module _ (O : Outline) (s w : List ℤ) (m : List Bool) (p : SqueezeIn (sheetOf 
 
       pub lines-known : b ≡ true → (a : Bool) → (a ≡ true → SheetCovered P rs n) → a ≡ true → LinesAre P n
       lines-known e a g z = squeezed P t d (p .corner .sheet) narrower (p .corner .formed) (p .admitted-is) rs ranges-on n (subst (λ (C : Sheet). LinesAre C n) (recounted s t w) (few .0 e)) (g z)
+
+-- the marks cleared for another part
+pub squeeze-again : (P : Sheet) (m n : List Bool) → SqueezeIn P m → ((j : ℕ) → getD n j false ≡ false) → length n ≡ length m → SqueezeIn P n
+squeeze-again P m n p f e = let r = p .corner .room in record {
+  corner = record { sheet = p .corner .sheet; formed = p .corner .formed; clear = f; room = omega arith };
+  admitted-is = p .admitted-is;
+}

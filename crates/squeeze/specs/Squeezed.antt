@@ -1,4 +1,4 @@
--- The corner of a sheet, and the lines of a nest as they are known without its points.
+-- A sheet with other limits, and the lines of a nest as they are known without its points.
 use mathlib.Core.Path.{_≡_}
 use mathlib.Core.Bool.{Bool, true, false}
 use mathlib.Core.List.{List, map}

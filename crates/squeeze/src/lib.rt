@@ -1,14 +1,16 @@
-// The lines of a nest without its points. They are squeezed: the lines of the nest's corner are among them, and Banerjee's inequalities allow no others
-// than are marked. Where the two agree the lines are known; where they do not, nothing is said.
+// The lines of a nest without its points. They are squeezed: the lines of a part of the nest are among them, and Banerjee's inequalities allow no others
+// than are marked. Where the two agree the lines are known; where they do not, nothing is said. The part is the nest's corner or its centre.
 ghost use mathlib.Core.Path.{_≡_};
-ghost use mathlib.Core.Bool.{true};
-ghost use Prim.Native.Nat.{_<_};
-ghost use lib.ListN.{length};
+ghost use mathlib.Core.Bool.{true, false};
+ghost use Prim.Native.Nat.{ℕ, _<_};
+ghost use lib.ListN.{length, getD};
+ghost use Rattle.extremes.specs.Values.{RangesAre};
 ghost use Rattle.sheet.specs.Sheets.{sheetOf};
 ghost use Rattle.lines.specs.Lines.{LinesAre};
 ghost use Rattle.squeeze.specs.Covered.{pairs, PairsIn, PairCovered, CoveredFrom, CoveredTo};
 ghost use Rattle.squeeze.specs.Squeezed.{Recounted, SheetCovered, CoverIn, CornerIn, SqueezeIn, Spacious, MarkIn, Marked, Knows};
 use admission::Counted;
+use corner::Part;
 use directions::DirectionSet;
 use extremes::Range;
 use reading::Status;
@@ -160,7 +162,7 @@ fn sheet_covered(
     )
 }
 
-// ---- the corner
+// ---- a part of the nest
 
 // Marks the lines of a nest of few points, if it is one and admitted.
 fn mark_few(outline: Outline, limits: &[i16], words: &[i16], marks: &mut [bool]) -> bool
@@ -218,22 +220,52 @@ fn with_counts(outline: Outline, counts: [usize; 12]) -> Outline
     }
 }
 
-// Marks the lines of the nest's corner. Answers whether they are all lines of the nest.
-fn mark_admitted(outline: Outline, limits: &[i16], words: &[i16], marks: &mut [bool]) -> bool
-    requires { ⌜ SqueezeIn (sheetOf outline (now limits) (now words)) (now marks) ⌝ }
+// Marks the lines of a part of the nest. Answers whether they are all lines of the nest.
+fn mark_part(
+    outline: Outline,
+    limits: &[i16],
+    words: &[i16],
+    ranges: [Range; 6],
+    part: Part,
+    marks: &mut [bool],
+) -> bool
+    requires { ⌜ SqueezeIn (sheetOf outline (now limits) (now words)) (now marks) × RangesAre (now limits) (outline .counts) (outline .depth) ranges ⌝ }
     ensures { λ r. ⌜ (r ≡ true → LinesAre (sheetOf outline (now (limits .entry)) (now (words .entry))) (now (marks .exit))) × (length (now (marks .exit)) ≡ length (now (marks .entry))) ⌝ }
 {
     let depth = outline.depth;
     let mut counts = outline.counts;
-    let ranges = extremes::ranges_in_turn(limits, &counts, depth);
     let mut few = [0i16; 1536];
     copy(&mut few, limits);
-    corner::cut_corner(&mut few, &mut counts, depth, ranges);
-    let corner = with_counts(outline, counts);
-    if !mark_few(corner, &few, words, marks) {
+    corner::cut_part(&mut few, &mut counts, depth, ranges, part);
+    let narrow = with_counts(outline, counts);
+    if !mark_few(narrow, &few, words, marks) {
         return false;
     }
     sheet_covered(outline, limits, words, ranges, marks)
+}
+
+fn clear(marks: &mut [bool])
+    ensures { λ _. ⌜ ((j : ℕ) → getD (now (marks .exit)) j false ≡ false) × (length (now (marks .exit)) ≡ length (now (marks .entry))) ⌝ }
+{
+    let mut j = 0;
+    while j < marks.len() {
+        marks[j] = false;
+        j += 1;
+    }
+}
+
+// The same of the corner, and where it does not settle it, of the centre: there A(i) meets A(n − 1 − i).
+fn mark_admitted(outline: Outline, limits: &[i16], words: &[i16], marks: &mut [bool]) -> bool
+    requires { ⌜ SqueezeIn (sheetOf outline (now limits) (now words)) (now marks) ⌝ }
+    ensures { λ r. ⌜ (r ≡ true → LinesAre (sheetOf outline (now (limits .entry)) (now (words .entry))) (now (marks .exit))) × (length (now (marks .exit)) ≡ length (now (marks .entry))) ⌝ }
+{
+    let counts = outline.counts;
+    let ranges = extremes::ranges_in_turn(limits, &counts, outline.depth);
+    if mark_part(outline, limits, words, ranges, Part::Corner, marks) {
+        return true;
+    }
+    clear(marks);
+    mark_part(outline, limits, words, ranges, Part::Centre, marks)
 }
 
 // Marks all lines of a nest that passes refusals 7 and 8, and says so: then refusal 9 is passed too. Or says nothing.

@@ -1,93 +1,71 @@
+-- `shorten`: the limit is counted, or nothing changed.
 use Rattle.corner.proofs.ShortenLaws.{narrower-itself, limit-counted, limit-refused}
 use borrow.Author.Needs.{needs}
 use Rattle.corner.proofs.shorten.Statement.{statement}
 use Rattle.corner.proofs.shorten.Tie as tie
-use Rattle.corner.proofs.shorten.Reads as reads
-use Rattle.corner.proofs.shorten.Lts as lts
-use Rattle.corner.proofs.at_most.Reads as at-most-reads
-use Rattle.limits.proofs.put_limit.Reads as put-limit-reads
 
--- src/lib.rt:29:20
 mul-n : tie.Need-mul-n
 mul-n c = search needs
 
--- src/lib.rt:29:20
 add-n : tie.Need-add-n
 add-n c = search needs
 
--- src/lib.rt:29:13
 mul-n-2 : tie.Need-mul-n-2
 mul-n-2 c = search needs
 
--- src/lib.rt:29:13
 slice-read-n : tie.Need-slice-read-n
 slice-read-n c = search needs
 
--- src/lib.rt:31:13
-at-most-requires : tie.Need-at-most-requires
-at-most-requires c κs = search needs
+bound-requires : tie.Need-bound-requires
+bound-requires c κs = search needs
 
--- src/lib.rt:32:38
 mul-put-limit : tie.Need-mul-put-limit
 mul-put-limit c = search needs
 
--- src/lib.rt:32:38
+mul-put-limit-2 : tie.Need-mul-put-limit-2
+mul-put-limit-2 c = search needs
+
 add-put-limit : tie.Need-add-put-limit
 add-put-limit c = search needs
 
--- src/lib.rt:32:38
 add-put-limit-2 : tie.Need-add-put-limit-2
 add-put-limit-2 c = search needs
 
--- src/lib.rt:32:12
 put-limit-requires : tie.Need-put-limit-requires
 put-limit-requires c κs = search needs
 
--- src/lib.rt:33:33
 add-counts : tie.Need-add-counts
 add-counts c = search needs
 
--- src/lib.rt:33:20
 mul-counts : tie.Need-mul-counts
 mul-counts c = search needs
 
--- src/lib.rt:33:20
 add-counts-2 : tie.Need-add-counts-2
 add-counts-2 c = search needs
 
--- src/lib.rt:33:13
 mul-counts-2 : tie.Need-mul-counts-2
 mul-counts-2 c = search needs
 
--- src/lib.rt:33:13
 slice-write-counts : tie.Need-slice-write-counts
 slice-write-counts c = search needs
 
--- src/lib.rt:25:1
 same-length : tie.Need-same-length
 same-length c = search needs
 
--- src/lib.rt:25:1
 same-length-2 : tie.Need-same-length-2
 same-length-2 c = search needs
 
--- src/lib.rt:25:1
 returns : tie.Need-returns
-returns c = let s = c .before .before .before .before .before .before .before .before in let f = c .before .before .before .before .before .if1 .taken in let l = c .before .before .before .before .at-most in let y = c .before .before .put-limit in
-    limit-counted (s .args .limits .now) (s .args .counts .now) (s .args .k) (s .pre) (l .result) (l .ensures) f (y .result) _ (y .ensures) (c .if2 .taken)
+returns c = let s = c .before .before .before .before .before .before .before .before in let f = c .before .before .before .before .before .if1 .taken in let l = c .before .before .before .before .bound in let y = c .before .before .put-limit in limit-counted (s .args .limits .now) (s .args .counts .now) (s .args .k) (s .args .side) (s .pre) (l .result) (l .ensures) f (y .result) _ (y .ensures) (c .if2 .taken)
 
--- src/lib.rt:25:1
 same-length-3 : tie.Need-same-length-3
 same-length-3 c = search needs
 
--- src/lib.rt:25:1
 returns-2 : tie.Need-returns-2
-returns-2 c = let s = c .before .before .before .before .before .before .before .before in let f = c .before .before .before .before .before .if1 .taken in let l = c .before .before .before .before .at-most in let y = c .before .before .put-limit in
-    limit-refused (s .args .limits .now) (s .args .counts .now) (s .args .k) (s .pre) (l .result) (l .ensures) f (y .result) _ (y .ensures) (c .if2 .left)
+returns-2 c = let s = c .before .before .before .before .before .before .before .before in let f = c .before .before .before .before .before .if1 .taken in let l = c .before .before .before .before .bound in let y = c .before .before .put-limit in limit-refused (s .args .limits .now) (s .args .counts .now) (s .args .k) (s .args .side) (s .pre) (l .result) (l .ensures) f (y .result) _ (y .ensures) (c .if2 .left)
 
--- src/lib.rt:25:1
 returns-3 : tie.Need-returns-3
-returns-3 c depth h o = narrower-itself _ _ depth o
+returns-3 c = search needs
 
 pub shorten-spec : {M : Type 1} → statement M
 shorten-spec =
@@ -97,8 +75,9 @@ shorten-spec =
     add-n
     mul-n-2
     slice-read-n
-    at-most-requires
+    bound-requires
     mul-put-limit
+    mul-put-limit-2
     add-put-limit
     add-put-limit-2
     put-limit-requires

@@ -1,7 +1,7 @@
--- `mark_admitted`: the corner is cut and marked; then every pair of accesses is looked at.
-use borrow.Author.Tests.{not-false}
-use Rattle.squeeze.proofs.FewLaws.{unsaid}
-use Rattle.squeeze.proofs.SqueezeLaws.{cut-in, corner-in, cover-in, lines-known}
+-- `mark_admitted`: the corner, and then the centre with clear marks.
+use mathlib.Core.Path.{_∙_}
+use Rattle.sheet.specs.Sheets.{sheetOf}
+use Rattle.squeeze.proofs.SqueezeLaws.{squeeze-again}
 use borrow.Author.Needs.{needs}
 use Rattle.squeeze.proofs.mark_admitted.Statement.{statement}
 use Rattle.squeeze.proofs.mark_admitted.Tie as tie
@@ -12,44 +12,26 @@ slice-aggregate-ranges-in-turn c = search needs
 ranges-in-turn-requires : tie.Need-ranges-in-turn-requires
 ranges-in-turn-requires c κs = search needs
 
-slice-aggregate-copy : tie.Need-slice-aggregate-copy
-slice-aggregate-copy c = search needs
-
-copy-requires : tie.Need-copy-requires
-copy-requires c κs = search needs
-
-slice-aggregate-cut-corner : tie.Need-slice-aggregate-cut-corner
-slice-aggregate-cut-corner c = search needs
-
-slice-aggregate-cut-corner-2 : tie.Need-slice-aggregate-cut-corner-2
-slice-aggregate-cut-corner-2 c = search needs
-
-cut-corner-requires : tie.Need-cut-corner-requires
-cut-corner-requires c κs = let s = c .before .before .before .before .before .before .before .before .before in let r = c .before .before .before .before .before .ranges-in-turn in let f = c .before .before .before .copy in cut-in (s .args .outline) (s .args .limits .now) (s .args .words .now) (s .args .marks .now) (s .pre) (r .result) (r .ensures) _ (f .ensures)
-
-with-counts-requires : tie.Need-with-counts-requires
-with-counts-requires c κs = search needs
-
-slice-aggregate-mark-few : tie.Need-slice-aggregate-mark-few
-slice-aggregate-mark-few c = search needs
-
-mark-few-requires : tie.Need-mark-few-requires
-mark-few-requires c κs = let s = c .before .before .before .before .before .before .before .before .before .before .before .before .before .before .before in let r = c .before .before .before .before .before .before .before .before .before .before .before .ranges-in-turn in let f = c .before .before .before .before .before .before .before .before .before .copy in let k = c .before .before .before .before .before .cut-corner in let w = c .before .before .with-counts in corner-in (s .args .outline) (s .args .limits .now) (s .args .words .now) (s .args .marks .now) (s .pre) (r .result) (r .ensures) _ (f .ensures) _ _ (k .ensures) (w .result) (w .ensures)
+mark-part-requires : tie.Need-mark-part-requires
+mark-part-requires c κs = search needs
 
 same-length : tie.Need-same-length
 same-length c = search needs
 
 returns : tie.Need-returns
-returns c = (unsaid, c .before .before .before .mark-few .ensures .1)
+returns c = let m = c .before .before .before .mark-part in (λ e. m .ensures .0 (c .if1 .taken), m .ensures .1)
 
-sheet-covered-requires : tie.Need-sheet-covered-requires
-sheet-covered-requires c κs = let s = c .before .before .before .before .before .before .before .before .before .before .before .before .before .before .before .before .before .before .before .before in let r = c .before .before .before .before .before .before .before .before .before .before .before .before .before .before .before .before .ranges-in-turn in let f = c .before .before .before .before .before .before .before .before .before .before .before .before .before .before .copy in let k = c .before .before .before .before .before .before .before .before .before .before .cut-corner in let w = c .before .before .before .before .before .before .before .with-counts in let m = c .before .before .before .before .mark-few in cover-in (s .args .outline) (s .args .limits .now) (s .args .words .now) (s .args .marks .now) (s .pre) (r .result) (r .ensures) _ (f .ensures) _ _ (k .ensures) (w .result) (w .ensures) _ (m .result) (m .ensures)
+clear-requires : tie.Need-clear-requires
+clear-requires c κs = search needs
+
+mark-part-requires-2 : tie.Need-mark-part-requires-2
+mark-part-requires-2 c κs = let s = c .before .before .before .before .before .before .before .before .before .before .before .before .before .before in let r = c .before .before .before .before .before .before .before .before .before .before .ranges-in-turn in let m = c .before .before .before .before .before .before .before .before .mark-part in let z = c .before .before .before .clear in (squeeze-again (sheetOf (s .args .outline) (s .args .limits .now) (s .args .words .now)) (s .args .marks .now) _ (s .pre) (z .ensures .0) (z .ensures .1 ∙ m .ensures .1), r .ensures)
 
 same-length-2 : tie.Need-same-length-2
 same-length-2 c = search needs
 
 returns-2 : tie.Need-returns-2
-returns-2 c = let s = c .before .before .before .before .before .before .before .before .before .before .before .before .before .before .before .before .before .before .before .before .before in let r = c .before .before .before .before .before .before .before .before .before .before .before .before .before .before .before .before .before .ranges-in-turn in let f = c .before .before .before .before .before .before .before .before .before .before .before .before .before .before .before .copy in let k = c .before .before .before .before .before .before .before .before .before .before .before .cut-corner in let w = c .before .before .before .before .before .before .before .before .with-counts in let m = c .before .before .before .before .before .mark-few in (lines-known (s .args .outline) (s .args .limits .now) (s .args .words .now) (s .args .marks .now) (s .pre) (r .result) (r .ensures) _ (f .ensures) _ _ (k .ensures) (w .result) (w .ensures) _ (m .result) (m .ensures) (not-false (m .result) (c .before .before .if1 .left)) (c .sheet-covered .result) (c .sheet-covered .ensures), m .ensures .1)
+returns-2 c = search needs
 
 pub mark-admitted-spec : {M : Type 1} → statement M
 mark-admitted-spec =
@@ -57,16 +39,10 @@ mark-admitted-spec =
     (tie.spec
     slice-aggregate-ranges-in-turn
     ranges-in-turn-requires
-    slice-aggregate-copy
-    copy-requires
-    slice-aggregate-cut-corner
-    slice-aggregate-cut-corner-2
-    cut-corner-requires
-    with-counts-requires
-    slice-aggregate-mark-few
-    mark-few-requires
+    mark-part-requires
     same-length
     returns
-    sheet-covered-requires
+    clear-requires
+    mark-part-requires-2
     same-length-2
     returns-2)
