@@ -1,13 +1,14 @@
--- Sets of marks. In order: the members of a set; a set filled number by number; the set after a step, from the marks; a set with vectors added.
-use mathlib.Core.Path.{_≡_, sym, _∙_, ap, subst}
+-- Sets of marks. In order: the members of a set; a set filled at one number of the depth after another; the set after a step, from the marks; a set with
+-- vectors added.
+use mathlib.Core.Path.{_≡_, refl, sym, _∙_, ap, subst}
 use mathlib.Core.Bool.{Bool, true, false, _||_}
 use mathlib.Core.Logic.{⊎-elim}
 use mathlib.Core.List.{List, [], _∷_, _++_, List·Memᴰ·head, List·Memᴰ·tail, List·Memᴰ·cases-cons, List·Memᴰ·append-cases, Memᴰ·append-left, Memᴰ·append-right}
-use Prim.Native.Nat.{ℕ, _+_, _≤_, _<_}
+use Prim.Native.Nat.{ℕ, _+_, _-_, _/_, _≤_, _<_}
 use native.Mathlib.Omega.{arith}
 use native.Mathlib.Decide.{ℕ-discrete, decLt}
 use lib.Dec.{T}
-use lib.ListN.{length, getD, set, replicate, length-set, length-replicate, getD-replicate}
+use lib.ListN.{length, getD, set, replicate, length-set, getD-replicate}
 use lib.Seq.{getD-set-same, getD-set-other}
 use Rattle.integers.specs.Sign.{Sign}
 use Rattle.lists.specs.Membership.{Mem, SameMembers}
@@ -18,7 +19,10 @@ use Rattle.model.specs.Ticket.{Step}
 use Rattle.model.specs.Directions.{signVectors}
 use Rattle.model.specs.Steps.{vectors, vectorsAfter}
 use Rattle.preimages.specs.Numbers.{number, marked}
+use Rattle.vectors.specs.Candidates.{stride}
+use Rattle.vectors.proofs.DepthLaws.{OfDepth, depth-positive, depth-first, depth-least, depth-next, depth-apart}
 use Rattle.directions.specs.Sets.{vectorsIn}
+use Rattle.directions.proofs.HornerLaws.{of-depth}
 use Rattle.model.proofs.Listing.LineOrderLaws.{signVectors-mem, mem-signVectors}
 use Rattle.preimages.proofs.NumberLaws.{number-below, number-injective}
 
@@ -32,41 +36,54 @@ pub mem-vectorsIn : (marks : List Bool) (d : ℕ) (v : List Sign) → length v �
 unfolding vectorsIn
 mem-vectorsIn marks d v l h = mem-select (marked marks) (signVectors d) (mem-signVectors d v l) h
 
+-- marks of vectors of the depth that are all clear
+pub none-marked : (marks : List Bool) (d : ℕ) → ((v : List Sign) → length v ≡ d → marked marks v ≡ false) → vectorsIn marks d ≡ []
+none-marked marks d e = no-members (vectorsIn marks d) (λ v m. let a = vectorsIn-mem marks d m in false-not-T (marked marks v) (e v (a .0)) (a .1))
+
 pub no-vectors : (d : ℕ) → vectorsIn (replicate 729 false) d ≡ []
-no-vectors d = no-members (vectorsIn (replicate 729 false) d)
-    (λ v m. false-not-T (marked (replicate 729 false) v) (getD-replicate 729 (number v) false false (number-below v)) (vectorsIn-mem (replicate 729 false) d m .1))
+no-vectors d = none-marked (replicate 729 false) d (λ v l. getD-replicate 729 (number v) false false (number-below v))
 
--- ---- a set filled number by number
+-- ---- a set filled at one number of the depth after another
 
--- up to number n each vector of depth d is marked as g says
-pub record Filling (g : List Sign → Bool) (d : ℕ) (marks : List Bool) (n : ℕ) : Type 0 where
+-- below number n each vector of depth d is marked as g says, from n on as it was in old
+pub record Filling (g : List Sign → Bool) (d : ℕ) (old marks : List Bool) (n : ℕ) : Type 0 where
   pub whole : length marks ≡ 729
+  pub place : OfDepth d n
   pub filled : (v : List Sign) → length v ≡ d → number v < n → marked marks v ≡ g v
+  pub left : (v : List Sign) → length v ≡ d → n ≤ number v → marked marks v ≡ marked old v
 
-module _ (g : List Sign → Bool) (d : ℕ) (marks : List Bool) where
-  -- no vector has a lesser number than n
-  pub fill-first : (n : ℕ) → marks ≡ replicate 729 false → ((v : List Sign) → length v ≡ d → n ≤ number v) → Filling g d marks n
-  fill-first n e f = record { whole = ap length e ∙ length-replicate 729 false; filled = λ v l h. let a = f v l in absurd (omega arith) }
-
-  -- no vector has a number between n and m
-  pub fill-next : (n m : ℕ) (b : Bool) → n < 729 → ((v : List Sign) → length v ≡ d → n < number v → m ≤ number v)
-      → ((v : List Sign) → length v ≡ d → number v ≡ n → b ≡ g v) → Filling g d marks n → Filling g d (set marks n b) m
-  fill-next n m b h gap f p = let w = p .whole in record {
-    whole = length-set marks n b ∙ p .whole;
-    filled = λ v l k. elim (ℕ-discrete (number v) n) [
-      | yes e ↦ rw e (getD-set-same marks n b false (omega arith)) ∙ f v l e
-      | no q ↦ getD-set-other marks n (number v) b false q ∙ p .filled v l (below v l k q)
-    ];
+module _ (g : List Sign → Bool) (d : ℕ) (old : List Bool) (few : d ≤ 6) (s : ℕ) (e : s ≡ stride (6 - d)) where
+  pub fill-first : length old ≡ 729 → Filling g d old old ((s - 1) / 2)
+  fill-first w = record {
+    whole = w;
+    place = depth-first d s e;
+    filled = λ v l h. let a = depth-least d s e (number v) (of-depth v d l few) in absurd (omega arith);
+    left = λ v l h. refl;
   }
-    where
-      below : (v : List Sign) → length v ≡ d → number v < m → (number v ≡ n → ⊥) → number v < n
-      below v l k q = elim (decLt n (number v)) [
-        | yes a ↦ let z = gap v l a in absurd (omega arith)
-        | no a ↦ omega arith
-      ]
 
-  pub fill-all : (n : ℕ) → 729 ≤ n → Filling g d marks n → (v : List Sign) → length v ≡ d → marked marks v ≡ g v
-  fill-all n h p v l = p .filled v l (omega (arith, number-below v))
+  module _ (marks : List Bool) (n : ℕ) (p : Filling g d old marks n) where
+    pub fill-next : (b : Bool) → n < 729 → ((v : List Sign) → length v ≡ d → number v ≡ n → b ≡ g v) → Filling g d old (set marks n b) (n + s)
+    fill-next b h f = let w = p .whole in record {
+      whole = length-set marks n b ∙ p .whole;
+      place = depth-next d s e n (p .place);
+      filled = λ v l k. elim (ℕ-discrete (number v) n) [
+        | yes q ↦ rw q (getD-set-same marks n b false (omega arith)) ∙ f v l q
+        | no q ↦ getD-set-other marks n (number v) b false q ∙ p .filled v l (below v l k q)
+      ];
+      left = λ v l k. getD-set-other marks n (number v) b false (beyond v k) ∙ p .left v l (omega arith);
+    }
+      where
+        below : (v : List Sign) → length v ≡ d → number v < n + s → (number v ≡ n → ⊥) → number v < n
+        below v l k q = elim (decLt n (number v)) [
+          | yes a ↦ let z = depth-apart d s e n (number v) (p .place) (of-depth v d l few) a in absurd (omega arith)
+          | no a ↦ omega arith
+        ]
+
+        beyond : (v : List Sign) → n + s ≤ number v → number v ≡ n → ⊥
+        beyond v k q = let z = depth-positive d s e in omega arith
+
+    pub fill-all : 729 ≤ n → (v : List Sign) → length v ≡ d → marked marks v ≡ g v
+    fill-all h v l = p .filled v l (omega (arith, number-below v))
 
 -- ---- the set after a step
 

@@ -63,7 +63,17 @@ pub record Added (n : ℕ) (s r : DirectionSet) : Type 0 where
   pub depth : r .depth ≡ s .depth
   pub vectors : (v : List Sign) → length v ≡ s .depth → number v ≡ n → SameMembers (vectorsOf r) (v ∷ vectorsOf s)
 
+-- ---- marks that are lent
+
+pub record MarksIn (marks : List Bool) (d : ℕ) : Type 0 where
+  pub room : length marks ≡ 729
+  pub few : d ≤ 6
+
+pub record Cleared (d : ℕ) (new : List Bool) : Type 0 where
+  pub room : length new ≡ 729
+  pub vectors : vectorsIn new d ≡ []
+
 -- the vectors of other marks added
-pub record Merged (row : List Bool) (s r : DirectionSet) : Type 0 where
-  pub depth : r .depth ≡ s .depth
-  pub vectors : SameMembers (vectorsOf r) (vectorsOf s ++ vectorsIn row (s .depth))
+pub record Merged (row : List Bool) (d : ℕ) (old new : List Bool) : Type 0 where
+  pub room : length new ≡ 729
+  pub vectors : SameMembers (vectorsIn new d) (vectorsIn old d ++ vectorsIn row d)

@@ -6,7 +6,7 @@ ghost use Prim.Native.Nat.{ℕ, suc, _+_, _-_, _≤_, _<_};
 ghost use lib.ListN.{length, replicate};
 ghost use Rattle.model.specs.Ticket.{exchange, reversal, skew, section};
 ghost use Rattle.model.specs.Steps.{somePointsBack};
-ghost use Rattle.directions.specs.Sets.{vectorsOf, ExchangeIn, ReversalIn, SkewIn, SectionIn, After, Empty, AddIn, Added, Merged};
+ghost use Rattle.directions.specs.Sets.{vectorsOf, ExchangeIn, ReversalIn, SkewIn, SectionIn, After, Empty, AddIn, Added, MarksIn, Cleared, Merged};
 ghost use Rattle.directions.specs.Changes.{ComesIn, Comes, PulledIn, Pulled};
 
 // 729 marks, one for each vector of six signs by its number, and the loops that there are. A loop that is missing has the sign =.
@@ -62,21 +62,31 @@ fn either(x: bool, y: bool) -> bool
     y
 }
 
-// The set with the vectors of 729 other marks.
-pub fn merged(s: DirectionSet, row: &[bool]) -> DirectionSet
-    requires { ⌜ length (now row) ≡ 729 ⌝ }
-    ensures { λ r. ⌜ Merged (now (row .entry)) s r ⌝ }
+// While a set is made its marks are lent. Only numbers of vectors of the depth are visited.
+
+// Leaves no vector marked.
+pub fn clear(marks: &mut [bool], depth: usize)
+    requires { ⌜ MarksIn (now marks) depth ⌝ }
+    ensures { λ _. ⌜ Cleared depth (now (marks .exit)) ⌝ }
 {
-    let old = s.marks;
-    let mut marks = no_marks();
-    let mut n = 0;
+    let step = vectors::stride(depth);
+    let mut n = (step - 1) / 2;
     while n < 729 {
-        marks[n] = either(old[n], row[n]);
-        n += 1;
+        marks[n] = false;
+        n += step;
     }
-    DirectionSet {
-        marks: marks,
-        depth: s.depth,
+}
+
+// Marks the vectors of 729 other marks too.
+pub fn merge(marks: &mut [bool], row: &[bool], depth: usize)
+    requires { ⌜ MarksIn (now marks) depth × (length (now row) ≡ 729) ⌝ }
+    ensures { λ _. ⌜ Merged (now (row .entry)) depth (now (marks .entry)) (now (marks .exit)) ⌝ }
+{
+    let step = vectors::stride(depth);
+    let mut n = (step - 1) / 2;
+    while n < 729 {
+        marks[n] = either(marks[n], row[n]);
+        n += step;
     }
 }
 

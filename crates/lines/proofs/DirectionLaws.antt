@@ -1,6 +1,6 @@
 -- The vectors of all rows of marks are those of the lines that are marked. In order: a row of marks; rows merged one by one; the rows of all
 -- lines; the directions of a nest.
-use mathlib.Core.Path.{_≡_, refl, sym, _∙_, ap, ap₂, subst}
+use mathlib.Core.Path.{_≡_, refl, sym, _∙_, ap, subst}
 use mathlib.Core.Bool.{Bool, false}
 use mathlib.Core.Logic.{⊎-elim}
 use mathlib.Core.List.{List, [], _++_, map, flatMap, List·Memᴰ·append-cases, Memᴰ·append-left, Memᴰ·append-right, Memᴰ·map, Memᴰ·of-map}
@@ -27,13 +27,12 @@ use Rattle.listing_text.specs.Text as Text
 use Rattle.listing_text.specs.Text.{shown, Marks}
 use Rattle.listing_text.proofs.IndexLaws.{split, count-small}
 use Rattle.preimages.specs.Numbers.{number, marked}
-use Rattle.directions.specs.Sets.{vectorsIn, vectorsOf, Empty, Merged}
-use Rattle.directions.specs.declared.DirectionSet.{DirectionSet}
+use Rattle.directions.specs.Sets.{vectorsIn, Cleared, Merged}
 use Rattle.preimages.proofs.NumberLaws.{number-below}
 use Rattle.directions.proofs.HornerLaws.{one-number}
 use Rattle.directions.proofs.SetLaws.{vectorsIn-mem, mem-vectorsIn}
 use Rattle.sheet.specs.Sheets.{Sheet, nestOf}
-use Rattle.lines.specs.Lines.{LinesAre, Shows}
+use Rattle.lines.specs.Lines.{LinesAre, Shows, DirectionsAre}
 
 -- ---- a row of marks
 
@@ -57,10 +56,10 @@ module _ (marks : List Bool) (n d : ℕ) (h : Marks marks n d) where
 
 -- ---- rows merged one by one
 
-pub record Merging (marks : List Bool) (d blocks : ℕ) (s : DirectionSet) (b : ℕ) : Type 0 where
+pub record Merging (marks : List Bool) (d blocks : ℕ) (set : List Bool) (b : ℕ) : Type 0 where
   pub bound : b ≤ blocks
-  pub depth : s .depth ≡ d
-  pub vectors : SameMembers (vectorsOf s) (flatMap (λ (r : List Bool). vectorsIn r d) (rows 729 b marks))
+  pub room : length set ≡ 729
+  pub vectors : SameMembers (vectorsIn set d) (flatMap (λ (r : List Bool). vectorsIn r d) (rows 729 b marks))
 
 members-more : {A : Type 0} {l m : List A} (n : List A) → SameMembers l m → SameMembers (l ++ n) (m ++ n)
 members-more {l = l} {m = m} n s = record {
@@ -69,15 +68,15 @@ members-more {l = l} {m = m} n s = record {
 }
 
 module _ (marks : List Bool) (d blocks : ℕ) where
-  pub merge-none : (s : DirectionSet) → Empty d s → Merging marks d blocks s 0
+  pub merge-none : (set : List Bool) → Cleared d set → Merging marks d blocks set 0
   unfolding rows flatMap
-  merge-none s e = record { bound = omega arith; depth = e .depth; vectors = record { into = λ v m. subst (Mem v) (e .vectors) m; from = λ v m. subst (Mem v) (sym (e .vectors)) m } }
+  merge-none set e = record { bound = omega arith; room = e .room; vectors = record { into = λ v m. subst (Mem v) (e .vectors) m; from = λ v m. subst (Mem v) (sym (e .vectors)) m } }
 
-  pub merge-next : (s r : DirectionSet) (b : ℕ) → b < blocks → Merging marks d blocks s b → Merged (take (b * 729 + 729 - b * 729) (drop (b * 729) marks)) s r → Merging marks d blocks r (b + 1)
-  merge-next s r b h g m = record {
+  pub merge-next : (old new : List Bool) (b : ℕ) → b < blocks → Merging marks d blocks old b → Merged (take (b * 729 + 729 - b * 729) (drop (b * 729) marks)) d old new → Merging marks d blocks new (b + 1)
+  merge-next old new b h g m = record {
     bound = omega arith;
-    depth = m .depth ∙ g .depth;
-    vectors = subst (SameMembers (vectorsOf r)) one-more (members-trans (m .vectors) (members-more (vectorsIn row (s .depth)) (g .vectors)));
+    room = m .room;
+    vectors = subst (SameMembers (vectorsIn new d)) one-more (members-trans (m .vectors) (members-more (vectorsIn row d) (g .vectors)));
   }
     where
       row : List Bool
@@ -86,9 +85,9 @@ module _ (marks : List Bool) (d blocks : ℕ) where
       row-is : row ≡ rowOf marks b
       row-is = ap (λ (i : ℕ). take i (drop (b * 729) marks)) (let q : b * 729 + 729 - b * 729 ≡ 729 = omega arith in q)
 
-      one-more : flatMap (λ (x : List Bool). vectorsIn x d) (rows 729 b marks) ++ vectorsIn row (s .depth) ≡ flatMap (λ (x : List Bool). vectorsIn x d) (rows 729 (b + 1) marks)
+      one-more : flatMap (λ (x : List Bool). vectorsIn x d) (rows 729 b marks) ++ vectorsIn row d ≡ flatMap (λ (x : List Bool). vectorsIn x d) (rows 729 (b + 1) marks)
       one-more =
-          ap₂ (λ (x : List Bool) (i : ℕ). flatMap (λ (y : List Bool). vectorsIn y d) (rows 729 b marks) ++ vectorsIn x i) row-is (g .depth)
+          ap (λ (x : List Bool). flatMap (λ (y : List Bool). vectorsIn y d) (rows 729 b marks) ++ vectorsIn x d) row-is
           ∙ sym (flatMap-snoc (λ (x : List Bool). vectorsIn x d) (rows 729 b marks) (rowOf marks b))
           ∙ ap (flatMap (λ (x : List Bool). vectorsIn x d)) (sym (rows-suc 729 b marks) ∙ ap (λ (i : ℕ). rows 729 i marks) (sym (add-one b)))
 
@@ -149,15 +148,18 @@ module _ (marks : List Bool) (n d : ℕ) (h : d ≤ 6) where
         (subst (λ (x : List Bool). Mem v (vectorsIn x d)) (sym (rows-getD 729 (n * n * 3) marks (r .0) [] i)) (mem-vectorsIn (rowOf marks (r .0)) d v (r .2) (r .3)));
   }
 
-  pub merge-all : (s : DirectionSet) (b : ℕ) → n * n * 3 ≤ b → Merging marks d (n * n * 3) s b → Shows marks n d s
-  merge-all s b l g =
+  pub merge-all : (set : List Bool) (b : ℕ) → n * n * 3 ≤ b → Merging marks d (n * n * 3) set b → Shows marks n d set
+  merge-all set b l g =
       let q = g .bound in let e : b ≡ n * n * 3 = omega arith in record {
-        depth = g .depth;
-        vectors = members-trans (subst (λ (i : ℕ). SameMembers (vectorsOf s) (flatMap (λ (r : List Bool). vectorsIn r d) (rows 729 i marks))) e (g .vectors)) rows-lines;
+        room = g .room;
+        vectors = members-trans (subst (λ (i : ℕ). SameMembers (vectorsIn set d) (flatMap (λ (r : List Bool). vectorsIn r d) (rows 729 i marks))) e (g .vectors)) rows-lines;
       }
 
 -- ---- the directions of a nest
 
-pub directions-are : (P : Sheet) (marks : List Bool) (r : DirectionSet) → LinesAre P marks → Shows marks (P .statements) (P .depth) r → SameMembers (vectorsOf r) (directionsOf (nestOf P))
-directions-are P marks r l s = members-trans (s .vectors) (subst (λ (ls : List Line). SameMembers (map vectorOf ls) (directionsOf (nestOf P))) (sym (l .lines))
-    (record { into = λ v m. linesOf-merged (nestOf P) v .0 m; from = λ v m. linesOf-merged (nestOf P) v .1 m }))
+pub directions-are : (P : Sheet) (marks set : List Bool) → LinesAre P marks → Shows marks (P .statements) (P .depth) set → DirectionsAre P set
+directions-are P marks set l s = record {
+  room = s .room;
+  vectors = members-trans (s .vectors) (subst (λ (ls : List Line). SameMembers (map vectorOf ls) (directionsOf (nestOf P))) (sym (l .lines))
+      (record { into = λ v m. linesOf-merged (nestOf P) v .0 m; from = λ v m. linesOf-merged (nestOf P) v .1 m }));
+}

@@ -120,9 +120,12 @@ lines-in P points n h k l m e = record {
 
 -- ---- what the search is lent
 
--- numbers of 20 accesses at 4096 points are the most
+-- numbers of 20 accesses at so many points are the most
+pub numbers-at : (P : Sheet) (n most : ℕ) → SheetIn P → n ≤ most → P .accesses * n ≤ 20 * most
+numbers-at P n most h g = mul-le-mul {n₁ = P .accesses} {m₁ = n} {n₂ = 20} {m₂ = most} (h .few-accesses) g
+
 pub few-numbers : (P : Sheet) (points : List ℤ) (n : ℕ) (marks : List Bool) → LinesIn P points n marks → P .accesses * n ≤ 81920
-few-numbers P points n marks h = mul-le-mul {n₁ = P .accesses} {m₁ = n} {n₂ = 20} {m₂ = 4096} (h .stray .sheet .few-accesses) (h .stray .points-are .stored .bound)
+few-numbers P points n marks h = numbers-at P n 4096 (h .stray .sheet) (h .stray .points-are .stored .bound)
 
 module _ (P : Sheet) (points : List ℤ) (n : ℕ) (marks : List Bool) (h : LinesIn P points n marks) (room : ℕ) (fits : P .accesses * n ≤ room) where
   abbrev sheet-in : SheetIn P

@@ -14,8 +14,7 @@ use Rattle.model.specs.Directions.{Line}
 use Rattle.model.specs.Judge.{directionsOf}
 use Rattle.model.specs.Listing.{linesOf}
 use Rattle.listing_text.specs.Text.{shown, Marks}
-use Rattle.directions.specs.declared.DirectionSet.{DirectionSet}
-use Rattle.directions.specs.Sets.{vectorsOf}
+use Rattle.directions.specs.Sets.{vectorsIn}
 use Rattle.sheet.specs.Sheets.{Sheet, nestOf, SheetIn}
 use Rattle.sheet.specs.Stages.{PointsAre, StrayIn}
 
@@ -39,12 +38,12 @@ pub record LinesAre (P : Sheet) (marks : List Bool) : Type 0 where
   pub lines : shown marks (P .statements) (P .depth) ≡ linesOf (nestOf P)
   pub marks-in : Marks marks (P .statements) (P .depth)
 
--- the vectors of the lines that are marked, kinds and statements merged
-pub record Shows (marks : List Bool) (n d : ℕ) (r : DirectionSet) : Type 0 where
-  pub depth : r .depth ≡ d
-  pub vectors : SameMembers (vectorsOf r) (map (λ (l : Line). l .vector) (shown marks n d))
+-- the set has the vectors of the lines that are marked, kinds and statements merged
+pub record Shows (marks : List Bool) (n d : ℕ) (set : List Bool) : Type 0 where
+  pub room : length set ≡ 729
+  pub vectors : SameMembers (vectorsIn set d) (map (λ (l : Line). l .vector) (shown marks n d))
 
 -- the vectors of the nest's directions
-pub record DirectionsAre (P : Sheet) (s : DirectionSet) : Type 0 where
-  pub depth : s .depth ≡ P .depth
-  pub vectors : SameMembers (vectorsOf s) (directionsOf (nestOf P))
+pub record DirectionsAre (P : Sheet) (set : List Bool) : Type 0 where
+  pub room : length set ≡ 729
+  pub vectors : SameMembers (vectorsIn set (P .depth)) (directionsOf (nestOf P))

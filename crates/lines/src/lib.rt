@@ -7,7 +7,6 @@ ghost use Rattle.listing_text.specs.Text.{Marks};
 ghost use Rattle.sheet.specs.Sheets.{sheetOf, SheetIn};
 ghost use Rattle.lines.specs.Uses.{firstWritten, EnterIn, UsesAre};
 ghost use Rattle.lines.specs.Lines.{Admitted, LinesIn, LinesAre, Shows, DirectionsAre};
-use directions::DirectionSet;
 use sheet::Outline;
 
 // Of each access its statement, counted from 0, and whether it is the one that is written.
@@ -83,8 +82,35 @@ fn mark_by(
     );
 }
 
-// Few accesses at few points have fewer numbers to clear.
-pub fn mark_lines(
+// The same of few points: fewer accesses have fewer numbers to clear. Apart from `mark_many`, whose room would be walked through page by page here too.
+pub fn mark_few(
+    outline: Outline,
+    limits: &[i16],
+    words: &[i16],
+    points: &[i64],
+    count: usize,
+    marks: &mut [bool],
+)
+    requires { ⌜ LinesIn (sheetOf outline (now limits) (now words)) (now points) count (now marks) × (count ≤ 256) ⌝ }
+    ensures { λ _. ⌜ LinesAre (sheetOf outline (now (limits .entry)) (now (words .entry))) (now (marks .exit)) × (length (now (marks .exit)) ≡ length (now (marks .entry))) ⌝ }
+{
+    let needed = outline.accesses * count;
+    if needed <= 160 {
+        let mut few = [0u16; 160];
+        mark_by(outline, limits, words, points, count, &mut few, marks);
+        return;
+    }
+    if needed <= 1024 {
+        let mut more = [0u16; 1024];
+        mark_by(outline, limits, words, points, count, &mut more, marks);
+        return;
+    }
+    let mut numbers = [0u16; 5120];
+    mark_by(outline, limits, words, points, count, &mut numbers, marks);
+}
+
+// The same of any number of points.
+pub fn mark_many(
     outline: Outline,
     limits: &[i16],
     words: &[i16],
@@ -96,13 +122,13 @@ pub fn mark_lines(
     ensures { λ _. ⌜ LinesAre (sheetOf outline (now (limits .entry)) (now (words .entry))) (now (marks .exit)) × (length (now (marks .exit)) ≡ length (now (marks .entry))) ⌝ }
 {
     let needed = outline.accesses * count;
-    if needed <= 1024 {
-        let mut few = [0u16; 1024];
+    if needed <= 16384 {
+        let mut few = [0u16; 16384];
         mark_by(outline, limits, words, points, count, &mut few, marks);
         return;
     }
-    if needed <= 16384 {
-        let mut more = [0u16; 16384];
+    if needed <= 40960 {
+        let mut more = [0u16; 40960];
         mark_by(outline, limits, words, points, count, &mut more, marks);
         return;
     }
@@ -110,19 +136,18 @@ pub fn mark_lines(
     mark_by(outline, limits, words, points, count, &mut numbers, marks);
 }
 
-// The vectors of the lines that are marked: a row of 729 marks for each source, sink and kind.
-pub fn directions_of(marks: &[bool], n: usize, depth: usize) -> DirectionSet
-    requires { ⌜ Marks (now marks) n depth ⌝ }
-    ensures { λ r. ⌜ Shows (now (marks .entry)) n depth r ⌝ }
+// Makes the set of the vectors of the lines that are marked: a row of 729 marks for each source, sink and kind.
+pub fn directions_of(marks: &[bool], n: usize, depth: usize, set: &mut [bool])
+    requires { ⌜ Marks (now marks) n depth × (length (now set) ≡ 729) ⌝ }
+    ensures { λ _. ⌜ Shows (now (marks .entry)) n depth (now (set .exit)) ⌝ }
 {
     let blocks = n * n * 3;
-    let mut set = directions::empty(depth);
+    directions::clear(set, depth);
     let mut b = 0;
     while b < blocks {
-        set = directions::merged(set, &marks[b * 729..b * 729 + 729]);
+        directions::merge(set, &marks[b * 729..b * 729 + 729], depth);
         b += 1;
     }
-    set
 }
 
 fn directions_by(
@@ -132,33 +157,42 @@ fn directions_by(
     points: &[i64],
     count: usize,
     marks: &mut [bool],
-) -> DirectionSet
-    requires { ⌜ LinesIn (sheetOf outline (now limits) (now words)) (now points) count (now marks) ⌝ }
-    ensures { λ r. ⌜ DirectionsAre (sheetOf outline (now (limits .entry)) (now (words .entry))) r ⌝ }
+    set: &mut [bool],
+)
+    requires { ⌜ LinesIn (sheetOf outline (now limits) (now words)) (now points) count (now marks) × (length (now set) ≡ 729) ⌝ }
+    ensures { λ _. ⌜ DirectionsAre (sheetOf outline (now (limits .entry)) (now (words .entry))) (now (set .exit)) ⌝ }
 {
-    mark_lines(outline, limits, words, points, count, marks);
-    directions_of(marks, outline.statements, outline.depth)
+    if count <= 256 {
+        mark_few(outline, limits, words, points, count, marks);
+        directions_of(marks, outline.statements, outline.depth, set);
+        return;
+    }
+    mark_many(outline, limits, words, points, count, marks);
+    directions_of(marks, outline.statements, outline.depth, set);
 }
 
-// The directions of an admitted nest. Few statements have fewer marks to clear.
+// Makes the set of the directions of an admitted nest. Few statements have fewer marks to clear.
 pub fn directions_in(
     outline: Outline,
     limits: &[i16],
     words: &[i16],
     points: &[i64],
     count: usize,
-) -> DirectionSet
-    requires { ⌜ Admitted (sheetOf outline (now limits) (now words)) (now points) count ⌝ }
-    ensures { λ r. ⌜ DirectionsAre (sheetOf outline (now (limits .entry)) (now (words .entry))) r ⌝ }
+    set: &mut [bool],
+)
+    requires { ⌜ Admitted (sheetOf outline (now limits) (now words)) (now points) count × (length (now set) ≡ 729) ⌝ }
+    ensures { λ _. ⌜ DirectionsAre (sheetOf outline (now (limits .entry)) (now (words .entry))) (now (set .exit)) ⌝ }
 {
     if outline.statements <= 1 {
         let mut few = [false; 2187];
-        return directions_by(outline, limits, words, points, count, &mut few);
+        directions_by(outline, limits, words, points, count, &mut few, set);
+        return;
     }
     if outline.statements <= 2 {
         let mut more = [false; 8748];
-        return directions_by(outline, limits, words, points, count, &mut more);
+        directions_by(outline, limits, words, points, count, &mut more, set);
+        return;
     }
     let mut marks = [false; 34992];
-    directions_by(outline, limits, words, points, count, &mut marks)
+    directions_by(outline, limits, words, points, count, &mut marks, set);
 }

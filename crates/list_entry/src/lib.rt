@@ -48,7 +48,11 @@ fn write_by(
     requires { ⌜ LinesIn (sheetOf outline (now limits) (now words)) (now points) count (now marks) ⌝ }
     ensures { λ r. ⌜ Hands (Entries.handOut (accepted (listing (nestOf (sheetOf outline (now (limits .entry)) (now (words .entry)))))) (now (out .entry))) r (now (out .exit)) ⌝ }
 {
-    lines::mark_lines(outline, limits, words, points, count, marks);
+    if count <= 256 {
+        lines::mark_few(outline, limits, words, points, count, marks);
+        return write_marked(outline, limits, words, count, marks, out);
+    }
+    lines::mark_many(outline, limits, words, points, count, marks);
     write_marked(outline, limits, words, count, marks, out)
 }
 

@@ -1,5 +1,6 @@
 -- Refusals 1 to 13, then the outcome of the judged ticket, are the model's `runEntry`.
 use mathlib.Core.Path.{_≡_, refl, sym, _∙_, ap, ap₂, subst}
+use mathlib.Core.Bool.{Bool}
 use mathlib.Core.List.{List}
 use Prim.Native.Nat.{ℕ}
 use lib.Dec.{eqb}
@@ -30,8 +31,7 @@ use Rattle.intake.proofs.AdmitLaws.{admitted-too}
 use Rattle.intake.specs.Answers.{Hands}
 use Rattle.judgement.specs.declared.Judged.{Judged}
 use Rattle.judgement.specs.Judgement.{judgedAs, Judges}
-use Rattle.verdict.specs.Verdicts.{Judgeable}
-use Rattle.directions.specs.declared.DirectionSet.{DirectionSet}
+use Rattle.verdict.specs.Verdicts.{Judgeable, Finds}
 use Rattle.execution.specs.Execution.{opaqueAt, Executable}
 use Rattle.execution.proofs.AcceptedLaws.{new-count, new-arrays, new-executable}
 use Rattle.judged_run.specs.Outcomes.{tested, outcome, RunIn}
@@ -65,7 +65,10 @@ module _ (b w : List ℕ) (o e : List ℤ) (q : Intake) (l m : List ℤ) (h : Ad
   pub not-admitted : (r : Refusal) → q .status ≡ Status.Refused r → Hands (runEntry b w) (Refused r) w
   not-admitted r z = judgement-refused b w r (refused-judged b (sym (h .same) ∙ ap (λ (x : Status). decoded x (ticketOn (sheetOf (q .outline) l m) (q .steps))) z))
 
-module _ (b w : List ℕ) (q : Intake) (l m : List ℤ) (d : DirectionSet) (h : Judgeable b q l m d) where
+pub found-refused : (b w : List ℕ) (q : Intake) (l m : List ℤ) (s : Status) (d : List Bool) → Finds b q l m s d → (r : Refusal) → s ≡ Status.Refused r → Hands (runEntry b w) (Refused r) w
+found-refused b w q l m s d h r z = judgement-refused b w r (refused-judged b (h .turned-away r z))
+
+module _ (b w : List ℕ) (q : Intake) (l m : List ℤ) (d : List Bool) (h : Judgeable b q l m d) where
   -- the ticket's own sheet
   abbrev own : Sheet
   own = sheetOf (q .outline) l m

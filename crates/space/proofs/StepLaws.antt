@@ -3,10 +3,11 @@ use mathlib.Core.Path.{_≡_, refl, sym, _∙_, ap, ap₂, subst}
 use mathlib.Core.List.{List, [], _∷_, _++_}
 use Prim.Native.Nat.{ℕ, _+_, _-_, _≤_, _<_}
 use native.Mathlib.Omega.{arith}
+use native.Mathlib.Nat.{le-refl}
 use native.Mathlib.Numerals.{add-one}
 use lib.IntN.{ℤ, pos, _+ℤ_, _-ℤ_}
-use lib.ListN.{length, take, set}
-use lib.Seq.{take-suc-set, length-take-le}
+use lib.ListN.{length, take, set, length-set}
+use lib.Seq.{take-set-le, take-suc-set, take-take}
 use mir.Syntax.{w64}
 use mir.Val.{SFits, toZ, ofZ}
 use Rattle.lists.specs.Membership.{Mem}
@@ -38,11 +39,18 @@ module _ (lo : ℤ) (t : ℕ) (h : Narrow lo) (g : t ≤ 68719476737) where
   pub index-set : (point : List ℤ) (k : ℕ) → set point k (toZ w64 (ofZ w64 (toZ w64 (ofZ w64 lo) +ℤ toZ w64 t))) ≡ set point k (lo +ℤ pos t)
   index-set point k = ap (set point k) (back index-fits ∙ index-is)
 
-pub take-moved : (point q : List ℤ) (k : ℕ) (v : ℤ) → k < length point → q ≡ set point k v → take (k + 1) q ≡ take k point ++ (v ∷ [])
-take-moved point q k v h e = ap (take (k + 1)) e ∙ rw (add-one k) (take-suc-set point k v h)
+-- ---- index k of a point is set, after the k indices outside
 
-pub prefix : (point : List ℤ) (k : ℕ) → length point ≡ 6 → k ≤ 6 → length (take k point) ≡ k
-prefix point k e h = length-take-le k point (omega arith)
+module _ (k : ℕ) (point : List ℤ) (i : ℤ) {outer q : List ℤ} (kept : take k point ≡ outer) (moved : q ≡ set point k i) where
+  pub take-moved : k < length point → take (k + 1) q ≡ outer ++ (i ∷ [])
+  take-moved h = ap (take (k + 1)) moved ∙ rw (add-one k) (take-suc-set point k i h) ∙ ap (λ (l : List ℤ). l ++ (i ∷ [])) kept
+
+  pub length-moved : length q ≡ length point
+  length-moved = ap length moved ∙ length-set point k i
+
+  -- what keeps index k too keeps those outside
+  pub still-kept : (e : List ℤ) → take (k + 1) e ≡ take (k + 1) q → take k e ≡ outer
+  still-kept e h = sym (take-take k (k + 1) e (omega arith)) ∙ ap (take k) h ∙ take-take k (k + 1) q (omega arith) ∙ ap (take k) moved ∙ take-set-le k point k i (le-refl k) ∙ kept
 
 -- ---- what stays near
 

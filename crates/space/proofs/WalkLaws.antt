@@ -4,7 +4,8 @@ use mathlib.Core.List.{List, [], _∷_, _++_, flatMap}
 use Prim.Native.Nat.{ℕ, suc, _+_, _-_, _≤_, _<_}
 use native.Mathlib.Omega.{arith}
 use lib.IntN.{ℤ, pos, _+ℤ_, _-ℤ_}
-use lib.ListN.{length, take, set}
+use lib.ListN.{length, take}
+use lib.Seq.{length-take-le}
 use Rattle.integers.specs.Difference.{size}
 use Rattle.model.specs.Ticket.{Loop}
 use Rattle.model.specs.Points.{span, ints}
@@ -15,14 +16,14 @@ use Rattle.space.specs.Tallies.{through, seen, Near, IncludeIn, TallyIn,
 use Rattle.bounds.proofs.RangeLaws.{range-in}
 use Rattle.space.proofs.ThroughLaws.{loops-step, loops-none, after, through-step, turn, no-turn}
 use Rattle.space.proofs.TallyLaws.{seen-append, seen-none}
-use Rattle.space.proofs.StepLaws.{within-snoc, take-moved, prefix, near-step}
+use Rattle.space.proofs.StepLaws.{within-snoc, near-step}
 
-module _ {s : List ℤ} {c : List ℕ} {k left : ℕ} {point : List ℤ} {bound most : ℕ} {a : Tally} (p : TallyIn s c k left point bound most a) (len : length point ≡ 6) where
-  pub room : k < 6
-  room = let d = p .nest .shallow in let h = p .some in omega arith
+module _ {s : List ℤ} {c : List ℕ} {k left : ℕ} {point : List ℤ} {bound most : ℕ} {a : Tally} (p : TallyIn s c k left point bound most a) (wide : k + left ≤ length point) where
+  pub room : (k < 6) × (k < length point)
+  room = let d = p .nest .shallow in let h = p .some in (omega arith, omega arith)
 
   pub outer-length : length (take k point) ≡ k
-  outer-length = let h = room in prefix point k len (omega arith)
+  outer-length = length-take-le k point (omega arith)
 
   pub outer-range : RangeIn s c (take k point)
   outer-range = let e = outer-length in let h = p .some in range-in s c (k + left) (take k point) (p .nest) (omega arith) (p .small)
@@ -55,10 +56,7 @@ module _ {s : List ℤ} {c : List ℕ} {k left : ℕ} {point : List ℤ} {bound 
     here : Ranged (loopAt s c k) (take k point) lo hi
     here = subst (λ (j : ℕ). Ranged (loopAt s c j) (take k point) lo hi) outer-length r
 
-    module _ {t : ℕ} (b : Tally) {q : List ℤ} (h : t < n) (moved : q ≡ set point k (lo +ℤ pos t)) where
-      next-outer : take (k + 1) q ≡ take k point ++ ((lo +ℤ pos t) ∷ [])
-      next-outer = let g = room in take-moved point q k (lo +ℤ pos t) (omega arith) moved
-
+    module _ {t : ℕ} (b : Tally) (q : List ℤ) (h : t < n) (moved : take (k + 1) q ≡ take k point ++ ((lo +ℤ pos t) ∷ [])) where
       near : (size (lo +ℤ pos t) ≤ bound) × Near bound (loopsFrom s c (k + 1) (left - 1 - 1)) (take k point ++ ((lo +ℤ pos t) ∷ []))
       near = let g = two in near-step bound s c k (left - 1) (take k point) lo hi n t (omega arith) here e h (p .near)
 
@@ -69,8 +67,8 @@ module _ {s : List ℤ} {c : List ℕ} {k left : ℕ} {point : List ℤ} {bound 
       turn-in g = let w = two in let z = p .bounds .near in let i = near .0 in record {
         nest = subst (NestOk s c) (sym same-depth) (p .nest);
         some = omega arith;
-        small = rw next-outer (within-snoc 100000 (take k point) (lo +ℤ pos t) (p .small) (omega arith));
-        near = rw next-outer (near .1);
+        small = rw moved (within-snoc 100000 (take k point) (lo +ℤ pos t) (p .small) (omega arith));
+        near = rw moved (near .1);
         bounds = p .bounds;
         counted = g;
       }
@@ -78,7 +76,7 @@ module _ {s : List ℤ} {c : List ℕ} {k left : ℕ} {point : List ℤ} {bound 
       pub turn-out : (r : Tally) → b ≡ seen bound most a (done lo t) → Tallied s c (k + 1) (left - 1) q bound most b r → r ≡ seen bound most a (done lo (t + 1))
       turn-out r f g =
           g .tallied
-          ∙ ap (λ (outer : List ℤ). seen bound most b (through (loopsFrom s c (k + 1) (left - 1)) outer)) next-outer
+          ∙ ap (λ (outer : List ℤ). seen bound most b (through (loopsFrom s c (k + 1) (left - 1)) outer)) moved
           ∙ ap (λ (x : Tally). seen bound most x (after s c k left (take k point) (lo +ℤ pos t))) f
           ∙ seen-append bound most a (done lo t) (after s c k left (take k point) (lo +ℤ pos t))
           ∙ ap (seen bound most a) (sym (turn (after s c k left (take k point)) lo t))

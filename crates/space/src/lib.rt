@@ -4,7 +4,7 @@ ghost use mathlib.Core.Path.{_≡_};
 ghost use mathlib.Core.List.{[], _∷_, _++_};
 ghost use Prim.Native.Nat.{suc, _+_, _≤_, _<_};
 ghost use lib.IntN.{pos, _+ℤ_};
-ghost use lib.ListN.{length, take, set};
+ghost use lib.ListN.{length, take};
 ghost use Rattle.lists.specs.Parts.{put};
 ghost use Rattle.bounds.specs.Flat.{loopAt};
 ghost use Rattle.bounds.specs.Ranges.{Narrow};
@@ -62,29 +62,20 @@ fn include(
     }
 }
 
-// The point with index k set to the one t places after the first.
-fn moved(point: [i64; 6], k: usize, e: Ends, t: usize) -> [i64; 6]
-    requires { ⌜ (k < 6) × Narrow (e .lo) × (t ≤ 68719476737) ⌝ }
-    ensures { λ r. ⌜ r ≡ set point k (e .lo +ℤ pos t) ⌝ }
-{
-    let mut q = point;
-    q[k] = e.lo + (t as i64);
-    q
-}
-
 // The tally with the points that go on from the first k indices of a point by the next `left` loops. The last loop's range is not walked.
+// The indices of the point from k on are overwritten.
 pub fn tally_points(
     nest: &[i16],
     counts: &[usize],
     k: usize,
     left: usize,
-    point: [i64; 6],
+    point: &mut [i64],
     bound: usize,
     most: usize,
     a: Tally,
 ) -> Tally
-    requires { ⌜ TallyIn (now nest) (now counts) k left point bound most a ⌝ }
-    ensures { λ r. ⌜ Tallied (now (nest .entry)) (now (counts .entry)) k left point bound most a r ⌝ }
+    requires { ⌜ TallyIn (now nest) (now counts) k left (now point) bound most a × (k + left ≤ length (now point)) ⌝ }
+    ensures { λ r. ⌜ Tallied (now (nest .entry)) (now (counts .entry)) k left (now (point .entry)) bound most a r × (take k (now (point .exit)) ≡ take k (now (point .entry))) ⌝ }
 {
     if left == 1 {
         return include(nest, counts, &point[..k], bound, most, a);
@@ -94,8 +85,8 @@ pub fn tally_points(
     let mut b = a;
     let mut t = 0;
     while t < n {
-        let q = moved(point, k, e, t);
-        b = tally_points(nest, counts, k + 1, left - 1, q, bound, most, b);
+        point[k] = e.lo + (t as i64);
+        b = tally_points(nest, counts, k + 1, left - 1, point, bound, most, b);
         t += 1;
     }
     b
@@ -122,7 +113,8 @@ pub fn survey(nest: &[i16], counts: &[usize], depth: usize, bound: usize, most: 
             far: false,
             count: 0,
         };
-        let seen = tally_points(nest, counts, 0, level, [0; 6], bound, most, none);
+        let mut point = [0; 6];
+        let seen = tally_points(nest, counts, 0, level, &mut point, bound, most, none);
         count = seen.count;
         let far = seen.far;
         let crowded = most < count;
@@ -177,17 +169,18 @@ fn collect_last(nest: &[i16], counts: &[usize], outer: &[i64], out: &mut [i64], 
 }
 
 // Writes the points that go on from the first k indices of a point by the next `left` loops into out, in order; returns the place after them.
+// The indices of the point from k on are overwritten.
 fn collect(
     nest: &[i16],
     counts: &[usize],
     k: usize,
     left: usize,
-    point: [i64; 6],
+    point: &mut [i64],
     out: &mut [i64],
     at: usize,
 ) -> usize
-    requires { ⌜ CollectIn (now nest) (now counts) k left (take k point) (length (now out)) at ⌝ }
-    ensures { λ r. ⌜ Collected (now (nest .entry)) (now (counts .entry)) k left (take k point) (now (out .entry)) (now (out .exit)) at r ⌝ }
+    requires { ⌜ CollectIn (now nest) (now counts) k left (take k (now point)) (length (now out)) at × (k + left ≤ length (now point)) ⌝ }
+    ensures { λ r. ⌜ Collected (now (nest .entry)) (now (counts .entry)) k left (take k (now (point .entry))) (now (out .entry)) (now (out .exit)) at r × (take k (now (point .exit)) ≡ take k (now (point .entry))) ⌝ }
 {
     if left == 1 {
         return collect_last(nest, counts, &point[..k], out, at);
@@ -197,8 +190,8 @@ fn collect(
     let mut p = at;
     let mut t = 0;
     while t < n {
-        let q = moved(point, k, e, t);
-        p = collect(nest, counts, k + 1, left - 1, q, out, p);
+        point[k] = e.lo + (t as i64);
+        p = collect(nest, counts, k + 1, left - 1, point, out, p);
         t += 1;
     }
     p
@@ -209,6 +202,7 @@ pub fn list_points(nest: &[i16], counts: &[usize], depth: usize, out: &mut [i64]
     requires { ⌜ PointsIn (now nest) (now counts) depth (length (now out)) ⌝ }
     ensures { λ r. ⌜ Listed (now (nest .entry)) (now (counts .entry)) depth (now (out .entry)) (now (out .exit)) r ⌝ }
 {
-    let end = collect(nest, counts, 0, depth, [0; 6], out, 0);
+    let mut point = [0; 6];
+    let end = collect(nest, counts, 0, depth, &mut point, out, 0);
     end / depth
 }

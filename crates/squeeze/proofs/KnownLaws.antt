@@ -8,14 +8,12 @@ use native.Mathlib.Nat.{mul-le-mul}
 use lib.ListN.{length, replicate, length-replicate}
 use Rattle.model.specs.Answer.{accepted}
 use Rattle.model.specs.Bounds.{admitted}
-use Rattle.directions.specs.declared.DirectionSet.{DirectionSet}
 use Rattle.enclosure.specs.Promises.{StaysInside}
 use Rattle.enclosure.proofs.InsideLaws.{stays-admitted}
 use Rattle.sheet.specs.Sheets.{Sheet, nestOf}
 use Rattle.lines.specs.Lines.{LinesAre, Shows}
 use Rattle.lines.proofs.MarkLaws.{clear-marks}
 use Rattle.lines.proofs.DirectionLaws.{directions-are}
-use Rattle.listing_text.specs.Text.{Marks}
 use Rattle.squeeze.specs.Squeezed.{SqueezeIn, Spacious, MarkIn, Marked, Directed}
 
 module _ (P : Sheet) (m : List Bool) (p : MarkIn P m) where
@@ -32,15 +30,8 @@ module _ (P : Sheet) (m : List Bool) (p : MarkIn P m) where
     pub lines-marked : (n : List Bool) (b : Bool) → (b ≡ true → LinesAre P n) → b ≡ true → Marked P n
     lines-marked n b f g = record { admitted-is = passes; lines = f g }
 
-  module _ (n : List Bool) (same : length n ≡ length m) where
-    pub marks-in : Marks n (P .statements) (P .depth)
-    marks-in = let r = p .room in record { statements = p .nest .sheet .few-statements; shallow = p .nest .sheet .nest .shallow; room = omega arith }
-
-    pub known-out : (b : Bool) (s : DirectionSet) → (b ≡ true → Marked P n) → Shows n (P .statements) (P .depth) s → b ≡ true → Directed P s
-    known-out b s f g e = record {
-      admitted-is = f e .admitted-is;
-      directions = record { depth = g .depth; vectors = directions-are P n s (f e .lines) g };
-    }
+pub directed : (P : Sheet) (m set : List Bool) → Marked P m → Shows m (P .statements) (P .depth) set → Directed P set
+directed P m set h g = record { admitted-is = h .admitted-is; directions = directions-are P m set (h .lines) g }
 
 -- marks for k statements
 pub clear-in : (P : Sheet) → Spacious P → (k : ℕ) → P .statements ≤ k → (m : ℕ) → k * k * 2187 ≡ m → MarkIn P (replicate m false)

@@ -15,8 +15,6 @@ use Rattle.dependence.specs.Flat.{Use, uses}
 use Rattle.sheet.specs.declared.Outline.{Outline}
 use Rattle.sheet.specs.Sheets.{Sheet, sheetOf, extentsIn, ownersIn, wordsIn, nestOf, SheetIn}
 use Rattle.lines.specs.Lines.{LinesAre, DirectionsAre}
-use Rattle.directions.specs.declared.DirectionSet.{DirectionSet}
-use Rattle.squeeze.specs.declared.Known.{Known}
 use Rattle.squeeze.specs.Covered.{Pairs, pairs, CoveredTo}
 
 -- the sheet with other limits
@@ -91,10 +89,12 @@ pub record Marked (P : Sheet) (m : List Bool) : Type 0 where
   pub admitted-is : admitted (nestOf P) ≡ accepted tt
   pub lines : LinesAre P m
 
--- the answer promises something where `known` is true
-pub record Directed (P : Sheet) (s : DirectionSet) : Type 0 where
+-- and the set has the vectors of its directions
+pub record Directed (P : Sheet) (set : List Bool) : Type 0 where
   pub admitted-is : admitted (nestOf P) ≡ accepted tt
-  pub directions : DirectionsAre P s
+  pub directions : DirectionsAre P set
 
-abbrev pub Knows : Sheet → Known → Type 0
-Knows P r = r .known ≡ true → Directed P (r .set)
+-- the answer promises something where it is true
+pub record Knows (P : Sheet) (r : Bool) (set : List Bool) : Type 0 where
+  pub room : length set ≡ 729
+  pub directed : r ≡ true → Directed P set

@@ -11,7 +11,6 @@ ghost use Rattle.squeeze.specs.Covered.{pairs, PairsIn, PairCovered, Cov
 ghost use Rattle.squeeze.specs.Squeezed.{Recounted, SheetCovered, CoverIn, CornerIn, SqueezeIn, Spacious, MarkIn, Marked, Knows};
 use admission::Counted;
 use corner::Part;
-use directions::DirectionSet;
 use extremes::Range;
 use reading::Status;
 use sheet::Outline;
@@ -182,7 +181,7 @@ fn mark_few(outline: Outline, limits: &[i16], words: &[i16], marks: &mut [bool])
         Status::Fine => {}
         Status::Refused(_) => return false,
     }
-    lines::mark_lines(outline, limits, words, &points, count, marks);
+    lines::mark_few(outline, limits, words, &points, count, marks);
     true
 }
 
@@ -281,34 +280,37 @@ pub fn mark_lines(outline: Outline, limits: &[i16], words: &[i16], marks: &mut [
 
 // ---- directions
 
-// Where `known`, the nest is admitted, and the set has the vectors of its directions.
-pub struct Known {
-    pub known: bool,
-    pub set: DirectionSet,
-}
-
-fn directions_by(outline: Outline, limits: &[i16], words: &[i16], marks: &mut [bool]) -> Known
-    requires { ⌜ MarkIn (sheetOf outline (now limits) (now words)) (now marks) ⌝ }
-    ensures { λ r. ⌜ Knows (sheetOf outline (now (limits .entry)) (now (words .entry))) r ⌝ }
+fn directions_by(
+    outline: Outline,
+    limits: &[i16],
+    words: &[i16],
+    marks: &mut [bool],
+    set: &mut [bool],
+) -> bool
+    requires { ⌜ MarkIn (sheetOf outline (now limits) (now words)) (now marks) × (length (now set) ≡ 729) ⌝ }
+    ensures { λ r. ⌜ Knows (sheetOf outline (now (limits .entry)) (now (words .entry))) r (now (set .exit)) ⌝ }
 {
-    let known = mark_lines(outline, limits, words, marks);
-    let set = lines::directions_of(marks, outline.statements, outline.depth);
-    Known { known, set }
+    if !mark_lines(outline, limits, words, marks) {
+        return false;
+    }
+    lines::directions_of(marks, outline.statements, outline.depth, set);
+    true
 }
 
-// The directions of a nest that passes refusals 7 and 8. Few statements have fewer marks to clear.
-pub fn directions(outline: Outline, limits: &[i16], words: &[i16]) -> Known
-    requires { ⌜ Spacious (sheetOf outline (now limits) (now words)) ⌝ }
-    ensures { λ r. ⌜ Knows (sheetOf outline (now (limits .entry)) (now (words .entry))) r ⌝ }
+// Makes the set of the directions of a nest that passes refusals 7 and 8, and says so: then refusal 9 is passed too. Or says nothing. Few statements have
+// fewer marks to clear.
+pub fn directions(outline: Outline, limits: &[i16], words: &[i16], set: &mut [bool]) -> bool
+    requires { ⌜ Spacious (sheetOf outline (now limits) (now words)) × (length (now set) ≡ 729) ⌝ }
+    ensures { λ r. ⌜ Knows (sheetOf outline (now (limits .entry)) (now (words .entry))) r (now (set .exit)) ⌝ }
 {
     if outline.statements <= 1 {
         let mut few = [false; 2187];
-        return directions_by(outline, limits, words, &mut few);
+        return directions_by(outline, limits, words, &mut few, set);
     }
     if outline.statements <= 2 {
         let mut more = [false; 8748];
-        return directions_by(outline, limits, words, &mut more);
+        return directions_by(outline, limits, words, &mut more, set);
     }
     let mut marks = [false; 34992];
-    directions_by(outline, limits, words, &mut marks)
+    directions_by(outline, limits, words, &mut marks, set)
 }

@@ -9,7 +9,7 @@ use lib.ListN.{length, replicate, take, drop, getD, length-take, length-drop}
 use lib.Seq.{drop-cons, drop-length}
 use Rattle.integers.specs.Sign.{equal, sign}
 use Rattle.model.specs.Directions.{signs}
-use Rattle.vectors.specs.Numbers.{digit, numberAfter, number}
+use Rattle.vectors.specs.Numbers.{digit, numberAfter, number, SignsIn, Left}
 use Rattle.vectors.specs.Candidates.{row, code, stride}
 use Rattle.vectors.proofs.NumberLaws.{after-ge, after-append, number-lt, number-splits, stride-half, signs-length, signs-short}
 
@@ -34,15 +34,15 @@ code-is s d x y {n} h e = let a : x * d + d - x * d ≡ d = omega arith in let b
     let f : n ≡ number (signs (take d (drop (x * d) s)) (take d (drop (y * d) s))) = rw (a, b) at e in
     let g = code-lt s d x y h in (f, omega arith)
 
--- ---- the loop that reads signs as digits: the number is what the signs that are left make of v
+-- ---- signs read as digits
 
-pub Left : List ℤ → List ℤ → ℕ → ℕ → Type 0
-Left p q k v = numberAfter v (signs (drop k p) (drop k q)) ≡ numberAfter 0 (signs p q)
+module _ (p q : List ℤ) (both : SignsIn p q) where
+  e : length p ≡ length q
+  e = both .both
 
-module _ (p q : List ℤ) (few : length p ≤ 6) (e : length p ≡ length q) where
   pub digits-small : numberAfter 0 (signs p q) < 729
   unfolding number
-  digits-small = let a = after-ge (numberAfter 0 (signs p q)) (replicate (6 - length (signs p q)) equal) in
+  digits-small = let few = both .few in let a = after-ge (numberAfter 0 (signs p q)) (replicate (6 - length (signs p q)) equal) in
       let b = after-append (signs p q) (replicate (6 - length (signs p q)) equal) 0 in
       let c = number-lt (signs p q) (let l = signs-length p q e in omega arith) in omega arith
 

@@ -1,9 +1,11 @@
 -- The number of a vector of at most six signs, and the place of a line's mark.
+use mathlib.Core.Path.{_≡_}
 use mathlib.Core.List.{List, [], _∷_, _++_}
-use Prim.Native.Nat.{ℕ, _+_, _*_, _-_}
-use lib.ListN.{length, replicate}
+use Prim.Native.Nat.{ℕ, _+_, _*_, _-_, _≤_}
+use lib.IntN.{ℤ}
+use lib.ListN.{length, replicate, drop}
 use Rattle.integers.specs.Sign.{Sign, less, equal, greater}
-use Rattle.model.specs.Directions.{Kind, flow, anti, output, Line}
+use Rattle.model.specs.Directions.{Kind, flow, anti, output, Line, signs}
 
 unfoldable pub digit : Sign → ℕ
 digit less = 0
@@ -30,3 +32,14 @@ placeOf n s t k v = ((s * n + t) * 3 + k) * 729 + v
 
 unfoldable pub place : ℕ → Line → ℕ
 place n l = placeOf n (l .source) (l .sink) (kindNumber (l .kind)) (number (l .vector))
+
+-- ---- signs read one after another
+
+-- two points of as many indices, at most six
+pub record SignsIn (p q : List ℤ) : Type 0 where
+  pub few : length p ≤ 6
+  pub both : length p ≡ length q
+
+-- what the signs that are left after k make of v is the number of all
+unfoldable pub Left : List ℤ → List ℤ → ℕ → ℕ → Type 0
+Left p q k v = numberAfter v (signs (drop k p) (drop k q)) ≡ numberAfter 0 (signs p q)

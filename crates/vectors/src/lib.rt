@@ -5,7 +5,7 @@ ghost use Prim.Native.Nat.{_+_, _*_, _-_, _≤_, _<_};
 ghost use lib.ListN.{length};
 ghost use Rattle.integers.specs.Sign.{sign as «sign-of»};
 ghost use Rattle.model.specs.Directions.{signs};
-ghost use Rattle.vectors.specs.Numbers.{digit, numberAfter, number};
+ghost use Rattle.vectors.specs.Numbers.{digit, numberAfter, number, SignsIn, Left};
 ghost use Rattle.vectors.specs.Candidates.{code};
 ghost use Rattle.vectors.specs.Candidates.{Candidate};
 ghost use Rattle.vectors.specs.Candidates.{stride as «stride-of»};
@@ -25,18 +25,69 @@ pub fn sign(a: i64, b: i64) -> usize
     1
 }
 
-// The signs of two points as base-three digits, the outermost most significant.
-fn digits(p: &[i64], q: &[i64]) -> usize
-    requires { ⌜ (length (now p) ≤ 6) × (length (now p) ≡ length (now q)) ⌝ }
-    ensures { λ r. ⌜ r ≡ numberAfter 0 (signs (now (p .entry)) (now (q .entry))) ⌝ }
+// The number that the first k signs of two points make, and one sign more.
+fn next(p: &[i64], q: &[i64], k: usize, v: usize) -> usize
+    requires { ⌜ SignsIn (now p) (now q) × (k < length (now p)) × Left (now p) (now q) k v ⌝ }
+    ensures { λ r. ⌜ Left (now (p .entry)) (now (q .entry)) (k + 1) r ⌝ }
+{
+    v * 3 + sign(p[k], q[k])
+}
+
+// The first sign; below it the first two, three and four, then all.
+fn one(p: &[i64], q: &[i64]) -> usize
+    requires { ⌜ SignsIn (now p) (now q) × (1 ≤ length (now p)) ⌝ }
+    ensures { λ r. ⌜ Left (now (p .entry)) (now (q .entry)) 1 r ⌝ }
+{
+    next(p, q, 0, 0)
+}
+
+fn two(p: &[i64], q: &[i64]) -> usize
+    requires { ⌜ SignsIn (now p) (now q) × (2 ≤ length (now p)) ⌝ }
+    ensures { λ r. ⌜ Left (now (p .entry)) (now (q .entry)) 2 r ⌝ }
+{
+    next(p, q, 1, one(p, q))
+}
+
+fn three(p: &[i64], q: &[i64]) -> usize
+    requires { ⌜ SignsIn (now p) (now q) × (3 ≤ length (now p)) ⌝ }
+    ensures { λ r. ⌜ Left (now (p .entry)) (now (q .entry)) 3 r ⌝ }
+{
+    next(p, q, 2, two(p, q))
+}
+
+fn four(p: &[i64], q: &[i64]) -> usize
+    requires { ⌜ SignsIn (now p) (now q) × (4 ≤ length (now p)) ⌝ }
+    ensures { λ r. ⌜ Left (now (p .entry)) (now (q .entry)) 4 r ⌝ }
+{
+    next(p, q, 3, three(p, q))
+}
+
+fn all(p: &[i64], q: &[i64]) -> usize
+    requires { ⌜ SignsIn (now p) (now q) ⌝ }
+    ensures { λ r. ⌜ Left (now (p .entry)) (now (q .entry)) (length (now (p .entry))) r ⌝ }
 {
     let mut v = 0;
     let mut k = 0;
     while k < p.len() {
-        v = v * 3 + sign(p[k], q[k]);
+        v = next(p, q, k, v);
         k += 1;
     }
     v
+}
+
+// The signs of two points as base-three digits, the outermost most significant. Up to four are read with no loop, so that the compiler can lift
+// the choice out of a walk over points.
+fn digits(p: &[i64], q: &[i64]) -> usize
+    requires { ⌜ SignsIn (now p) (now q) ⌝ }
+    ensures { λ r. ⌜ r ≡ numberAfter 0 (signs (now (p .entry)) (now (q .entry))) ⌝ }
+{
+    match p.len() {
+        1 => one(p, q),
+        2 => two(p, q),
+        3 => three(p, q),
+        4 => four(p, q),
+        _ => all(p, q),
+    }
 }
 
 // How far the numbers of vectors of so many loops are from one another: 3 for each missing loop.
@@ -57,7 +108,7 @@ pub fn stride(depth: usize) -> usize
 
 // The number of the vector of two points of at most six indices: missing loops are =. `step` is the stride of their depth.
 pub fn vector(p: &[i64], q: &[i64], step: usize) -> usize
-    requires { ⌜ (length (now p) ≤ 6) × (length (now p) ≡ length (now q)) × (step ≡ «stride-of» (6 - length (now p))) ⌝ }
+    requires { ⌜ SignsIn (now p) (now q) × (step ≡ «stride-of» (6 - length (now p))) ⌝ }
     ensures { λ r. ⌜ r ≡ number (signs (now (p .entry)) (now (q .entry))) ⌝ }
 {
     digits(p, q) * step + (step - 1) / 2

@@ -1,5 +1,6 @@
 -- From bytes to a verdict: the model's `judged`.
 use mathlib.Core.Path.{_≡_}
+use mathlib.Core.Bool.{Bool}
 use mathlib.Core.List.{List}
 use Prim.Native.Nat.{ℕ}
 use lib.IntN.{ℤ}
@@ -8,10 +9,12 @@ use Rattle.model.specs.Answer.{accepted}
 use Rattle.model.specs.Ticket as Model
 use Rattle.model.specs.Points.{iterations}
 use Rattle.model.specs.Bounds.{admitted}
-use Rattle.model.specs.Judge.{judged}
-use Rattle.reading.specs.declared.Status.the-variants.{Fine}
+use Rattle.model.specs.Judge.{admit, judged}
+use Rattle.reading.specs.declared.Refusal.{Refusal}
+use Rattle.reading.specs.declared.Status.{Status}
+use Rattle.reading.specs.declared.Status.the-variants.{Fine, Refused}
+use Rattle.reading.specs.Refusals.{refusal}
 use Rattle.sheet.specs.Sheets.{sheetOf, nestOf}
-use Rattle.directions.specs.declared.DirectionSet.{DirectionSet}
 use Rattle.lines.specs.Lines.{DirectionsAre}
 use Rattle.intake.specs.declared.Intake.{Intake}
 use Rattle.intake.specs.Intake.{Receives}
@@ -19,11 +22,17 @@ use Rattle.judgement.specs.Judgement.{judgedAs, New}
 use Rattle.verdict.specs.declared.Decided.{Decided}
 
 -- a ticket that was received of the bytes b and is admitted, and the directions of its nest
-pub record Judgeable (b : List ℕ) (q : Intake) (l w : List ℤ) (s : DirectionSet) : Type 0 where
+pub record Judgeable (b : List ℕ) (q : Intake) (l w : List ℤ) (set : List Bool) : Type 0 where
   pub receives : Receives b q l w
   pub fine : q .status ≡ Fine
   pub admitted-is : admitted (nestOf (sheetOf (q .outline) l w)) ≡ accepted tt
-  pub directions : DirectionsAre (sheetOf (q .outline) l w) s
+  pub directions : DirectionsAre (sheetOf (q .outline) l w) set
+
+-- what was received of the bytes b has refusal 9, or is admitted, and the set has the directions of its nest
+pub record Finds (b : List ℕ) (q : Intake) (l w : List ℤ) (s : Status) (set : List Bool) : Type 0 where
+  pub room : length set ≡ 729
+  pub turned-away : (r : Refusal) → s ≡ Refused r → admit b ≡ refusal r
+  pub found : s ≡ Fine → Judgeable b q l w set
 
 -- 1 to 13 of the ticket T that the bytes are, if they are one; then the count of its iterations and its new nest, whose limits and words are l and w
 pub record Decides (b : List ℕ) (r : Decided) (l w : List ℤ) : Type 0 where

@@ -4,7 +4,7 @@ ghost use lib.ListN.{length};
 ghost use Rattle.reading.specs.declared.Status.the-variants.{Refused};
 ghost use Rattle.ticket.specs.Ticket.{Lent};
 ghost use Rattle.intake.specs.Intake.{Waits};
-ghost use Rattle.verdict.specs.Verdicts.{Judgeable, Decides};
+ghost use Rattle.verdict.specs.Verdicts.{Judgeable, Finds, Decides};
 use directions::DirectionSet;
 use intake::Intake;
 use reading::Refusal;
@@ -35,13 +35,17 @@ fn decide_with(
     all: Intake,
     limits: &mut [i16],
     words: &mut [i16],
-    set: DirectionSet,
+    marks: [bool; 729],
 ) -> Decided
-    requires { ⌜ Judgeable (now bytes) all (now limits) (now words) set ⌝ }
+    requires { ⌜ Judgeable (now bytes) all (now limits) (now words) marks ⌝ }
     ensures { λ r. ⌜ Decides (now (bytes .entry)) r (now (limits .exit)) (now (words .exit)) ⌝ }
 {
     let outline = all.outline;
     let steps = all.steps;
+    let set = DirectionSet {
+        marks: marks,
+        depth: outline.depth,
+    };
     let judged = judgement::judge_ticket(outline, limits, words, steps, set);
     let verdict = judged.status;
     let new = judged.outline;
@@ -52,43 +56,89 @@ fn decide_with(
     }
 }
 
-// Refusals 9 to 13 of what was received of the bytes, by its points.
-fn decide_by(
+// ---- refusal 9 of what was received of the bytes, or the directions of its nest
+
+fn find_by(
     bytes: &[u8],
     all: Intake,
-    limits: &mut [i16],
-    words: &mut [i16],
+    limits: &[i16],
+    words: &[i16],
     points: &mut [i64],
-) -> Decided
-    requires { ⌜ Waits (now bytes) all (now limits) (now words) (length (now points)) ⌝ }
-    ensures { λ r. ⌜ Decides (now (bytes .entry)) r (now (limits .exit)) (now (words .exit)) ⌝ }
+    marks: &mut [bool],
+) -> Status
+    requires { ⌜ Waits (now bytes) all (now limits) (now words) (length (now points)) × (length (now marks) ≡ 729) ⌝ }
+    ensures { λ r. ⌜ Finds (now (bytes .entry)) all (now (limits .entry)) (now (words .entry)) r (now (marks .exit)) ⌝ }
 {
     let outline = all.outline;
     let status = intake::admit(bytes, all, limits, words, points);
     match status {
         Status::Fine => {}
-        Status::Refused(r) => return refused(r, outline),
+        Status::Refused(r) => return Status::Refused(r),
     }
-    let set = lines::directions_in(outline, limits, words, points, all.count);
-    decide_with(bytes, all, limits, words, set)
+    lines::directions_in(outline, limits, words, points, all.count, marks);
+    Status::Fine
 }
 
-// The same of many points: without them, where the directions are known so.
-fn decide_many(bytes: &[u8], all: Intake, limits: &mut [i16], words: &mut [i16]) -> Decided
-    requires { ⌜ Waits (now bytes) all (now limits) (now words) 16384 ⌝ }
+// Of few points; fewer have fewer indices to clear. Apart from `find_many`, as `mark_few` is in `lines`.
+pub fn find_few(
+    bytes: &[u8],
+    all: Intake,
+    limits: &[i16],
+    words: &[i16],
+    marks: &mut [bool],
+) -> Status
+    requires { ⌜ Waits (now bytes) all (now limits) (now words) 1024 × (length (now marks) ≡ 729) ⌝ }
+    ensures { λ r. ⌜ Finds (now (bytes .entry)) all (now (limits .entry)) (now (words .entry)) r (now (marks .exit)) ⌝ }
+{
+    if all.count <= 32 {
+        let mut few = [0i64; 128];
+        return find_by(bytes, all, limits, words, &mut few, marks);
+    }
+    let mut points = [0i64; 1024];
+    find_by(bytes, all, limits, words, &mut points, marks)
+}
+
+// Of many points: without them, where the directions are known so.
+pub fn find_many(
+    bytes: &[u8],
+    all: Intake,
+    limits: &[i16],
+    words: &[i16],
+    marks: &mut [bool],
+) -> Status
+    requires { ⌜ Waits (now bytes) all (now limits) (now words) 16384 × (length (now marks) ≡ 729) ⌝ }
+    ensures { λ r. ⌜ Finds (now (bytes .entry)) all (now (limits .entry)) (now (words .entry)) r (now (marks .exit)) ⌝ }
+{
+    let outline = all.outline;
+    if squeeze::directions(outline, limits, words, marks) {
+        return Status::Fine;
+    }
+    let mut points = [0i64; 16384];
+    find_by(bytes, all, limits, words, &mut points, marks)
+}
+
+// ---- all refusals
+
+// What was found decides, where it is no refusal.
+fn decide_found(
+    bytes: &[u8],
+    all: Intake,
+    limits: &mut [i16],
+    words: &mut [i16],
+    found: Status,
+    marks: [bool; 729],
+) -> Decided
+    requires { ⌜ Finds (now bytes) all (now limits) (now words) found marks ⌝ }
     ensures { λ r. ⌜ Decides (now (bytes .entry)) r (now (limits .exit)) (now (words .exit)) ⌝ }
 {
     let outline = all.outline;
-    let found = squeeze::directions(outline, limits, words);
-    let set = found.set;
-    if found.known {
-        return decide_with(bytes, all, limits, words, set);
+    match found {
+        Status::Fine => {}
+        Status::Refused(r) => return refused(r, outline),
     }
-    let mut points = [0i64; 16384];
-    decide_by(bytes, all, limits, words, &mut points)
+    decide_with(bytes, all, limits, words, marks)
 }
 
-// Few points have fewer indices to clear.
 pub fn decide(bytes: &[u8], limits: &mut [i16], words: &mut [i16]) -> Decided
     requires { ⌜ Lent (now limits) (now words) ⌝ }
     ensures { λ r. ⌜ Decides (now (bytes .entry)) r (now (limits .exit)) (now (words .exit)) ⌝ }
@@ -100,13 +150,11 @@ pub fn decide(bytes: &[u8], limits: &mut [i16], words: &mut [i16]) -> Decided
         Status::Fine => {}
         Status::Refused(r) => return refused(r, outline),
     }
-    if all.count <= 32 {
-        let mut few = [0i64; 128];
-        return decide_by(bytes, all, limits, words, &mut few);
-    }
+    let mut marks = [false; 729];
     if all.count <= 256 {
-        let mut more = [0i64; 1024];
-        return decide_by(bytes, all, limits, words, &mut more);
+        let found = find_few(bytes, all, limits, words, &mut marks);
+        return decide_found(bytes, all, limits, words, found, marks);
     }
-    decide_many(bytes, all, limits, words)
+    let found = find_many(bytes, all, limits, words, &mut marks);
+    decide_found(bytes, all, limits, words, found, marks)
 }

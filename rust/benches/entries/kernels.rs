@@ -49,6 +49,10 @@ pub const KERNELS: [Kernel; 10] = [
         name: "mirrored access",
         sizes: || [6, 100, 1000, 4096].map(mirrored).into(),
     },
+    Kernel {
+        name: "even and odd",
+        sizes: || PLANES.map(even_and_odd).into(),
+    },
 ];
 
 const PLANES: [(u32, u32); 4] = [(2, 3), (10, 10), (25, 40), (64, 64)];
@@ -167,7 +171,7 @@ fn eight_steps((rows, columns): (u32, u32)) -> String {
     )
 }
 
-/// Conflicts lie far apart, so that all points have to be searched however many there are.
+/// Conflicts lie round the middle of the range.
 fn mirrored(count: u32) -> String {
     format!(
         "array A({count})
@@ -175,6 +179,19 @@ fn mirrored(count: u32) -> String {
            A(i) = A({}-i) + 1
          section 1 by 8",
         count - 1
+    )
+}
+
+/// Rows that are written and rows that are read differ by the greatest common divisor alone, so that all points have to be searched however many
+/// there are.
+fn even_and_odd((rows, width): (u32, u32)) -> String {
+    format!(
+        "array A({},{width})
+         for i = 0 to {rows}-1
+           for j = 0 to {width}-1
+             A(2*i,j) = A(2*i+1,j) + 1
+         exchange 1 2",
+        2 * rows
     )
 }
 

@@ -2,8 +2,8 @@
 //!
 //! Stage by stage what the proved entries do: words into a ticket, points counted depth by depth, subscripts within their extents, the
 //! element of every access at every point, chains of points by element, marks of vectors, steps, the size of the new nest. More than 256
-//! points are not listed where the ranges of the loops enclose every subscript and the lines are squeezed: between those of a corner of the
-//! nest and those that Banerjee's inequalities allow. Where a Rust programmer would not copy, clear or compute something again, this does
+//! points are not listed where the ranges of the loops enclose every subscript and the lines are squeezed: between those of the corner of the
+//! nest, or of its centre, and those that Banerjee's inequalities allow. Where a Rust programmer would not copy, clear or compute something again, this does
 //! not either.
 //!
 //! Nothing rests on these answers: they are compared with the proved entries, and timed beside them.

@@ -126,10 +126,10 @@ pub fn survey(loops: &[Loop], bounds: &Bounds) -> Result<Space, Trouble> {
     Ok(space)
 }
 
-/// The points of a nest within bounds whose indices are at most the ceilings.
-pub fn points_below(loops: &[Loop], ceilings: &[i64]) -> Points {
-    loops.iter().zip(ceilings).fold(Points::root(), |outside, (one, ceiling)| {
-        let ends: Vec<_> = outside.ends(one).map(|(low, high)| (low, high.min(*ceiling))).collect();
+/// The points of a nest within bounds whose indices are within these ends.
+pub fn points_within(loops: &[Loop], part: &[(i64, i64)]) -> Points {
+    loops.iter().zip(part).fold(Points::root(), |outside, (one, (first, last))| {
+        let ends: Vec<_> = outside.ends(one).map(|(low, high)| (low.max(*first), high.min(*last))).collect();
         let count = ends.iter().map(|(low, high)| (high - low + 1).max(0) as usize).sum();
         Space { outside, ends, count }.points()
     })

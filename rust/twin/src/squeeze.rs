@@ -1,14 +1,15 @@
-//! The lines of a nest without its points. Those of its corner are among them; where Banerjee's inequalities allow no others, they are all.
+//! The lines of a nest without its points. Those of its corner, or of its centre, are among them; where Banerjee's inequalities allow no others,
+//! they are all.
 
 use std::array::from_fn;
 
 use crate::dependence::{Lines, lines_at, pairs, uses};
 use crate::directions::{power, sign_at};
-use crate::points::points_below;
+use crate::points::points_within;
 use crate::ranges::{Range, Ranges};
 use crate::ticket::{Nest, Subscript};
 
-/// How many values a loop of the corner has after its least: at most 81 points are left.
+/// How many values a loop of a part has after the first: at most 81 points are left.
 fn places(depth: usize) -> i64 {
     match depth {
         1 => 63,
@@ -100,10 +101,18 @@ fn cover<const D: usize>(lines: &Lines, nest: &Nest, ranges: &Ranges) -> bool {
     })
 }
 
-/// Every line of a nest whose subscripts the ranges enclose, if the squeeze is tight.
+/// Every line of a nest whose subscripts the ranges enclose, if the squeeze is tight for its corner or its centre.
 pub fn lines(nest: &Nest, ranges: &Ranges) -> Option<Lines> {
     let depth = nest.loops.len();
-    let corner = points_below(&nest.loops, &ranges.map(|range| range.least + places(depth)));
-    let lines = lines_at(nest, &corner);
-    at_depth!(depth, cover(&lines, nest, ranges)).then_some(lines)
+    let squeezed = |first: fn(&Range, i64) -> i64| {
+        let part = ranges.each_ref().map(|range| {
+            let first = first(range, places(depth));
+            (first, first + places(depth))
+        });
+        let lines = lines_at(nest, &points_within(&nest.loops, &part));
+        at_depth!(depth, cover(&lines, nest, ranges)).then_some(lines)
+    };
+    let corner = |range: &Range, _: i64| range.least;
+    let centre = |range: &Range, places: i64| (range.least + range.greatest - places).div_euclid(2);
+    squeezed(corner).or_else(|| squeezed(centre))
 }

@@ -1,21 +1,20 @@
 -- `pulled`: filled from where each vector comes from, at one number of the depth after another.
-use mathlib.Core.Path.{refl}
-use mathlib.Core.Bool.{Bool}
+use mathlib.Core.Path.{refl, sym, subst}
+use mathlib.Core.Bool.{Bool, false}
 use mathlib.Core.List.{List}
-use Prim.Native.Nat.{_+_, _-_, _/_, _<_}
+use Prim.Native.Nat.{_-_, _/_, _<_}
 use native.Mathlib.Omega.{arith}
+use lib.ListN.{replicate, length-replicate}
 use borrow.Author.Needs.{needs}
 use Rattle.integers.specs.Sign.{Sign}
-use Rattle.preimages.specs.Numbers.{number}
-use Rattle.vectors.proofs.DepthLaws.{OfDepth, depth-positive, depth-first, depth-least, depth-next, depth-apart}
+use Rattle.vectors.proofs.DepthLaws.{depth-positive}
 use Rattle.directions.specs.Changes.{came}
-use Rattle.directions.proofs.HornerLaws.{of-depth}
 use Rattle.directions.proofs.SetLaws.{Filling, fill-first, fill-next, fill-all}
 use Rattle.directions.proofs.pulled.Statement.{statement}
 use Rattle.directions.proofs.pulled.Tie as tie
 
 abbrev Inv-loop : tie.InvT-loop
-Inv-loop change depth old marks₀ step n₀ marks n = OfDepth depth n × Filling (came old change) depth marks n
+Inv-loop change depth old marks₀ step n₀ marks n = Filling (came old change) depth (replicate 729 false) marks n
 
 abbrev μ-loop : tie.MeasureT-loop
 μ-loop change depth old marks₀ step n₀ marks n = 729 - n
@@ -41,12 +40,8 @@ sub-n c = positive c
 loop-holds : tie.Need-loop-holds Inv-loop μ-loop
 loop-holds c =
     let s = start c in
-    let d = s .args .depth in
-    let w = c .stride .result in
-    let e = c .stride .ensures .0 in (
-      depth-first d w e,
-      fill-first (wanted s) d (c .before .no-marks .result) ((w - 1) / 2) (c .before .no-marks .ensures) (λ v l. depth-least d w e (number v) (of-depth v d l (s .pre .few))),
-    )
+    subst (λ m. Filling (wanted s) (s .args .depth) (replicate 729 false) m ((c .stride .result - 1) / 2)) (sym (c .before .no-marks .ensures))
+    (fill-first (wanted s) (s .args .depth) (replicate 729 false) (s .pre .few) (c .stride .result) (c .stride .ensures .0) (length-replicate 729 false))
 
 comes-requires : tie.Need-comes-requires Inv-loop μ-loop
 comes-requires c κs =
@@ -69,22 +64,20 @@ loop-again c =
     let a = c .before .before .before .before in
     let s = start a in
     let l = c .before .before .before .loop in
-    let d = s .args .depth in
-    let w = a .stride .result in
-    let e = a .stride .ensures .0 in
     let few = s .pre .few in
-    let inside = s .pre .inside in (
-      depth-next d w e (l .n) (l .inv .0),
-      fill-next (wanted s) d (l .marks) (l .n) (l .n + w) (c .comes .result) (c .before .before .loop-test .taken)
-          (λ v k. depth-apart d w e (l .n) (number v) (l .inv .0) (of-depth v d k few))
-          (λ v k. c .comes .ensures v (omega arith) (omega arith)) (l .inv .1),
-    )
+    let inside = s .pre .inside in
+    fill-next (wanted s) (s .args .depth) (replicate 729 false) few (a .stride .result) (a .stride .ensures .0) (l .marks) (l .n) (l .inv) (c .comes .result)
+    (c .before .before .loop-test .taken) (λ v k. c .comes .ensures v (omega arith) (omega arith))
 
 returns : tie.Need-returns Inv-loop μ-loop
 returns c =
-    let s = start (c .before .before) in
+    let a = c .before .before in
+    let s = start a in
     let l = c .before .loop in
-    record { depth = refl; marks = fill-all (wanted s) (s .args .depth) (l .marks) (l .n) (c .loop-test .left) (l .inv .1) }
+    record {
+      depth = refl;
+      marks = fill-all (wanted s) (s .args .depth) (replicate 729 false) (s .pre .few) (a .stride .result) (a .stride .ensures .0) (l .marks) (l .n) (l .inv) (c .loop-test .left);
+    }
 
 pub pulled-spec : {M : Type 1} → statement M
 pulled-spec =

@@ -1,6 +1,7 @@
 -- `run`: 1 to 8, then few points or many.
+use mathlib.Core.Path.{refl}
 use Rattle.ticket.proofs.DecodeLaws.{zeros-lent}
-use Rattle.intake.proofs.AdmitLaws.{not-received, waits-fewest, waits-few, waits}
+use Rattle.intake.proofs.AdmitLaws.{not-received, waits-few, waits}
 use Rattle.run_entry.proofs.EntryLaws.{not-admitted}
 use borrow.Author.Needs.{needs}
 use Rattle.run_entry.proofs.run.Statement.{statement}
@@ -24,17 +25,26 @@ enum-known-status c = search needs
 returns : tie.Need-returns
 returns c = let s = c .before .before .before .before .before .before .before .before .before .before in let r = c .before .before .before .before .before .receive in let q = c .before .status .given .1 in not-admitted _ (s .args .store .now) _ _ (r .result) _ _ (not-received _ (r .result) _ _ (r .ensures) _ q) _ q
 
-slice-aggregate-run-by : tie.Need-slice-aggregate-run-by
-slice-aggregate-run-by c = search needs
+slice-aggregate-find-few : tie.Need-slice-aggregate-find-few
+slice-aggregate-find-few c = search needs
 
-slice-aggregate-run-by-2 : tie.Need-slice-aggregate-run-by-2
-slice-aggregate-run-by-2 c = search needs
+slice-aggregate-find-few-2 : tie.Need-slice-aggregate-find-few-2
+slice-aggregate-find-few-2 c = search needs
 
-slice-aggregate-run-by-3 : tie.Need-slice-aggregate-run-by-3
-slice-aggregate-run-by-3 c = search needs
+slice-aggregate-find-few-3 : tie.Need-slice-aggregate-find-few-3
+slice-aggregate-find-few-3 c = search needs
 
-run-by-requires : tie.Need-run-by-requires
-run-by-requires c κs = let r = c .before .before .before .before .before .before .before .before .before .before .receive in waits-fewest _ (r .result) _ _ (r .ensures) (c .before .before .before .before .before .before .enum-told .given .1) (c .before .before .before .before .if1 .taken)
+find-few-requires : tie.Need-find-few-requires
+find-few-requires c κs = let r = c .before .before .before .before .before .before .before .before .before .receive in (waits-few _ (r .result) _ _ (r .ensures) (c .before .before .before .before .before .enum-told .given .1) (c .before .before .before .if1 .taken), refl)
+
+slice-aggregate-run-found : tie.Need-slice-aggregate-run-found
+slice-aggregate-run-found c = search needs
+
+slice-aggregate-run-found-2 : tie.Need-slice-aggregate-run-found-2
+slice-aggregate-run-found-2 c = search needs
+
+run-found-requires : tie.Need-run-found-requires
+run-found-requires c κs = search needs
 
 same-length : tie.Need-same-length
 same-length c = search needs
@@ -42,38 +52,32 @@ same-length c = search needs
 returns-2 : tie.Need-returns-2
 returns-2 c = search needs
 
-slice-aggregate-run-by-4 : tie.Need-slice-aggregate-run-by-4
-slice-aggregate-run-by-4 c = search needs
+slice-aggregate-find-many : tie.Need-slice-aggregate-find-many
+slice-aggregate-find-many c = search needs
 
-slice-aggregate-run-by-5 : tie.Need-slice-aggregate-run-by-5
-slice-aggregate-run-by-5 c = search needs
+slice-aggregate-find-many-2 : tie.Need-slice-aggregate-find-many-2
+slice-aggregate-find-many-2 c = search needs
 
-slice-aggregate-run-by-6 : tie.Need-slice-aggregate-run-by-6
-slice-aggregate-run-by-6 c = search needs
+slice-aggregate-find-many-3 : tie.Need-slice-aggregate-find-many-3
+slice-aggregate-find-many-3 c = search needs
 
-run-by-requires-2 : tie.Need-run-by-requires-2
-run-by-requires-2 c κs = let r = c .before .before .before .before .before .before .before .before .before .before .before .before .receive in waits-few _ (r .result) _ _ (r .ensures) (c .before .before .before .before .before .before .before .before .enum-told .given .1) (c .before .before .before .before .if2 .taken)
+find-many-requires : tie.Need-find-many-requires
+find-many-requires c κs = let r = c .before .before .before .before .before .before .before .before .before .receive in (waits _ (r .result) _ _ (r .ensures) (c .before .before .before .before .before .enum-told .given .1), refl)
+
+slice-aggregate-run-found-3 : tie.Need-slice-aggregate-run-found-3
+slice-aggregate-run-found-3 c = search needs
+
+slice-aggregate-run-found-4 : tie.Need-slice-aggregate-run-found-4
+slice-aggregate-run-found-4 c = search needs
+
+run-found-requires-2 : tie.Need-run-found-requires-2
+run-found-requires-2 c κs = search needs
 
 same-length-2 : tie.Need-same-length-2
 same-length-2 c = search needs
 
 returns-3 : tie.Need-returns-3
 returns-3 c = search needs
-
-slice-aggregate-run-many : tie.Need-slice-aggregate-run-many
-slice-aggregate-run-many c = search needs
-
-slice-aggregate-run-many-2 : tie.Need-slice-aggregate-run-many-2
-slice-aggregate-run-many-2 c = search needs
-
-run-many-requires : tie.Need-run-many-requires
-run-many-requires c κs = let r = c .before .before .before .before .before .before .before .before .before .before .before .receive in waits _ (r .result) _ _ (r .ensures) (c .before .before .before .before .before .before .before .enum-told .given .1)
-
-same-length-3 : tie.Need-same-length-3
-same-length-3 c = search needs
-
-returns-4 : tie.Need-returns-4
-returns-4 c = search needs
 
 pub run-spec : {M : Type 1} → statement M
 run-spec =
@@ -85,20 +89,21 @@ run-spec =
     enum-told
     enum-known-status
     returns
-    slice-aggregate-run-by
-    slice-aggregate-run-by-2
-    slice-aggregate-run-by-3
-    run-by-requires
+    slice-aggregate-find-few
+    slice-aggregate-find-few-2
+    slice-aggregate-find-few-3
+    find-few-requires
+    slice-aggregate-run-found
+    slice-aggregate-run-found-2
+    run-found-requires
     same-length
     returns-2
-    slice-aggregate-run-by-4
-    slice-aggregate-run-by-5
-    slice-aggregate-run-by-6
-    run-by-requires-2
+    slice-aggregate-find-many
+    slice-aggregate-find-many-2
+    slice-aggregate-find-many-3
+    find-many-requires
+    slice-aggregate-run-found-3
+    slice-aggregate-run-found-4
+    run-found-requires-2
     same-length-2
-    returns-3
-    slice-aggregate-run-many
-    slice-aggregate-run-many-2
-    run-many-requires
-    same-length-3
-    returns-4)
+    returns-3)

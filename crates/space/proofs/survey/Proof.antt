@@ -1,5 +1,5 @@
 -- `survey`: every depth before `level` keeps its bounds.
-use mathlib.Core.Path.{_≡_}
+use mathlib.Core.Path.{_≡_, refl}
 use Prim.Native.Nat.{_+_, _-_, _≤_, _<_}
 use native.Mathlib.Omega.{arith}
 use borrow.Author.Tests.{ltb-true, ltb-false}
@@ -20,30 +20,33 @@ abbrev μ-loop : tie.MeasureT-loop
 loop-holds : tie.Need-loop-holds Inv-loop μ-loop
 loop-holds c = (omega arith, λ j a b. absurd (omega arith), omega arith, λ h. absurd (omega arith))
 
+slice-aggregate-tally-points : tie.Need-slice-aggregate-tally-points Inv-loop μ-loop
+slice-aggregate-tally-points c = refl
+
 tally-points-requires : tie.Need-tally-points-requires Inv-loop μ-loop
-tally-points-requires c κs = let s = c .before .before .before in let l = c .before .loop in tally-in (s .pre) (l .inv .1) (l .inv .0) (c .loop-test .taken) _
+tally-points-requires c κs = let s = c .before .before .before .before in let l = c .before .before .loop in let d = s .pre .nest .shallow in let h = c .before .loop-test .taken in (tally-in (s .pre) (l .inv .1) (l .inv .0) h _, omega arith)
 
 returns : tie.Need-returns Inv-loop μ-loop
-returns c = let s = c .before .before .before .before .before in let l = c .before .before .before .loop in let t = c .before .tally-points in
-    far-out (s .pre) (l .inv .1) (l .inv .0) (c .before .before .loop-test .taken) _ (t .ensures) (c .if1 .taken)
+returns c = let s = c .before .before .before .before .before .before .before in let l = c .before .before .before .before .before .loop in let t = c .before .before .tally-points in
+    far-out (s .pre) (l .inv .1) (l .inv .0) (c .before .before .before .before .loop-test .taken) _ (t .ensures .0) (c .if1 .taken)
 
 returns-2 : tie.Need-returns-2 Inv-loop μ-loop
-returns-2 c = let s = c .before .before .before .before .before .before in let l = c .before .before .before .before .loop in let t = c .before .before .tally-points in
-    crowded-out (s .pre) (l .inv .1) (l .inv .0) (c .before .before .before .loop-test .taken) _ (t .ensures) (c .before .if1 .left) (ltb-true (s .args .most) (t .result .count) (c .if2 .taken))
+returns-2 c = let s = c .before .before .before .before .before .before .before .before in let l = c .before .before .before .before .before .before .loop in let t = c .before .before .before .tally-points in
+    crowded-out (s .pre) (l .inv .1) (l .inv .0) (c .before .before .before .before .before .loop-test .taken) _ (t .ensures .0) (c .before .if1 .left) (ltb-true (s .args .most) (t .result .count) (c .if2 .taken))
 
 add-level : tie.Need-add-level Inv-loop μ-loop
-add-level c = let d = c .before .before .before .before .before .before .pre .nest .shallow in let h = c .before .before .before .loop-test .taken in omega arith
+add-level c = let d = c .before .before .before .before .before .before .before .before .pre .nest .shallow in let h = c .before .before .before .before .before .loop-test .taken in omega arith
 
 loop-less : tie.Need-loop-less Inv-loop μ-loop
-loop-less c = let h = c .before .before .before .loop-test .taken in omega arith
+loop-less c = let h = c .before .before .before .before .before .loop-test .taken in omega arith
 
 loop-again : tie.Need-loop-again Inv-loop μ-loop
-loop-again c = let s = c .before .before .before .before .before .before in let l = c .before .before .before .before .loop in let t = c .before .before .tally-points in let h = c .before .before .before .loop-test .taken in
+loop-again c = let s = c .before .before .before .before .before .before .before .before in let l = c .before .before .before .before .before .before .loop in let t = c .before .before .before .tally-points in let h = c .before .before .before .before .before .loop-test .taken in
     let f = ltb-false (s .args .most) (t .result .count) (c .if2 .left) in (
       omega arith,
-      passes (s .pre) (l .inv .1) (l .inv .0) h _ (t .ensures) (c .before .if1 .left) f,
+      passes (s .pre) (l .inv .1) (l .inv .0) h _ (t .ensures .0) (c .before .if1 .left) f,
       omega arith,
-      λ q. counts (s .pre) (l .inv .1) (l .inv .0) h _ (t .ensures) f,
+      λ q. counts (s .pre) (l .inv .1) (l .inv .0) h _ (t .ensures .0) f,
     )
 
 returns-3 : tie.Need-returns-3 Inv-loop μ-loop
@@ -56,6 +59,7 @@ survey-spec =
     Inv-loop
     μ-loop
     loop-holds
+    slice-aggregate-tally-points
     tally-points-requires
     returns
     returns-2

@@ -40,11 +40,11 @@ enum-told-3 c = search needs
 returns-3 : tie.Need-returns-3
 returns-3 c = (unsaid, refl)
 
-slice-aggregate-mark-lines : tie.Need-slice-aggregate-mark-lines
-slice-aggregate-mark-lines c = search needs
+slice-aggregate-mark-few : tie.Need-slice-aggregate-mark-few
+slice-aggregate-mark-few c = search needs
 
-mark-lines-requires : tie.Need-mark-lines-requires
-mark-lines-requires c κs = let s = c .before .before .before .before .before .before .before .before .before .before .before .before .before in let n = c .before .before .before .before .before .before .before .before .before .before .before .count-points in let e = c .before .before .before .before .before .enumerate in few-lines (sheet s) (s .args .marks .now) (s .pre) (n .result) (n .ensures) _ (c .before .before .before .before .before .before .before .before .before .n .given .1) (omega (arith, c .before .before .before .before .before .before .before .if1 .left)) _ _ (e .result) (e .ensures) (c .before .before .enum-told2 .given .1)
+mark-few-requires : tie.Need-mark-few-requires
+mark-few-requires c κs = (let s = c .before .before .before .before .before .before .before .before .before .before .before .before .before in let n = c .before .before .before .before .before .before .before .before .before .before .before .count-points in let e = c .before .before .before .before .before .enumerate in few-lines (sheet s) (s .args .marks .now) (s .pre) (n .result) (n .ensures) _ (c .before .before .before .before .before .before .before .before .before .n .given .1) (omega (arith, c .before .before .before .before .before .before .before .if1 .left)) _ _ (e .result) (e .ensures) (c .before .before .enum-told2 .given .1), omega (arith, c .before .before .before .before .before .before .before .if1 .left))
 
 same-length : tie.Need-same-length
 same-length c = search needs
@@ -66,7 +66,7 @@ mark-few-spec =
     enum-told-2
     enum-told-3
     returns-3
-    slice-aggregate-mark-lines
-    mark-lines-requires
+    slice-aggregate-mark-few
+    mark-few-requires
     same-length
     returns-4)

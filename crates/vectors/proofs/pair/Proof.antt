@@ -50,7 +50,7 @@ part-vector-end-2 : tie.Need-part-vector-end-2
 part-vector-end-2 c = search needs
 
 vector-requires : tie.Need-vector-requires
-vector-requires c κs = (search needs, search needs, c .before .before .pre .1 ∙ ap (λ k. stride (6 - k)) (search needs))
+vector-requires c κs = (record { few = search needs; both = search needs }, c .before .before .pre .1 ∙ ap (λ k. stride (6 - k)) (search needs))
 
 returns : tie.Need-returns
 returns c = let s = c .before .before .before in code-is (s .args .points .now) (s .args .depth) (s .args .x) (s .args .y) (s .pre .0) (c .vector .ensures)

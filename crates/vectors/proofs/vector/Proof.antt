@@ -13,7 +13,7 @@ use Rattle.vectors.proofs.vector.Tie as tie
 
 whole : (c : tie.After-digits) → (let s = c .before in let w = c .digits .result in let t = s .args .step in
     (w * t + (t - 1) / 2 ≡ number (signs (s .args .p .now) (s .args .q .now))) × (w * t + (t - 1) / 2 < 729))
-whole c = let s = c .before in number-padded (s .args .p .now) (s .args .q .now) (s .pre .0) (s .pre .1) (c .digits .result) (s .args .step) (c .digits .ensures) (s .pre .2)
+whole c = let s = c .before in number-padded (s .args .p .now) (s .args .q .now) (s .pre .0) (c .digits .result) (s .args .step) (c .digits .ensures) (s .pre .1)
 
 digits-requires : tie.Need-digits-requires
 digits-requires c κs = search needs
@@ -22,7 +22,7 @@ mul-result : tie.Need-mul-result
 mul-result c = let h = whole c .1 in omega arith
 
 sub-result : tie.Need-sub-result
-sub-result c = let s = c .before in let h = stride-positive (6 - length (s .args .p .now)) in let e = s .pre .2 in omega arith
+sub-result c = let s = c .before in let h = stride-positive (6 - length (s .args .p .now)) in let e = s .pre .1 in omega arith
 
 add-result : tie.Need-add-result
 add-result c = let h = whole c .1 in omega arith

@@ -1,5 +1,6 @@
 -- `decide`: 1 to 8, then few points or many.
-use Rattle.intake.proofs.AdmitLaws.{not-received, waits-fewest, waits-few, waits}
+use mathlib.Core.Path.{refl}
+use Rattle.intake.proofs.AdmitLaws.{not-received, waits-few, waits}
 use Rattle.verdict.proofs.VerdictLaws.{not-admitted}
 use borrow.Author.Needs.{needs}
 use Rattle.verdict.proofs.decide.Statement.{statement}
@@ -26,11 +27,14 @@ same-length-2 c = search needs
 returns : tie.Need-returns
 returns c = let r = c .before .before .before .before .before .before .before .receive in let q = c .before .before .status .given .1 in not-admitted _ _ _ (r .result) _ _ (not-received _ (r .result) _ _ (r .ensures) _ q) _ q (c .refused .result) (c .refused .ensures)
 
-slice-aggregate-decide-by : tie.Need-slice-aggregate-decide-by
-slice-aggregate-decide-by c = search needs
+slice-aggregate-find-few : tie.Need-slice-aggregate-find-few
+slice-aggregate-find-few c = search needs
 
-decide-by-requires : tie.Need-decide-by-requires
-decide-by-requires c κs = let r = c .before .before .before .before .before .before .before .before .before .before .receive in waits-fewest _ (r .result) _ _ (r .ensures) (c .before .before .before .before .before .enum-told .given .1) (c .before .before .before .if1 .taken)
+find-few-requires : tie.Need-find-few-requires
+find-few-requires c κs = let r = c .before .before .before .before .before .before .before .before .before .before .receive in (waits-few _ (r .result) _ _ (r .ensures) (c .before .before .before .before .before .enum-told .given .1) (c .before .before .before .if1 .taken), refl)
+
+decide-found-requires : tie.Need-decide-found-requires
+decide-found-requires c κs = search needs
 
 same-length-3 : tie.Need-same-length-3
 same-length-3 c = search needs
@@ -41,11 +45,14 @@ same-length-4 c = search needs
 returns-2 : tie.Need-returns-2
 returns-2 c = search needs
 
-slice-aggregate-decide-by-2 : tie.Need-slice-aggregate-decide-by-2
-slice-aggregate-decide-by-2 c = search needs
+slice-aggregate-find-many : tie.Need-slice-aggregate-find-many
+slice-aggregate-find-many c = search needs
 
-decide-by-requires-2 : tie.Need-decide-by-requires-2
-decide-by-requires-2 c κs = let r = c .before .before .before .before .before .before .before .before .before .before .before .before .receive in waits-few _ (r .result) _ _ (r .ensures) (c .before .before .before .before .before .before .before .enum-told .given .1) (c .before .before .before .if2 .taken)
+find-many-requires : tie.Need-find-many-requires
+find-many-requires c κs = let r = c .before .before .before .before .before .before .before .before .before .before .receive in (waits _ (r .result) _ _ (r .ensures) (c .before .before .before .before .before .enum-told .given .1), refl)
+
+decide-found-requires-2 : tie.Need-decide-found-requires-2
+decide-found-requires-2 c κs = search needs
 
 same-length-5 : tie.Need-same-length-5
 same-length-5 c = search needs
@@ -55,18 +62,6 @@ same-length-6 c = search needs
 
 returns-3 : tie.Need-returns-3
 returns-3 c = search needs
-
-decide-many-requires : tie.Need-decide-many-requires
-decide-many-requires c κs = let r = c .before .before .before .before .before .before .before .before .before .before .before .receive in waits _ (r .result) _ _ (r .ensures) (c .before .before .before .before .before .before .enum-told .given .1)
-
-same-length-7 : tie.Need-same-length-7
-same-length-7 c = search needs
-
-same-length-8 : tie.Need-same-length-8
-same-length-8 c = search needs
-
-returns-4 : tie.Need-returns-4
-returns-4 c = search needs
 
 pub decide-spec : {M : Type 1} → statement M
 decide-spec =
@@ -79,17 +74,15 @@ decide-spec =
     same-length
     same-length-2
     returns
-    slice-aggregate-decide-by
-    decide-by-requires
+    slice-aggregate-find-few
+    find-few-requires
+    decide-found-requires
     same-length-3
     same-length-4
     returns-2
-    slice-aggregate-decide-by-2
-    decide-by-requires-2
+    slice-aggregate-find-many
+    find-many-requires
+    decide-found-requires-2
     same-length-5
     same-length-6
-    returns-3
-    decide-many-requires
-    same-length-7
-    same-length-8
-    returns-4)
+    returns-3)

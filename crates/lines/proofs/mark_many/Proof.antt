@@ -1,10 +1,10 @@
--- `mark_lines`: numbers for a small nest, for a larger one, or for the largest.
+-- `mark_many`: numbers for few accesses, for more, or for the most.
 use lib.ListN.{length}
 use native.Mathlib.Omega.{arith}
 use Rattle.lines.proofs.MarkLaws.{few-numbers}
 use borrow.Author.Needs.{needs}
-use Rattle.lines.proofs.mark_lines.Statement.{statement}
-use Rattle.lines.proofs.mark_lines.Tie as tie
+use Rattle.lines.proofs.mark_many.Statement.{statement}
+use Rattle.lines.proofs.mark_many.Tie as tie
 
 mul-needed : tie.Need-mul-needed
 mul-needed c = let s = c .before .before in let f = few-numbers _ _ _ _ (s .pre) in omega arith
@@ -45,8 +45,8 @@ same-length-3 c = search needs
 returns-3 : tie.Need-returns-3
 returns-3 c = search needs
 
-pub mark-lines-spec : {M : Type 1} → statement M
-mark-lines-spec =
+pub mark-many-spec : {M : Type 1} → statement M
+mark-many-spec =
     tie.close
     (tie.spec
     mul-needed
