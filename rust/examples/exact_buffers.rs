@@ -15,7 +15,7 @@ fn ticket(digits: &str) -> Option<Box<[u8]>> {
     if digits == "-" {
         return Some(Box::new([]));
     }
-    if digits.len() % 2 != 0 || !digits.is_ascii() {
+    if !digits.len().is_multiple_of(2) || !digits.is_ascii() {
         return None;
     }
     let pairs = (0..digits.len()).step_by(2).map(|at| &digits[at..at + 2]);

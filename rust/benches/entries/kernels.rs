@@ -8,7 +8,7 @@ pub struct Kernel {
     pub sizes: fn() -> Vec<String>,
 }
 
-pub const KERNELS: [Kernel; 10] = [
+pub const KERNELS: [Kernel; 11] = [
     Kernel {
         name: "stencil in one dimension",
         sizes: || [(1, 6), (4, 25), (4, 250), (4, 1024)].map(stencil_1d).into(),
@@ -182,16 +182,16 @@ fn mirrored(count: u32) -> String {
     )
 }
 
-/// Rows that are written and rows that are read differ by the greatest common divisor alone, so that all points have to be searched however many
-/// there are.
-fn even_and_odd((rows, width): (u32, u32)) -> String {
+/// Elements that are written and those that are read differ by the greatest common divisor alone, so that all points have to be searched however
+/// many there are.
+fn even_and_odd((outer, inner): (u32, u32)) -> String {
     format!(
-        "array A({},{width})
-         for i = 0 to {rows}-1
-           for j = 0 to {width}-1
-             A(2*i,j) = A(2*i+1,j) + 1
-         exchange 1 2",
-        2 * rows
+        "array A({})
+         for i = 0 to {outer}-1
+           for j = 0 to {inner}-1
+             A(2*i+2*j) = A(2*i+2*j+1) + 1
+         skew 1 2 by 1",
+        2 * (outer + inner)
     )
 }
 
