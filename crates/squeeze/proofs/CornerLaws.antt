@@ -1,13 +1,14 @@
 -- A part of a nest, as its corner is. In order: the shape of a nest on flat slices (`nest-shaped`); the points of a narrower nest are points of the
 -- other (`corner-points`); its sheet (`corner-sheet`, `corner-formed`); its lines are lines of the other (`corner-lines`).
 use mathlib.Core.Path.{_≡_, refl, sym, ap, _∙_, subst}
-use mathlib.Core.List.{List, [], _∷_, _++_, List·Memᴰ·not-nil}
+use mathlib.Core.List.{List, [], _∷_, _++_, map}
 use Prim.Native.Nat.{ℕ, zero, suc, _+_, _*_, _-_, _≤_, _<_}
 use native.Mathlib.Omega.{arith}
 use lib.IntN.{ℤ}
 use lib.ListN.{length, getD, take, drop, length-drop}
 use lib.Seq.{length-take-le}
 use Rattle.lists.specs.Membership.{Mem, All}
+use Rattle.lists.proofs.TestLaws.{false-not-T}
 use Rattle.model.specs.Ticket.{Limit, Statement}
 use Rattle.model.specs.Points.{iterations}
 use Rattle.model.specs.Inside.{Inside}
@@ -15,6 +16,10 @@ use Rattle.model.specs.Shape.{Sized, Shaped, Runs, FitsAll, WellFormed}
 use Rattle.model.specs.Machine.{bodyAt}
 use Rattle.model.specs.Directions.{Line}
 use Rattle.model.specs.Listing.{linesOf}
+use Rattle.model.specs.Answer.{accepted}
+use Rattle.model.specs.Grammar.{extents}
+use Rattle.model.specs.Bounds.{subscriptAt, strays, inArrays}
+use Rattle.model.proofs.Points.ArrayLaws.{off-outside, arrays-inside, accepted-arrays}
 use Rattle.model.proofs.Points.PointLaws.{iterations-inside}
 use Rattle.model.proofs.Listing.LineLaws.{Fitting, sourceAccesses, sinkAccesses}
 use Rattle.model.proofs.Listing.ListingLaws.{Dependence, linesOf-exact}
@@ -124,6 +129,14 @@ module _ (P : Sheet) (t : List ℤ) (d : List ℕ) (h : SheetIn P) (g : Narrower
   points-too : (y : List ℤ) → Mem y (iterations (nestOf C .loops)) → Mem y (iterations (nestOf P .loops))
   unfolding nestOf
   points-too y m = corner-points (P .limits) t (P .counts) d (P .depth) (h .nest) g y m
+
+  -- no subscript leaves its extent at fewer points
+  pub corner-inside : inArrays (nestOf P .arrays) (iterations (nestOf P .loops)) 1 (nestOf P .statements) ≡ accepted tt → inArrays (nestOf C .arrays) (iterations (nestOf C .loops)) 1 (nestOf C .statements) ≡ accepted tt
+  unfolding strays
+  corner-inside e = rw (same-arrays, same-statements) (accepted-arrays (nestOf P .arrays) (iterations (nestOf C .loops)) 1 (nestOf P .statements)
+      (λ s m r. false-not-T (strays (nestOf P .arrays) (r .point) (r .access))
+      (arrays-inside (nestOf P .arrays) (iterations (nestOf P .loops)) 1 (nestOf P .statements) e s m (r .point) (points-too (r .point) (r .reached)) (r .access) (r .of))
+      (off-outside (extents (nestOf P .arrays) (r .access .array)) (map (subscriptAt (r .point)) (r .access .subscripts)) (r .off))))
 
   -- ---- its lines
 

@@ -6,22 +6,20 @@ use mathlib.Core.List.{List, map}
 use Prim.Native.Nat.{ℕ, _*_, _≤_, _<_}
 use native.Mathlib.Omega.{arith}
 use native.Mathlib.Nat.{mul-le-mul}
-use lib.IntN.{ℤ}
-use lib.ListN.{length, getD, take, length-map, List·getD-map}
+use lib.IntN.{ℤ, pos}
+use lib.ListN.{length, getD, take, replicate, length-replicate, length-map, List·getD-map}
 use Rattle.lists.proofs.MembershipLaws.{getD-mem}
 use Rattle.model.specs.Answer.{accepted}
 use Rattle.model.specs.Points.{iterations}
 use Rattle.model.specs.Bounds.{space}
-use Rattle.model.proofs.Verdict.VerdictLaws.{admitted-accepted}
-use Rattle.reading.specs.declared.Status.{Status}
-use Rattle.reading.specs.declared.Status.the-variants.{Fine}
 use Rattle.extremes.specs.declared.Range.{Range}
 use Rattle.dependence.specs.Flat.{Use, uses, noUse}
 use Rattle.dependence.proofs.UseLaws.{uses-of}
 use Rattle.sheet.specs.Sheets.{Sheet, extentsIn, ownersIn, wordsIn, nestOf, SheetIn}
-use Rattle.sheet.specs.Stages.{PointsAre}
+use Rattle.sheet.specs.Stages.{ListIn, PointsAre}
 use Rattle.sheet.proofs.SheetLaws.{owners-count}
-use Rattle.admission.specs.Admission.{answerOf, passed, Counts, EnumerateIn, Enumerates}
+use Rattle.admission.specs.Admission.{answerOf, Counts, EnumerateIn}
+use Rattle.admission.proofs.AdmissionLaws.{list-in}
 use Rattle.admission.specs.declared.Counted.{Counted}
 use Rattle.admission.specs.declared.Counted.the-variants.{Points}
 use Rattle.lines.specs.declared.Uses.{Uses}
@@ -86,18 +84,19 @@ module _ (P : Sheet) (m : List Bool) (h : CornerIn P m) (r : Counted) (g : Count
   counted : n ≡ length (iterations (nestOf P .loops))
   counted = g .count n e
 
-  pub few-in : EnumerateIn P 768
+  few-in : EnumerateIn P 768
   few-in = record {
     sheet = h .sheet;
     spacious = spacious;
     fits = let a = mul-le-mul few (h .sheet .nest .shallow) in subst (λ (k : ℕ). k * P .depth ≤ 768) counted a;
   }
 
-  pub few-lines : (o p : List ℤ) (s : Status) → Enumerates P o p s → s ≡ Fine → LinesIn P p n m
-  few-lines o p s q f = record {
-    stray = record { sheet = h .sheet; points-are = subst (PointsAre P p) (sym counted) (q .points) };
-    formed = h .formed;
-    inside = admitted-accepted (nestOf P) (sym (q .same) ∙ ap passed f) .1;
-    clear = h .clear;
-    room = h .room;
-  }
+  pub list-few : ListIn P 768
+  list-few = let e = length-replicate {A = ℤ} 768 (pos 0) in subst (ListIn P) e (list-in P (replicate 768 (pos 0)) (subst (EnumerateIn P) (sym e) few-in))
+
+  module _ (p : List ℤ) (k : ℕ) (q : PointsAre P p k) where
+    pub few-listed : k ≤ 256
+    few-listed = let a = q .count in let b = counted in omega arith
+
+    pub few-lines : LinesIn P p k m
+    few-lines = record { stray = record { sheet = h .sheet; points-are = q }; formed = h .formed; inside = h .inside; clear = h .clear; room = h .room }

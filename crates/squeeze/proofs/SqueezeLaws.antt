@@ -30,7 +30,7 @@ use Rattle.sheet.proofs.StageLaws.{depth-is}
 use Rattle.lines.specs.Lines.{LinesAre}
 use Rattle.lines.proofs.MarkLaws.{select-same, statement-count}
 use Rattle.squeeze.specs.Squeezed.{limited, Recounted, SheetCovered, RangesOn, CoverIn, CornerIn, SqueezeIn}
-use Rattle.squeeze.proofs.CornerLaws.{corner-sheet, corner-formed, corner-lines}
+use Rattle.squeeze.proofs.CornerLaws.{corner-sheet, corner-formed, corner-inside, corner-lines}
 use Rattle.squeeze.proofs.CoverLaws.{covered-marked}
 
 module _ (P : Sheet) (t : List ℤ) (d : List ℕ) (h : SheetIn P) (g : Narrower (P .limits) (P .counts) (P .depth) t d) (f : WellFormed (nestOf P)) (adm : admitted (nestOf P) ≡ accepted tt)
@@ -84,6 +84,7 @@ module _ (O : Outline) (s w : List ℤ) (m : List Bool) (p : SqueezeIn (sheetOf 
     corner-in = subst (λ (C : Sheet). CornerIn C m) (sym (recounted s t w)) (record {
       sheet = corner-sheet P t d (p .corner .sheet) narrower;
       formed = corner-formed P t d (p .corner .sheet) narrower (p .corner .formed);
+      inside = corner-inside P t d (p .corner .sheet) narrower (p .corner .inside);
       clear = p .corner .clear;
       room = p .corner .room;
     })
@@ -98,6 +99,6 @@ module _ (O : Outline) (s w : List ℤ) (m : List Bool) (p : SqueezeIn (sheetOf 
 -- the marks cleared for another part
 pub squeeze-again : (P : Sheet) (m n : List Bool) → SqueezeIn P m → ((j : ℕ) → getD n j false ≡ false) → length n ≡ length m → SqueezeIn P n
 squeeze-again P m n p f e = let r = p .corner .room in record {
-  corner = record { sheet = p .corner .sheet; formed = p .corner .formed; clear = f; room = omega arith };
+  corner = record { sheet = p .corner .sheet; formed = p .corner .formed; inside = p .corner .inside; clear = f; room = omega arith };
   admitted-is = p .admitted-is;
 }

@@ -6,7 +6,8 @@ use Prim.Native.Nat.{ℕ, _*_, _≤_}
 use lib.IntN.{ℤ}
 use lib.ListN.{length, getD}
 use Rattle.model.specs.Answer.{accepted}
-use Rattle.model.specs.Bounds.{space, admitted}
+use Rattle.model.specs.Points.{iterations}
+use Rattle.model.specs.Bounds.{space, admitted, inArrays}
 use Rattle.model.specs.Shape.{WellFormed}
 use Rattle.model.specs.Quick.{ranges}
 use Rattle.extremes.specs.declared.Range.{Range}
@@ -60,10 +61,11 @@ pub record CoverIn (P : Sheet) (rs : List Range) (m : List Bool) : Type 0 where
   pub ranges : RangesIn (P .depth) rs
   pub room : Room P m
 
--- marks that are all clear
+-- a nest whose subscripts stay within their extents, and marks that are all clear
 pub record CornerIn (P : Sheet) (m : List Bool) : Type 0 where
   pub sheet : SheetIn P
   pub formed : WellFormed (nestOf P)
+  pub inside : inArrays (nestOf P .arrays) (iterations (nestOf P .loops)) 1 (nestOf P .statements) ≡ accepted tt
   pub clear : (j : ℕ) → getD m j false ≡ false
   pub room : Room P m
 

@@ -12,7 +12,6 @@ ghost use Rattle.squeeze.specs.Squeezed.{Recounted, SheetCovered, CoverI
 use admission::Counted;
 use corner::Part;
 use extremes::Range;
-use reading::Status;
 use sheet::Outline;
 
 // ---- pairs of accesses, all lent as flat slices
@@ -163,7 +162,7 @@ fn sheet_covered(
 
 // ---- a part of the nest
 
-// Marks the lines of a nest of few points, if it is one and admitted.
+// Marks the lines of a nest of few points, if it is one. No subscript leaves its extent, as none does in the whole nest.
 fn mark_few(outline: Outline, limits: &[i16], words: &[i16], marks: &mut [bool]) -> bool
     requires { ⌜ CornerIn (sheetOf outline (now limits) (now words)) (now marks) ⌝ }
     ensures { λ r. ⌜ (r ≡ true → LinesAre (sheetOf outline (now (limits .entry)) (now (words .entry))) (now (marks .exit))) × (length (now (marks .exit)) ≡ length (now (marks .entry))) ⌝ }
@@ -176,12 +175,8 @@ fn mark_few(outline: Outline, limits: &[i16], words: &[i16], marks: &mut [bool])
         return false;
     }
     let mut points = [0i64; 768];
-    let status = admission::enumerate(outline, limits, words, &mut points);
-    match status {
-        Status::Fine => {}
-        Status::Refused(_) => return false,
-    }
-    lines::mark_few(outline, limits, words, &points, count, marks);
+    let listed = sheet::list_points(outline, limits, words, &mut points);
+    lines::mark_few(outline, limits, words, &points, listed, marks);
     true
 }
 

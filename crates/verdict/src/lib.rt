@@ -139,6 +139,7 @@ fn decide_found(
     decide_with(bytes, all, limits, words, marks)
 }
 
+// Of any bytes.
 pub fn decide(bytes: &[u8], limits: &mut [i16], words: &mut [i16]) -> Decided
     requires { ⌜ Lent (now limits) (now words) ⌝ }
     ensures { λ r. ⌜ Decides (now (bytes .entry)) r (now (limits .exit)) (now (words .exit)) ⌝ }
