@@ -141,11 +141,12 @@ fn vary(
 }
 
 // Whether every vector of the depth that the search of two accesses can find is marked: it is = at the loops that do not vary.
-fn full(marks: &[bool], base: usize, depth: usize, step: usize, varying: &[bool], own: bool) -> bool
-    requires { ⌜ (base + 729 ≤ length (now marks)) × (depth ≤ 6) × (step ≡ stride (6 - depth)) × (step ≤ 729) × (length (now varying) ≡ 6) ⌝ }
+fn full(marks: &[bool], base: usize, depth: usize, varying: &[bool], own: bool) -> bool
+    requires { ⌜ (base + 729 ≤ length (now marks)) × (depth ≤ 6) × (length (now varying) ≡ 6) ⌝ }
     ensures { λ r. ⌜ (r ≡ true → Full depth (now (varying .entry)) own base (now (marks .entry))) ⌝ }
 {
     let end = limit(own);
+    let step = vectors::stride(depth);
     let mut v = (step - 1) / 2;
     while v < end {
         if !marks[base + v] {
@@ -202,7 +203,7 @@ fn follow(
                 vary(points, depth, from.len(), next, start, &mut varying);
                 known = true;
             }
-            if full(marks, base, depth, step, &varying, own) {
+            if full(marks, base, depth, &varying, own) {
                 return;
             }
             spent = 0;

@@ -4,10 +4,11 @@ use mathlib.Core.Bool.{true, false}
 use mathlib.Core.List.{[], _∷_}
 use Prim.Native.Nat.{_+_, _*_}
 use native.Mathlib.Omega.{arith}
-use lib.ListN.{replicate}
+use lib.ListN.{replicate, length-replicate}
 use Rattle.integers.specs.Sign.{less, equal, greater}
 use Rattle.preimages.specs.Numbers.{digitsIn, base3, number, Digits}
-use Rattle.directions.specs.Sets.{ExchangeIn, ReversalIn, SkewIn, SectionIn, AddIn}
+use Rattle.directions.specs.Sets.{ExchangeIn, ReversalIn, SkewIn, SectionIn, MarksIn}
+use Rattle.preimages.specs.Weights.{ChangeIn}
 use Rattle.preimages.specs.Sources.{SourceIn, JoinedIn, SkewSourceIn, GaveIn}
 use Rattle.directions.specs.Changes.{ComesIn, PulledIn}
 use Rattle.directions.specs.declared.DirectionSet.{DirectionSet}
@@ -56,9 +57,11 @@ section-met : SectionIn pair 1
 unfolding pair
 section-met = record { few = omega arith; inside = omega arith }
 
-add-met : AddIn pair 728
-unfolding pair
-add-met = record { few = omega arith; below = omega arith }
+marks-met : MarksIn (replicate 729 false) 2
+marks-met = record { room = length-replicate 729 false; few = omega arith }
+
+change-met : ChangeIn 728 81 4
+change-met = record { below = omega arith; inside = 4; outermost = omega arith; weighs = refl }
 
 digits-met : Digits (digitsIn 6 (less ∷ []))
 digits-met = vector-digits (less ∷ [])

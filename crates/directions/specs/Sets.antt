@@ -54,15 +54,6 @@ pub record Empty (d : ℕ) (r : DirectionSet) : Type 0 where
   pub depth : r .depth ≡ d
   pub vectors : vectorsOf r ≡ []
 
-pub record AddIn (s : DirectionSet) (n : ℕ) : Type 0 where
-  pub few : s .depth ≤ 6
-  pub below : n < 729
-
--- the vector with number n added
-pub record Added (n : ℕ) (s r : DirectionSet) : Type 0 where
-  pub depth : r .depth ≡ s .depth
-  pub vectors : (v : List Sign) → length v ≡ s .depth → number v ≡ n → SameMembers (vectorsOf r) (v ∷ vectorsOf s)
-
 -- ---- marks that are lent
 
 pub record MarksIn (marks : List Bool) (d : ℕ) : Type 0 where

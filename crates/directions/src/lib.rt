@@ -2,11 +2,11 @@
 ghost use mathlib.Core.Path.{_≡_};
 ghost use mathlib.Core.Bool.{true, false, _||_};
 ghost use mathlib.Core.List.{[]};
-ghost use Prim.Native.Nat.{ℕ, suc, _+_, _-_, _≤_, _<_};
+ghost use Prim.Native.Nat.{ℕ, suc, _-_, _≤_};
 ghost use lib.ListN.{length, replicate};
 ghost use Rattle.model.specs.Ticket.{exchange, reversal, skew, section};
 ghost use Rattle.model.specs.Steps.{somePointsBack};
-ghost use Rattle.directions.specs.Sets.{vectorsOf, ExchangeIn, ReversalIn, SkewIn, SectionIn, After, Empty, AddIn, Added, MarksIn, Cleared, Merged};
+ghost use Rattle.directions.specs.Sets.{vectorsOf, ExchangeIn, ReversalIn, SkewIn, SectionIn, After, Empty, MarksIn, Cleared, Merged};
 ghost use Rattle.directions.specs.Changes.{ComesIn, Comes, PulledIn, Pulled};
 
 // 729 marks, one for each vector of six signs by its number, and the loops that there are. A loop that is missing has the sign =.
@@ -37,19 +37,6 @@ pub fn empty(depth: usize) -> DirectionSet
     DirectionSet {
         marks: no_marks(),
         depth: depth,
-    }
-}
-
-// The set with the vector that has number n.
-pub fn added(s: DirectionSet, n: usize) -> DirectionSet
-    requires { ⌜ AddIn s n ⌝ }
-    ensures { λ r. ⌜ Added n s r ⌝ }
-{
-    let mut marks = s.marks;
-    marks[n] = true;
-    DirectionSet {
-        marks: marks,
-        depth: s.depth,
     }
 }
 

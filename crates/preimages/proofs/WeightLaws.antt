@@ -8,9 +8,19 @@ use Rattle.integers.specs.Sign.{turned}
 use Rattle.lists.specs.Place.{under, onHead, swapped}
 use Rattle.preimages.specs.Numbers.{base3, digitsOf}
 use Rattle.preimages.specs.Sources.{Source}
-use Rattle.preimages.specs.Weights.{ChangeIn, traded, overturned}
+use Rattle.preimages.specs.Weights.{ChangeIn}
 use Rattle.preimages.proofs.NumberLaws.{base3-digitsOf}
 use Rattle.preimages.proofs.SourceLaws.{swap-source, turn-source}
+
+-- ---- as the code reckons
+
+-- the digits of weight 3 w and w exchanged
+unfoldable pub traded : ℕ → ℕ → ℕ
+traded n w = n + (n / w % 3 * (w * 3) + n / (w * 3) % 3 * w) - (n / (w * 3) % 3 * (w * 3) + n / w % 3 * w)
+
+-- the digit of weight w turned over
+unfoldable pub overturned : ℕ → ℕ → ℕ
+overturned n w = n + 2 * w - 2 * (n / w % 3 * w)
 
 -- ---- no number is too large, none too small
 

@@ -1,7 +1,7 @@
 // Which vector a step makes into the one with a number: the numbers of vectors before a step, digit by digit.
 ghost use mathlib.Core.Path.{_≡_};
 ghost use mathlib.Core.Bool.{false};
-ghost use Prim.Native.Nat.{_+_, _-_, _<_};
+ghost use Prim.Native.Nat.{ℕ, _+_, _-_, _^_, _≤_, _<_};
 ghost use Rattle.integers.specs.Sign.{turned};
 ghost use Rattle.lists.specs.Place.{«under», onHead, swapped};
 ghost use Rattle.preimages.specs.Numbers.{base3, digitsOf, Digits};
@@ -31,7 +31,7 @@ fn value(d: [usize; 6]) -> usize
 // The number with the digits of weight 3 w and w exchanged. Called with a weight that is written out, so that no division is left.
 fn traded(n: usize, w: usize) -> usize
     requires { ⌜ ChangeIn n w 4 ⌝ }
-    ensures { λ r. ⌜ r ≡ Rattle.preimages.specs.Weights.traded n w ⌝ }
+    ensures { λ r. ⌜ ((a : ℕ) → a ≤ 4 → w ≡ 3 ^ (4 - a) → Source («under» a swapped) (a + 2) n r) ⌝ }
 {
     let x = n / (w * 3) % 3;
     let y = n / w % 3;
@@ -57,7 +57,7 @@ pub fn exchange_source(n: usize, a: usize) -> usize
 // The number with the digit of weight w turned over.
 fn overturned(n: usize, w: usize) -> usize
     requires { ⌜ ChangeIn n w 5 ⌝ }
-    ensures { λ r. ⌜ r ≡ Rattle.preimages.specs.Weights.overturned n w ⌝ }
+    ensures { λ r. ⌜ ((a : ℕ) → a ≤ 5 → w ≡ 3 ^ (5 - a) → Source («under» a (onHead turned)) (a + 1) n r) ⌝ }
 {
     let x = n / w % 3;
     n + 2 * w - 2 * (x * w)

@@ -27,7 +27,7 @@ use Rattle.lines.specs.Uses.{UsesAre}
 use Rattle.lines.specs.Lines.{LinesIn}
 use Rattle.lines.proofs.MarkLaws.{statement-count, use-count}
 use Rattle.squeeze.specs.Covered.{pairs, PairsIn, CoveredTo}
-use Rattle.squeeze.specs.Squeezed.{pairsOf, SheetCovered, CoverIn, CornerIn}
+use Rattle.squeeze.specs.Squeezed.{pairsOf, SheetCovered, CoverIn, PartIn}
 
 -- an answer that promises nothing
 pub unsaid : {A : Type 0} → false ≡ true → A
@@ -77,7 +77,7 @@ module _ (P : Sheet) (rs : List Range) (m : List Bool) (h : CoverIn P rs m) wher
 
 -- ---- few points
 
-module _ (P : Sheet) (m : List Bool) (h : CornerIn P m) (r : Counted) (g : Counts P r) (n : ℕ) (e : r ≡ Points n) (few : n ≤ 128) where
+module _ (P : Sheet) (m : List Bool) (h : PartIn P m) (r : Counted) (g : Counts P r) (n : ℕ) (e : r ≡ Points n) (few : n ≤ 128) where
   spacious : space (nestOf P .loops) ≡ accepted tt
   spacious = sym (g .same) ∙ ap answerOf e
 

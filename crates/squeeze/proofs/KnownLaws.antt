@@ -23,7 +23,7 @@ module _ (P : Sheet) (m : List Bool) (p : MarkIn P m) where
 
     pub squeeze-in : SqueezeIn P m
     squeeze-in = record {
-      corner = record { sheet = p .nest .sheet; formed = p .nest .formed; inside = h e (p .nest .spacious); clear = p .clear; room = p .room };
+      part = record { sheet = p .nest .sheet; formed = p .nest .formed; inside = h e (p .nest .spacious); clear = p .clear; room = p .room };
       admitted-is = passes;
     }
 

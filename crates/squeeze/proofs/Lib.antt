@@ -2,7 +2,7 @@
 pub mod CopyLaws
 pub mod PairLaws
 pub mod FewLaws
-pub mod CornerLaws
+pub mod PartLaws
 pub mod CoverLaws
 pub mod SqueezeLaws
 pub mod KnownLaws

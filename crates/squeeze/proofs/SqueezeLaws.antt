@@ -29,8 +29,8 @@ use Rattle.sheet.specs.Sheets.{Sheet, sheetOf, nestOf, SheetIn}
 use Rattle.sheet.proofs.StageLaws.{depth-is}
 use Rattle.lines.specs.Lines.{LinesAre}
 use Rattle.lines.proofs.MarkLaws.{select-same, statement-count}
-use Rattle.squeeze.specs.Squeezed.{limited, Recounted, SheetCovered, RangesOn, CoverIn, CornerIn, SqueezeIn}
-use Rattle.squeeze.proofs.CornerLaws.{corner-sheet, corner-formed, corner-inside, corner-lines}
+use Rattle.squeeze.specs.Squeezed.{limited, Recounted, SheetCovered, RangesOn, CoverIn, PartIn, SqueezeIn}
+use Rattle.squeeze.proofs.PartLaws.{part-sheet, part-formed, part-inside, part-lines}
 use Rattle.squeeze.proofs.CoverLaws.{covered-marked}
 
 module _ (P : Sheet) (t : List ℤ) (d : List ℕ) (h : SheetIn P) (g : Narrower (P .limits) (P .counts) (P .depth) t d) (f : WellFormed (nestOf P)) (adm : admitted (nestOf P) ≡ accepted tt)
@@ -46,7 +46,7 @@ module _ (P : Sheet) (t : List ℤ) (d : List ℕ) (h : SheetIn P) (g : Narrower
   unfolding shown
   marked-occurs l i q =
       let a : Mem l (linesOf (nestOf (limited P t d))) = subst (Mem l) (seen .lines) (mem-select (marked m (P .statements)) (allLines (P .statements) (P .depth)) i q) in
-      let b : Mem l (linesOf (nestOf P)) = corner-lines P t d h g l a in
+      let b : Mem l (linesOf (nestOf P)) = part-lines P t d h g l a in
       select-mem (occurs (accesses (nestOf P .statements)) (iterations (nestOf P .loops))) (allLines (P .statements) (P .depth)) (subst (Mem l) lines-in b) .1
 
   occurs-marked : (l : Line) → Mem l (allLines (P .statements) (P .depth)) → T (occurs (accesses (nestOf P .statements)) (iterations (nestOf P .loops)) l) → T (marked m (P .statements) l)
@@ -70,7 +70,7 @@ module _ (O : Outline) (s w : List ℤ) (m : List Bool) (p : SqueezeIn (sheetOf 
   P = sheetOf O s w
 
   pub cut-in : NestOk f (O .counts) (O .depth) × RangesIn (O .depth) rs
-  cut-in = (subst (λ (l : List ℤ). NestOk l (O .counts) (O .depth)) (sym copied) (p .corner .sheet .nest), found .held)
+  cut-in = (subst (λ (l : List ℤ). NestOk l (O .counts) (O .depth)) (sym copied) (p .part .sheet .nest), found .held)
 
   ranges-on : RangesOn P rs
   unfolding nestOf
@@ -80,25 +80,25 @@ module _ (O : Outline) (s w : List ℤ) (m : List Bool) (p : SqueezeIn (sheetOf 
     narrower : Narrower s (O .counts) (O .depth) t d
     narrower = subst (λ (l : List ℤ). Narrower l (O .counts) (O .depth) t d) copied cut
 
-    pub corner-in : CornerIn (sheetOf Q t w) m
-    corner-in = subst (λ (C : Sheet). CornerIn C m) (sym (recounted s t w)) (record {
-      sheet = corner-sheet P t d (p .corner .sheet) narrower;
-      formed = corner-formed P t d (p .corner .sheet) narrower (p .corner .formed);
-      inside = corner-inside P t d (p .corner .sheet) narrower (p .corner .inside);
-      clear = p .corner .clear;
-      room = p .corner .room;
+    pub part-in : PartIn (sheetOf Q t w) m
+    part-in = subst (λ (C : Sheet). PartIn C m) (sym (recounted s t w)) (record {
+      sheet = part-sheet P t d (p .part .sheet) narrower;
+      formed = part-formed P t d (p .part .sheet) narrower (p .part .formed);
+      inside = part-inside P t d (p .part .sheet) narrower (p .part .inside);
+      clear = p .part .clear;
+      room = p .part .room;
     })
 
     module _ (n : List Bool) (b : Bool) (few : (b ≡ true → LinesAre (sheetOf Q t w) n) × (length n ≡ length m)) where
       pub cover-in : CoverIn P rs n
-      cover-in = let q = few .1 in let r = p .corner .room in record { sheet = p .corner .sheet; ranges = found .held; room = omega arith }
+      cover-in = let q = few .1 in let r = p .part .room in record { sheet = p .part .sheet; ranges = found .held; room = omega arith }
 
       pub lines-known : b ≡ true → (a : Bool) → (a ≡ true → SheetCovered P rs n) → a ≡ true → LinesAre P n
-      lines-known e a g z = squeezed P t d (p .corner .sheet) narrower (p .corner .formed) (p .admitted-is) rs ranges-on n (subst (λ (C : Sheet). LinesAre C n) (recounted s t w) (few .0 e)) (g z)
+      lines-known e a g z = squeezed P t d (p .part .sheet) narrower (p .part .formed) (p .admitted-is) rs ranges-on n (subst (λ (C : Sheet). LinesAre C n) (recounted s t w) (few .0 e)) (g z)
 
 -- the marks cleared for another part
 pub squeeze-again : (P : Sheet) (m n : List Bool) → SqueezeIn P m → ((j : ℕ) → getD n j false ≡ false) → length n ≡ length m → SqueezeIn P n
-squeeze-again P m n p f e = let r = p .corner .room in record {
-  corner = record { sheet = p .corner .sheet; formed = p .corner .formed; inside = p .corner .inside; clear = f; room = omega arith };
+squeeze-again P m n p f e = let r = p .part .room in record {
+  part = record { sheet = p .part .sheet; formed = p .part .formed; inside = p .part .inside; clear = f; room = omega arith };
   admitted-is = p .admitted-is;
 }

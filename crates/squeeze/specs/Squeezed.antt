@@ -62,7 +62,7 @@ pub record CoverIn (P : Sheet) (rs : List Range) (m : List Bool) : Type 0 where
   pub room : Room P m
 
 -- a nest whose subscripts stay within their extents, and marks that are all clear
-pub record CornerIn (P : Sheet) (m : List Bool) : Type 0 where
+pub record PartIn (P : Sheet) (m : List Bool) : Type 0 where
   pub sheet : SheetIn P
   pub formed : WellFormed (nestOf P)
   pub inside : inArrays (nestOf P .arrays) (iterations (nestOf P .loops)) 1 (nestOf P .statements) ≡ accepted tt
@@ -71,7 +71,7 @@ pub record CornerIn (P : Sheet) (m : List Bool) : Type 0 where
 
 -- of an admitted nest
 pub record SqueezeIn (P : Sheet) (m : List Bool) : Type 0 where
-  pub corner : CornerIn P m
+  pub part : PartIn P m
   pub admitted-is : admitted (nestOf P) ≡ accepted tt
 
 -- a nest that passes refusals 7 and 8

@@ -8,7 +8,7 @@ ghost use Rattle.extremes.specs.Values.{RangesAre};
 ghost use Rattle.sheet.specs.Sheets.{sheetOf};
 ghost use Rattle.lines.specs.Lines.{LinesAre};
 ghost use Rattle.squeeze.specs.Covered.{pairs, PairsIn, PairCovered, CoveredFrom, CoveredTo};
-ghost use Rattle.squeeze.specs.Squeezed.{Recounted, SheetCovered, CoverIn, CornerIn, SqueezeIn, Spacious, MarkIn, Marked, Knows};
+ghost use Rattle.squeeze.specs.Squeezed.{Recounted, SheetCovered, CoverIn, PartIn, SqueezeIn, Spacious, MarkIn, Marked, Knows};
 use admission::Counted;
 use corner::Part;
 use extremes::Range;
@@ -164,7 +164,7 @@ fn sheet_covered(
 
 // Marks the lines of a nest of few points, if it is one. No subscript leaves its extent, as none does in the whole nest.
 fn mark_few(outline: Outline, limits: &[i16], words: &[i16], marks: &mut [bool]) -> bool
-    requires { ⌜ CornerIn (sheetOf outline (now limits) (now words)) (now marks) ⌝ }
+    requires { ⌜ PartIn (sheetOf outline (now limits) (now words)) (now marks) ⌝ }
     ensures { λ r. ⌜ (r ≡ true → LinesAre (sheetOf outline (now (limits .entry)) (now (words .entry))) (now (marks .exit))) × (length (now (marks .exit)) ≡ length (now (marks .entry))) ⌝ }
 {
     let count = match admission::count_points(outline, limits, words) {

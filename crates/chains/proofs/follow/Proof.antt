@@ -90,7 +90,7 @@ slice-aggregate-full c = let l = known (c .before .before) .0 in search (needs, 
 
 full-requires : tie.Need-full-requires Inv-loop μ-loop
 full-requires c κs = let a = c .before .before .before .before .before .before .before .before .before .before .before .before in let t = top a in let r = t .pre .0 .room in let l = (done (c .before .before .before .before) 0 (omega arith)) .same-length in
-    (omega arith, t .pre .0 .shallow, a .before .before .stride .ensures .0, a .before .before .stride .ensures .1, known (c .before .before) .0)
+    (omega arith, t .pre .0 .shallow, known (c .before .before) .0)
 
 same-length : tie.Need-same-length Inv-loop μ-loop
 same-length c = (done (c .before .before .before .before .before .before) 0 (omega arith)) .same-length

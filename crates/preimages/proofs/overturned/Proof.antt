@@ -1,8 +1,7 @@
 -- `overturned`: a digit is turned over.
 use mathlib.Core.Path.{refl}
 use native.Mathlib.Omega.{arith}
-use Rattle.preimages.specs.Weights as Weights
-use Rattle.preimages.proofs.WeightLaws.{Fits, change-fits}
+use Rattle.preimages.proofs.WeightLaws.{Fits, change-fits, overturned, reversal-at}
 use Rattle.preimages.proofs.overturned.Statement.{statement}
 use Rattle.preimages.proofs.overturned.Tie as tie
 
@@ -28,8 +27,8 @@ sub-result : tie.Need-sub-result
 sub-result c = let f = fits c in let p = c .pre in omega arith
 
 returns : tie.Need-returns
-unfolding Weights.overturned
-returns c = refl
+unfolding overturned
+returns c = λ a h e. reversal-at (c .args .n) (c .pre .below) a (c .args .w) _ h e refl
 
 pub overturned-spec : {M : Type 1} → statement M
 overturned-spec =

@@ -1,7 +1,7 @@
 -- `reversal_source`: each place has its weight.
 use mathlib.Core.Path.{refl}
 use native.Mathlib.Omega.{arith}
-use Rattle.preimages.proofs.WeightLaws.{reversal-at, sixth}
+use Rattle.preimages.proofs.WeightLaws.{sixth}
 use Rattle.preimages.proofs.reversal_source.Statement.{statement}
 use Rattle.preimages.proofs.reversal_source.Tie as tie
 
@@ -24,22 +24,22 @@ overturned-requires-6 : tie.Need-overturned-requires-6
 overturned-requires-6 c κs = record { below = c .before .pre .below; inside = 0; outermost = omega arith; weighs = refl }
 
 returns : tie.Need-returns
-returns c = let s = c .before .before in let e = c .before .match .keys1 in reversal-at (s .args .n) (s .pre .below) (s .args .a) 243 _ (omega arith) (rw e refl) (c .overturned .ensures)
+returns c = let s = c .before .before in let e = c .before .match .keys1 in c .overturned .ensures (s .args .a) (omega arith) (rw e refl)
 
 returns-2 : tie.Need-returns-2
-returns-2 c = let s = c .before .before in let e = c .before .match .keys2 in reversal-at (s .args .n) (s .pre .below) (s .args .a) 81 _ (omega arith) (rw e refl) (c .overturned2 .ensures)
+returns-2 c = let s = c .before .before in let e = c .before .match .keys2 in c .overturned2 .ensures (s .args .a) (omega arith) (rw e refl)
 
 returns-3 : tie.Need-returns-3
-returns-3 c = let s = c .before .before in let e = c .before .match .keys3 in reversal-at (s .args .n) (s .pre .below) (s .args .a) 27 _ (omega arith) (rw e refl) (c .overturned3 .ensures)
+returns-3 c = let s = c .before .before in let e = c .before .match .keys3 in c .overturned3 .ensures (s .args .a) (omega arith) (rw e refl)
 
 returns-4 : tie.Need-returns-4
-returns-4 c = let s = c .before .before in let e = c .before .match .keys4 in reversal-at (s .args .n) (s .pre .below) (s .args .a) 9 _ (omega arith) (rw e refl) (c .overturned4 .ensures)
+returns-4 c = let s = c .before .before in let e = c .before .match .keys4 in c .overturned4 .ensures (s .args .a) (omega arith) (rw e refl)
 
 returns-5 : tie.Need-returns-5
-returns-5 c = let s = c .before .before in let e = c .before .match .keys5 in reversal-at (s .args .n) (s .pre .below) (s .args .a) 3 _ (omega arith) (rw e refl) (c .overturned5 .ensures)
+returns-5 c = let s = c .before .before in let e = c .before .match .keys5 in c .overturned5 .ensures (s .args .a) (omega arith) (rw e refl)
 
 returns-6 : tie.Need-returns-6
-returns-6 c = let s = c .before .before in let h = s .pre .few in let r = c .before .match .rest in let e = sixth (s .args .a) (omega arith) (r .0 .0 .0 .0 .1) (r .0 .0 .0 .1) (r .0 .0 .1) (r .0 .1) (r .1) in reversal-at (s .args .n) (s .pre .below) (s .args .a) 1 _ (omega arith) (rw e refl) (c .overturned6 .ensures)
+returns-6 c = let s = c .before .before in let h = s .pre .few in let r = c .before .match .rest in let e = sixth (s .args .a) (omega arith) (r .0 .0 .0 .0 .1) (r .0 .0 .0 .1) (r .0 .0 .1) (r .0 .1) (r .1) in c .overturned6 .ensures (s .args .a) (omega arith) (rw e refl)
 
 pub reversal-source-spec : {M : Type 1} → statement M
 reversal-source-spec =

@@ -1,8 +1,7 @@
 -- `traded`: two digits trade places.
 use mathlib.Core.Path.{refl}
 use native.Mathlib.Omega.{arith}
-use Rattle.preimages.specs.Weights as Weights
-use Rattle.preimages.proofs.WeightLaws.{Fits, change-fits}
+use Rattle.preimages.proofs.WeightLaws.{Fits, change-fits, traded, exchange-at}
 use Rattle.preimages.proofs.traded.Statement.{statement}
 use Rattle.preimages.proofs.traded.Tie as tie
 
@@ -49,8 +48,8 @@ sub-result : tie.Need-sub-result
 sub-result c = let f = fits c in let p = c .pre in omega arith
 
 returns : tie.Need-returns
-unfolding Weights.traded
-returns c = refl
+unfolding traded
+returns c = λ a h e. exchange-at (c .args .n) (c .pre .below) a (c .args .w) _ h e refl
 
 pub traded-spec : {M : Type 1} → statement M
 traded-spec =

@@ -1,7 +1,7 @@
 -- `mark_part`: the part is cut and marked; then every pair of accesses is looked at.
 use borrow.Author.Tests.{not-false}
 use Rattle.squeeze.proofs.FewLaws.{unsaid}
-use Rattle.squeeze.proofs.SqueezeLaws.{cut-in, corner-in, cover-in, lines-known}
+use Rattle.squeeze.proofs.SqueezeLaws.{cut-in, part-in, cover-in, lines-known}
 use borrow.Author.Needs.{needs}
 use Rattle.squeeze.proofs.mark_part.Statement.{statement}
 use Rattle.squeeze.proofs.mark_part.Tie as tie
@@ -28,7 +28,7 @@ slice-aggregate-mark-few : tie.Need-slice-aggregate-mark-few
 slice-aggregate-mark-few c = search needs
 
 mark-few-requires : tie.Need-mark-few-requires
-mark-few-requires c κs = let s = c .before .before .before .before .before .before .before .before .before .before .before .before .before in let f = c .before .before .before .before .before .before .before .before .before .copy in let k = c .before .before .before .before .before .cut-part in let w = c .before .before .with-counts in corner-in (s .args .outline) (s .args .limits .now) (s .args .words .now) (s .args .marks .now) (s .pre .0) (s .args .ranges) (s .pre .1) _ (f .ensures) _ _ (k .ensures) (w .result) (w .ensures)
+mark-few-requires c κs = let s = c .before .before .before .before .before .before .before .before .before .before .before .before .before in let f = c .before .before .before .before .before .before .before .before .before .copy in let k = c .before .before .before .before .before .cut-part in let w = c .before .before .with-counts in part-in (s .args .outline) (s .args .limits .now) (s .args .words .now) (s .args .marks .now) (s .pre .0) (s .args .ranges) (s .pre .1) _ (f .ensures) _ _ (k .ensures) (w .result) (w .ensures)
 
 same-length : tie.Need-same-length
 same-length c = search needs

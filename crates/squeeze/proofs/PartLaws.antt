@@ -1,5 +1,5 @@
 -- A part of a nest, as its corner is. In order: the shape of a nest on flat slices (`nest-shaped`); the points of a narrower nest are points of the
--- other (`corner-points`); its sheet (`corner-sheet`, `corner-formed`); its lines are lines of the other (`corner-lines`).
+-- other (`part-points`); its sheet (`part-sheet`, `part-formed`); its lines are lines of the other (`part-lines`).
 use mathlib.Core.Path.{_≡_, refl, sym, ap, _∙_, subst}
 use mathlib.Core.List.{List, [], _∷_, _++_, map}
 use Prim.Native.Nat.{ℕ, zero, suc, _+_, _*_, _-_, _≤_, _<_}
@@ -58,8 +58,8 @@ module _ (s t : List ℤ) (c d : List ℕ) (depth : ℕ) (o : NestOk s c depth) 
   inside-too k (suc n) l outer [] g = absurd g
   inside-too k (suc n) l outer (x ∷ y) g = (h .inside k (omega arith) outer x (g .0), inside-too (suc k) n (omega arith) (outer ++ (x ∷ [])) y (g .1))
 
-  corner-points : (y : List ℤ) → Mem y (iterations (loopsFrom t d 0 depth)) → Mem y (iterations (loopsFrom s c 0 depth))
-  corner-points y m = iterations-inside (loopsFrom s c 0 depth) (nest-runs s c depth o) y .1
+  part-points : (y : List ℤ) → Mem y (iterations (loopsFrom t d 0 depth)) → Mem y (iterations (loopsFrom s c 0 depth))
+  part-points y m = iterations-inside (loopsFrom s c 0 depth) (nest-runs s c depth o) y .1
       (inside-too 0 depth (omega arith) [] y (iterations-inside (loopsFrom t d 0 depth) (nest-runs t d depth (h .nest)) y .0 m))
 
 -- ---- its sheet
@@ -88,8 +88,8 @@ module _ (P : Sheet) (t : List ℤ) (d : List ℕ) (h : SheetIn P) (g : Narrower
   same-loops : length (nestOf C .loops) ≡ length (nestOf P .loops)
   same-loops = depth-is C ∙ sym (depth-is P)
 
-  pub corner-sheet : SheetIn C
-  corner-sheet = record {
+  pub part-sheet : SheetIn C
+  part-sheet = record {
     nest = g .nest;
     some = h .some;
     accesses-ok = h .accesses-ok;
@@ -119,8 +119,8 @@ module _ (P : Sheet) (t : List ℤ) (d : List ℕ) (h : SheetIn P) (g : Narrower
   unfolding nestOf
   same-arrays = refl
 
-  pub corner-formed : WellFormed (nestOf P) → WellFormed (nestOf C)
-  corner-formed w = record {
+  pub part-formed : WellFormed (nestOf P) → WellFormed (nestOf C)
+  part-formed w = record {
     shaped = shape;
     runs = run;
     fits = rw (same-arrays, same-loops, same-statements) (w .fits);
@@ -128,20 +128,20 @@ module _ (P : Sheet) (t : List ℤ) (d : List ℕ) (h : SheetIn P) (g : Narrower
 
   points-too : (y : List ℤ) → Mem y (iterations (nestOf C .loops)) → Mem y (iterations (nestOf P .loops))
   unfolding nestOf
-  points-too y m = corner-points (P .limits) t (P .counts) d (P .depth) (h .nest) g y m
+  points-too y m = part-points (P .limits) t (P .counts) d (P .depth) (h .nest) g y m
 
   -- no subscript leaves its extent at fewer points
-  pub corner-inside : inArrays (nestOf P .arrays) (iterations (nestOf P .loops)) 1 (nestOf P .statements) ≡ accepted tt → inArrays (nestOf C .arrays) (iterations (nestOf C .loops)) 1 (nestOf C .statements) ≡ accepted tt
+  pub part-inside : inArrays (nestOf P .arrays) (iterations (nestOf P .loops)) 1 (nestOf P .statements) ≡ accepted tt → inArrays (nestOf C .arrays) (iterations (nestOf C .loops)) 1 (nestOf C .statements) ≡ accepted tt
   unfolding strays
-  corner-inside e = rw (same-arrays, same-statements) (accepted-arrays (nestOf P .arrays) (iterations (nestOf C .loops)) 1 (nestOf P .statements)
+  part-inside e = rw (same-arrays, same-statements) (accepted-arrays (nestOf P .arrays) (iterations (nestOf C .loops)) 1 (nestOf P .statements)
       (λ s m r. false-not-T (strays (nestOf P .arrays) (r .point) (r .access))
       (arrays-inside (nestOf P .arrays) (iterations (nestOf P .loops)) 1 (nestOf P .statements) e s m (r .point) (points-too (r .point) (r .reached)) (r .access) (r .of))
       (off-outside (extents (nestOf P .arrays) (r .access .array)) (map (subscriptAt (r .point)) (r .access .subscripts)) (r .off))))
 
   -- ---- its lines
 
-  pub corner-lines : (l : Line) → Mem l (linesOf (nestOf C)) → Mem l (linesOf (nestOf P))
-  corner-lines l m =
+  pub part-lines : (l : Line) → Mem l (linesOf (nestOf C)) → Mem l (linesOf (nestOf P))
+  part-lines l m =
       let r = linesOf-exact (nestOf C) l .0 m in
       let f = r .0 in
       let q = r .1 in
