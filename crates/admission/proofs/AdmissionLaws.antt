@@ -1,8 +1,9 @@
 -- The survey is the model's `space`; after it the search for a stray subscript is the rest of the model's `admitted`.
-use mathlib.Core.Path.{_≡_, sym, _∙_, ap, subst}
+use mathlib.Core.Path.{_≡_, refl, sym, _∙_, ap, subst}
 use mathlib.Core.List.{List}
-use Prim.Native.Nat.{ℕ, zero, suc, _≤_, _<_}
+use Prim.Native.Nat.{ℕ, zero, suc, _*_, _≤_, _<_}
 use native.Mathlib.Omega.{arith}
+use native.Mathlib.Nat.{mul-le-mul-left}
 use lib.IntN.{ℤ}
 use lib.ListN.{length}
 use Rattle.model.specs.Answer.{Answer, accepted, refused, _>>_, _>>=_}
@@ -10,7 +11,7 @@ use Rattle.model.specs.Bounds.{survey, space, inArrays, admitted}
 use Rattle.model.specs.Points.{iterations}
 use Rattle.reading.specs.declared.Refusal.{Refusal}
 use Rattle.reading.specs.declared.Refusal.the-variants.{IndexOutOfRange, TooManyPoints, SubscriptOutOfBounds}
-use Rattle.reading.specs.declared.Status.the-variants as Status
+use Rattle.reading.specs.declared.Status.{Status}
 use Rattle.reading.specs.Refusals.{refusal}
 use Rattle.space.specs.Surveys as Space
 use Rattle.space.specs.declared.Verdict.{Verdict}
@@ -22,7 +23,7 @@ use Rattle.sheet.specs.Stages.{Surveyed, ListIn, PointsAre, Searched}
 use Rattle.sheet.proofs.StageLaws.{depth-is}
 use Rattle.admission.specs.declared.Counted.{Counted}
 use Rattle.admission.specs.declared.Counted.the-variants.{Points, Refused}
-use Rattle.admission.specs.Admission.{answerOf, passed, Counts, FindIn, EnumerateIn, Enumerates}
+use Rattle.admission.specs.Admission.{answerOf, passed, Counts, Admits, Waits, FindIn, EnumerateIn, Enumerates}
 
 -- a refusal is no count of points
 pub not-points : {A : Type 0} (r : Refusal) (n : ℕ) → Refused r ≡ Points n → A
@@ -54,30 +55,50 @@ module _ (P : Sheet) (v : Verdict) (g : Surveyed P 32767 4096 v) where
 
 -- ---- 9
 
-module _ (P : Sheet) (o : List ℤ) (h : EnumerateIn P (length o)) where
-  pub list-in : ListIn P (length o)
-  list-in = record {
-    sheet = h .sheet;
-    near = admitted-near (nestOf P .loops) (h .spacious);
-    few = admitted-few (nestOf P .loops) (let d = depth-is P in let s = h .sheet .some in omega arith) (h .spacious);
-    fits = h .fits;
+-- a search that found statement r, or none
+pub stray-out : (r : ℕ) → 0 < r → refusal (SubscriptOutOfBounds r) ≡ Elements.answerOf r
+stray-out zero z = absurd (omega arith)
+stray-out (suc r) z = refl
+
+pub none-out : (r : ℕ) → r ≤ 0 → accepted tt ≡ Elements.answerOf r
+none-out zero z = refl
+none-out (suc r) z = absurd (omega arith)
+
+pub admits-by : (P : Sheet) → space (nestOf P .loops) ≡ accepted tt → (r : ℕ) → Searched P r → (s : Status) → passed s ≡ Elements.answerOf r → Admits P s
+unfolding admitted _>>_ _>>=_
+admits-by P h r f s g = g ∙ f ∙ sym (ap (_>> inArrays (nestOf P .arrays) (iterations (nestOf P .loops)) 1 (nestOf P .statements)) h)
+
+-- room for the points
+
+pub list-in : (P : Sheet) (room : ℕ) → EnumerateIn P room → ListIn P room
+list-in P room h = record {
+  sheet = h .sheet;
+  near = admitted-near (nestOf P .loops) (h .spacious);
+  few = admitted-few (nestOf P .loops) (let d = depth-is P in let s = h .sheet .some in omega arith) (h .spacious);
+  fits = h .fits;
+}
+
+module _ (P : Sheet) (n : ℕ) (h : Waits P n) where
+  pub enumerate-in : (room : ℕ) → n * 4 ≤ room → EnumerateIn P room
+  enumerate-in room f = record {
+    sheet = h .nest .sheet;
+    spacious = h .nest .spacious;
+    fits = let a = mul-le-mul-left n (h .shallow) in subst (λ (k : ℕ). k * P .depth ≤ room) (h .count) (omega arith);
   }
 
-  rest : admitted (nestOf P) ≡ inArrays (nestOf P .arrays) (iterations (nestOf P .loops)) 1 (nestOf P .statements)
-  unfolding admitted _>>_ _>>=_
-  rest = ap (_>> inArrays (nestOf P .arrays) (iterations (nestOf P .loops)) 1 (nestOf P .statements)) (h .spacious)
+  pub few-points : n ≤ 4096
+  few-points = let s = h .nest .sheet .some in let d = depth-is P in let c = h .count in let f = admitted-few (nestOf P .loops) (omega arith) (h .nest .spacious) in omega arith
 
-  module _ (e : List ℤ) (n : ℕ) (f : PointsAre P e n × (length e ≡ length o)) where
-    pub find-in : FindIn P e n
-    find-in = record { stray = record { sheet = h .sheet; points-are = f .0 }; spacious = h .spacious }
+  pub enumerate-many : EnumerateIn P 16384
+  enumerate-many = let f = few-points in enumerate-in 16384 (omega arith)
 
-    points : PointsAre P e (length (iterations (nestOf P .loops)))
-    points = subst (PointsAre P e) (f .0 .count) (f .0)
+module _ (P : Sheet) (o : List ℤ) (h : EnumerateIn P (length o)) (e : List ℤ) (n : ℕ) (f : PointsAre P e n × (length e ≡ length o)) where
+  pub find-in : FindIn P e n
+  find-in = record { stray = record { sheet = h .sheet; points-are = f .0 }; spacious = h .spacious }
 
-    pub stray-out : (r : ℕ) → Searched P r → 0 < r → Enumerates P o e (Status.Refused (SubscriptOutOfBounds r))
-    stray-out zero s z = absurd (omega arith)
-    stray-out (suc r) s z = record { same = s ∙ sym rest; points = points; room = f .1 }
-
-    pub admitted-out : (r : ℕ) → Searched P r → r ≤ 0 → Enumerates P o e Status.Fine
-    admitted-out zero s z = record { same = s ∙ sym rest; points = points; room = f .1 }
-    admitted-out (suc r) s z = absurd (omega arith)
+  pub enumerated : (r : ℕ) → Searched P r → (s : Status) → passed s ≡ Elements.answerOf r → Enumerates P o e s
+  enumerated r g s q = record {
+    same = admits-by P (h .spacious) r g s q;
+    points = subst (PointsAre P e) (f .0 .count) (f .0);
+    room = f .1;
+  }

@@ -7,6 +7,7 @@ use lib.ListN.{length}
 use Rattle.model.specs.Answer.{Answer, accepted}
 use Rattle.model.specs.Points.{iterations}
 use Rattle.model.specs.Bounds.{space, admitted}
+use Rattle.model.specs.Shape.{WellFormed}
 use Rattle.reading.specs.Refusals.{refusal}
 use Rattle.reading.specs.declared.Status.{Status}
 use Rattle.reading.specs.declared.Status.the-variants as Status
@@ -24,9 +25,25 @@ pub record Counts (P : Sheet) (r : Counted) : Type 0 where
   pub same : answerOf r ≡ space (nestOf P .loops)
   pub count : (n : ℕ) → r ≡ Points n → n ≡ length (iterations (nestOf P .loops))
 
+-- 7 to 9
 abbrev pub passed : Status → Answer (Unit {0})
 passed Status.Fine = accepted tt
 passed (Status.Refused r) = refusal r
+
+abbrev pub Admits : Sheet → Status → Type 0
+Admits P r = passed r ≡ admitted (nestOf P)
+
+-- a nest that passes 7 and 8
+pub record Spacious (P : Sheet) : Type 0 where
+  pub sheet : SheetIn P
+  pub formed : WellFormed (nestOf P)
+  pub spacious : space (nestOf P .loops) ≡ accepted tt
+
+-- it waits for 9: it has n points, of at most four indices each
+pub record Waits (P : Sheet) (n : ℕ) : Type 0 where
+  pub nest : Spacious P
+  pub shallow : P .depth ≤ 4
+  pub count : n ≡ length (iterations (nestOf P .loops))
 
 -- a nest that passes 7 and 8, and its n points
 pub record FindIn (P : Sheet) (points : List ℤ) (n : ℕ) : Type 0 where
@@ -41,6 +58,6 @@ pub record EnumerateIn (P : Sheet) (room : ℕ) : Type 0 where
 
 -- the slice o became e; it has the points
 pub record Enumerates (P : Sheet) (o e : List ℤ) (r : Status) : Type 0 where
-  pub same : passed r ≡ admitted (nestOf P)
+  pub same : Admits P r
   pub points : PointsAre P e (length (iterations (nestOf P .loops)))
   pub room : length e ≡ length o

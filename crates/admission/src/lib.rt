@@ -1,9 +1,10 @@
 // Whether a nest on its sheet is admitted: refusals 7 and 8 and the count of its points, then its points and refusal 9.
 ghost use mathlib.Core.Path.{_≡_};
 ghost use lib.ListN.{length};
+ghost use Rattle.elements.specs.Search.{answerOf};
 ghost use Rattle.sheet.specs.Sheets.{sheetOf, SheetIn};
 ghost use Rattle.sheet.specs.Stages.{Searched};
-ghost use Rattle.admission.specs.Admission.{Counts, FindIn, EnumerateIn, Enumerates};
+ghost use Rattle.admission.specs.Admission.{Counts, FindIn, passed, EnumerateIn, Admits, Enumerates};
 use reading::Refusal;
 use reading::Status;
 use sheet::Outline;
@@ -45,15 +46,44 @@ fn find_stray(
     sheet::find_stray(outline, limits, words, points, count)
 }
 
+// Refusal 9 by what was found.
+fn answer(stray: usize) -> Status
+    ensures { λ r. ⌜ passed r ≡ answerOf stray ⌝ }
+{
+    if 0 < stray {
+        return Status::Refused(Refusal::SubscriptOutOfBounds(stray));
+    }
+    Status::Fine
+}
+
 // Writes the points row by row in order, then looks for a subscript that leaves its extent.
 pub fn enumerate(outline: Outline, limits: &[i16], words: &[i16], points: &mut [i64]) -> Status
     requires { ⌜ EnumerateIn (sheetOf outline (now limits) (now words)) (length (now points)) ⌝ }
     ensures { λ r. ⌜ Enumerates (sheetOf outline (now (limits .entry)) (now (words .entry))) (now (points .entry)) (now (points .exit)) r ⌝ }
 {
     let count = sheet::list_points(outline, limits, words, points);
-    let stray = find_stray(outline, limits, words, points, count);
-    if 0 < stray {
-        return Status::Refused(Refusal::SubscriptOutOfBounds(stray));
+    answer(find_stray(outline, limits, words, points, count))
+}
+
+// The same of few points, which are not kept.
+pub fn admit_few(outline: Outline, limits: &[i16], words: &[i16]) -> Status
+    requires { ⌜ EnumerateIn (sheetOf outline (now limits) (now words)) 1024 ⌝ }
+    ensures { λ r. ⌜ Admits (sheetOf outline (now (limits .entry)) (now (words .entry))) r ⌝ }
+{
+    let mut points = [0i64; 1024];
+    enumerate(outline, limits, words, &mut points)
+}
+
+// The same of many points: without them, where the ranges of the loops show that refusal 9 is passed. Apart from `admit_few`, whose callers would
+// walk through the room for many points page by page too.
+pub fn admit_many(outline: Outline, limits: &[i16], words: &[i16]) -> Status
+    requires { ⌜ EnumerateIn (sheetOf outline (now limits) (now words)) 16384 ⌝ }
+    ensures { λ r. ⌜ Admits (sheetOf outline (now (limits .entry)) (now (words .entry))) r ⌝ }
+{
+    if enclosure::stays_inside(outline, limits, words) {
+        return Status::Fine;
     }
-    Status::Fine
+    let mut points = [0i64; 16384];
+    let count = sheet::list_points(outline, limits, words, &mut points);
+    answer(sheet::find_stray(outline, limits, words, &points, count))
 }

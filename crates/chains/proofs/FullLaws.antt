@@ -1,10 +1,10 @@
--- All that two accesses can set: the loop that looks for it, and the search that is left because it is there.
+-- All that two accesses can set: the look for what is missing, and the search that is left because nothing is.
 use mathlib.Core.Path.{_≡_, refl, sym, ap, _∙_, subst}
-use mathlib.Core.Bool.{Bool, true, false, _||_}
+use mathlib.Core.Bool.{Bool, true, false, _||_, true≢false}
 use mathlib.Core.Logic.{_⊎_, inl, inr, ⊎-elim}
 use mathlib.Core.List.{List, [], _∷_}
 use Prim.Native.Nat.{ℕ, zero, suc, _+_, _*_, _-_, _/_, _≤_, _<_}
-use native.Mathlib.Nat.{eq-or-lt-of-le}
+use native.Mathlib.Nat.{eq-or-lt-of-le, add-mul, one-mul, lt-of-mul-lt-mul-right}
 use native.Mathlib.Omega.{arith}
 use native.Mathlib.Decide.{decLt}
 use lib.Dec.{T, eqb, eqb→eq}
@@ -22,30 +22,76 @@ use Rattle.model.specs.Directions.{signs}
 use Rattle.model.specs.Inside.{Earlier}
 use Rattle.vectors.specs.Numbers.{number}
 use Rattle.vectors.specs.Candidates.{row, code, stride, Agree, Steady}
-use Rattle.chains.specs.Search.{some, latest, upTo, Links, hit, found, Adds, Level, LevelElse, Full, Searchable, Followable}
+use Rattle.chains.specs.Search.{some, latest, upTo, Links, hit, found, Adds, Level, LevelElse, FullBelow, Full, Passed, Searchable, Followable}
 use Rattle.chains.proofs.SomeLaws.{some-there, there-some}
 use Rattle.chains.proofs.ChainLaws.{latest-there, upTo-le}
 use Rattle.vectors.proofs.NumberLaws.{number-self, number-earlier, signs-length}
-use Rattle.vectors.proofs.DepthLaws.{OfDepth, depth-number, depth-least, depth-apart}
+use Rattle.vectors.proofs.DepthLaws.{OfDepth, depth-number, depth-positive, depth-first, depth-least}
 use Rattle.vectors.proofs.VectorLaws.{row-length}
 use Rattle.vectors.proofs.CandidateLaws.{agreed-steady}
 
--- ---- the loop
+-- ---- the steps of a look
 
--- those of numbers below v
-abbrev pub FullBelow : ℕ → List Bool → ℕ → List Bool → ℕ → Type 0
-FullBelow d varying base m v = (u : List Sign) → length u ≡ d → Steady varying u → number u < v → getD m (base + number u) false ≡ true
+module _ (varying : List Bool) (base : ℕ) (m : List Bool) (s v : ℕ) where
+  pub none-passed : Passed varying base m s v v
+  none-passed = record { steps = 0; reached = omega arith; marked = λ u t h. absurd (omega arith) }
 
-module _ (d s : ℕ) (e : s ≡ stride (6 - d)) (varying : List Bool) (base : ℕ) (m : List Bool) where
-  pub full-first : FullBelow d varying base m ((s - 1) / 2)
-  full-first u l steady h = let a = depth-least d s e (number u) (depth-number u d l) in absurd (omega arith)
+  pub one-passed : (w : ℕ) → ((u : List Sign) → length u ≤ 6 → Steady varying u → number u ≡ w → getD m (base + w) false ≡ true) → Passed varying base m s v w → Passed varying base m s v (w + s)
+  one-passed w h p = record {
+    steps = p .steps + 1;
+    reached = (let a = p .reached in let b = add-mul (p .steps) 1 s in let c = one-mul s in omega arith);
+    marked = λ u t k l steady e. ⊎-elim
+        (λ i. let f : number u ≡ w = e ∙ ap (λ (z : ℕ). v + z * s) i ∙ sym (p .reached) in subst (λ z. getD m (base + z) false ≡ true) (sym f) (h u l steady f))
+        (λ i. p .marked u t i l steady e)
+        (eq-or-lt-of-le (let z : t ≤ p .steps = omega arith in z));
+  }
 
-  pub full-next : (v : ℕ) → OfDepth d v → ((u : List Sign) → length u ≡ d → Steady varying u → number u ≡ v → getD m (base + v) false ≡ true) → FullBelow d varying base m v → FullBelow d varying base m (v + s)
-  full-next v o h f u l steady g = elim (decLt (number u) v) [
-    | yes k ↦ f u l steady k
-    | no k ↦ ⊎-elim (λ i. subst (λ z. getD m (base + z) false ≡ true) i (h u l steady (sym i))) (λ i. let a = depth-apart d s e v (number u) o (depth-number u d l) i in absurd (omega arith))
-        (eq-or-lt-of-le (let z : v ≤ number u = omega arith in z))
+-- ---- the look for the vectors of a depth
+
+-- v is the number of a vector of d loops, or beyond them all, and those before it are marked; it is the first as long as it is not known which loops vary
+pub record Looking (d s : ℕ) (varying : List Bool) (base : ℕ) (m : List Bool) (known : Bool) (v : ℕ) : Type 0 where
+  pub at : OfDepth d v
+  pub full : FullBelow d varying base m v
+  pub first : known ≡ false → v ≡ (s - 1) / 2
+
+module _ (d s : ℕ) (e : s ≡ stride (6 - d)) where
+  same-steps : (t : ℕ) → t * s ≡ t * stride (6 - d)
+  same-steps t = ap (t *_) e
+
+  depth-after : (v t : ℕ) → OfDepth d v → OfDepth d (v + t * s)
+  depth-after v t p = (p .0 + t, let a = add-mul (p .0) t (stride (6 - d)) in let b = p .1 in let c = same-steps t in omega arith)
+
+  depth-steps : (v w : ℕ) → OfDepth d v → OfDepth d w → v ≤ w → (t : ℕ) × (w ≡ v + t * s)
+  depth-steps v w p q h = elim (decLt (q .0) (p .0)) [
+    | yes k ↦ let a = p .1 in let b = q .1 in let c = row-fits (stride (6 - d)) (q .0) (p .0) k in let f = depth-positive d s e in absurd (omega arith)
+    | no k ↦ let l : p .0 + (q .0 - p .0) ≡ q .0 = omega arith in
+        (q .0 - p .0, let a = p .1 in let b = q .1 in let c = add-mul (p .0) (q .0 - p .0) (stride (6 - d)) in let g = ap (_* stride (6 - d)) l in let f = same-steps (q .0 - p .0) in omega arith)
   ]
+
+  full-first : (varying : List Bool) (base : ℕ) (m : List Bool) → FullBelow d varying base m ((s - 1) / 2)
+  full-first varying base m u l steady h = let a = depth-least d s e (number u) (depth-number u d l) in absurd (omega arith)
+
+  module _ (varying : List Bool) (base : ℕ) (m : List Bool) where
+    pub look-begins : Looking d s varying base m false ((s - 1) / 2)
+    look-begins = record { at = depth-first d s e; full = full-first varying base m; first = λ _. refl }
+
+    module _ (v : ℕ) where
+      pub look-again : (m′ : List Bool) (f : ℕ → Bool) (known : Bool) → Adds m m′ f → Looking d s varying base m known v → Looking d s varying base m′ known v
+      look-again m′ f known a p = record { at = p .at; full = λ u l steady h. a (base + number u) ∙ ap (_|| f (base + number u)) (p .full u l steady h); first = p .first }
+
+      -- the loops that vary become known
+      pub look-known : (varying′ : List Bool) → Looking d s varying base m false v → Looking d s varying′ base m true v
+      look-known varying′ p = record { at = p .at; full = subst (FullBelow d varying′ base m) (sym (p .first refl)) (full-first varying′ base m); first = λ i. absurd (true≢false i) }
+
+      pub look-goes-on : (r : ℕ) → d ≤ 6 → Passed varying base m s v r → Looking d s varying base m true v → Looking d s varying base m true r
+      look-goes-on r h g p = record { at = subst (OfDepth d) (sym (g .reached)) (depth-after v (g .steps) (p .at)); full = below; first = λ i. absurd (true≢false i) }
+        where
+          below : FullBelow d varying base m r
+          below u l steady k = elim (decLt (number u) v) [
+            | yes i ↦ p .full u l steady i
+            | no i ↦ let t = depth-steps v (number u) (p .at) (depth-number u d l) (omega arith) in
+                g .marked u (t .0) (let a = g .reached in let b = t .1 in lt-of-mul-lt-mul-right s (omega arith)) (omega arith) steady (t .1)
+          ]
 
 -- ---- points in order
 

@@ -2,7 +2,7 @@
 use mathlib.Core.Path.{_≡_, refl, sym, ap, _∙_}
 use mathlib.Core.Bool.{Bool, false, _&&_, _||_}
 use mathlib.Core.List.{List}
-use Prim.Native.Nat.{ℕ, _+_, _-_, _≤_, _<_}
+use Prim.Native.Nat.{ℕ, _+_, _*_, _-_, _≤_, _<_}
 use native.Mathlib.Nat.{mul-le-mul-right}
 use native.Mathlib.Omega.{arith}
 use lib.Dec.{eqb}
@@ -18,7 +18,7 @@ module _ (s : List ℤ) (d : ℕ) (from to : List ℕ) (own : Bool) (base : ℕ)
   -- the marks of all sinks below y are set
   pub record Searching (next start : List ℕ) (m₀ m : List Bool) (spent y : ℕ) : Type 0 where
     pub inside : y ≤ length from
-    pub light : spent ≤ 729
+    pub light : spent ≤ y * 4096
     pub same-length : length m ≡ length m₀
     pub table : length from ≤ length next
     pub nexts : Links from from false next
@@ -61,7 +61,7 @@ module _ (s : List ℤ) (d : ℕ) (from to : List ℕ) (own : Bool) (base : ℕ)
         le-refl : (n : ℕ) → n ≤ n
         le-refl n = omega arith
 
-    pub search-turns : (m′ : List Bool) (spent′ : ℕ) → length m′ ≡ length m → spent′ ≤ 729 → Adds m m′ (walked d s next base y first) → Searching next start m₀ m′ spent′ (y + 1)
+    pub search-turns : (m′ : List Bool) (spent′ : ℕ) → length m′ ≡ length m → spent′ ≤ (y + 1) * 4096 → Adds m m′ (walked d s next base y first) → Searching next start m₀ m′ spent′ (y + 1)
     unfolding found
     search-turns m′ spent′ l t a = record {
       inside = omega arith;
@@ -89,7 +89,7 @@ module _ (s : List ℤ) (d : ℕ) (from to : List ℕ) (own : Bool) (base : ℕ)
   pub search-skips : (next start : List ℕ) (m₀ m : List Bool) (spent y r : ℕ) → NextLinked start y (length from) r → Searching next start m₀ m spent y → Searching next start m₀ m spent r
   search-skips next start m₀ m spent y r g w = record {
     inside = g .inside;
-    light = w .light;
+    light = (let a = g .after in let b = w .light in omega arith);
     same-length = w .same-length;
     table = w .table;
     nexts = w .nexts;

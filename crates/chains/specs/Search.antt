@@ -115,9 +115,19 @@ pub record Tabled (s : List ℤ) (d n : ℕ) (links : List ℕ) : Type 0 where
 
 -- ---- all marks that two accesses can set
 
--- every vector of d loops that does not point backwards and is = at the loops that do not vary is marked, that of = alone only where it can be
+-- every vector of d loops with a number below v that is = at the loops that do not vary is marked
+abbrev pub FullBelow : ℕ → List Bool → ℕ → List Bool → ℕ → Type 0
+FullBelow d varying base m v = (u : List Sign) → length u ≡ d → Steady varying u → number u < v → getD m (base + number u) false ≡ true
+
+-- so is every one that does not point backwards, that of = alone only where it can be
 abbrev pub Full : ℕ → List Bool → Bool → ℕ → List Bool → Type 0
-Full d varying own base m = (u : List Sign) → length u ≡ d → Steady varying u → number u < upTo own 364 → getD m (base + number u) false ≡ true
+Full d varying own base m = FullBelow d varying base m (upTo own 364)
+
+-- from the number v on r is reached by steps of s, and on the way every vector that is = at the loops that do not vary is marked
+pub record Passed (varying : List Bool) (base : ℕ) (m : List Bool) (s v r : ℕ) : Type 0 where
+  pub steps : ℕ
+  pub reached : r ≡ v + steps * s
+  pub marked : (u : List Sign) (t : ℕ) → t < steps → length u ≤ 6 → Steady varying u → number u ≡ v + t * s → getD m (base + number u) false ≡ true
 
 -- ---- what the search of two accesses asks
 

@@ -2,9 +2,9 @@
 ghost use mathlib.Core.Path.{_≡_};
 ghost use mathlib.Core.Bool.{true, false};
 ghost use Prim.Native.Nat.{_+_, _-_, _≤_, _<_};
-ghost use lib.ListN.{length};
+ghost use lib.ListN.{length, getD};
 ghost use Rattle.vectors.specs.Candidates.{stride};
-ghost use Rattle.chains.specs.Search.{Below, Links, Unlinked, NextLinked, Clear, ClearElse, Linkable, Linked, Followable, upTo, Adds, walked, Walkable, Level, LevelElse, Tabled, Full, found, Searchable};
+ghost use Rattle.chains.specs.Search.{Below, Links, Unlinked, NextLinked, Clear, ClearElse, Linkable, Linked, Followable, upTo, Adds, walked, Walkable, Level, LevelElse, Tabled, Passed, found, Searchable};
 
 // ---- chains of points by element
 
@@ -140,23 +140,28 @@ fn vary(
     }
 }
 
-// Whether every vector of the depth that the search of two accesses can find is marked: it is = at the loops that do not vary.
-fn full(marks: &[bool], base: usize, depth: usize, varying: &[bool], own: bool) -> bool
-    requires { ⌜ (base + 729 ≤ length (now marks)) × (depth ≤ 6) × (length (now varying) ≡ 6) ⌝ }
-    ensures { λ r. ⌜ (r ≡ true → Full depth (now (varying .entry)) own base (now (marks .entry))) ⌝ }
+// The first vector from v on, a step after another, that the search of two accesses can find and that is not marked, or where the vectors end.
+fn missing(
+    marks: &[bool],
+    base: usize,
+    v: usize,
+    end: usize,
+    step: usize,
+    varying: &[bool],
+) -> usize
+    requires { ⌜ (base + end ≤ length (now marks)) × (0 < step) × (step ≤ 729) × (length (now varying) ≡ 6) ⌝ }
+    ensures { λ r. ⌜ Passed (now (varying .entry)) base (now (marks .entry)) step v r × (r < end → getD (now (marks .entry)) (base + r) false ≡ false) ⌝ }
 {
-    let end = limit(own);
-    let step = vectors::stride(depth);
-    let mut v = (step - 1) / 2;
-    while v < end {
-        if !marks[base + v] {
-            if vectors::candidate(v, varying) {
-                return false;
+    let mut w = v;
+    while w < end {
+        if !marks[base + w] {
+            if vectors::candidate(w, varying) {
+                return w;
             }
         }
-        v += step;
+        w += step;
     }
-    true
+    w
 }
 
 // The first sink from y on that has a source, or the end.
@@ -174,8 +179,8 @@ fn linked(start: &[u16], y: usize, end: usize) -> usize
     i
 }
 
-// Marks the vectors of all sinks with the sources on their chains. Left once there is nothing more to find, which is looked at as often
-// as the walks pay for it.
+// Marks the vectors of all sinks with the sources on their chains. Left once there is nothing more to find. The look for what is missing begins when
+// the walks have paid for finding out which loops vary, and goes on once what was missing is marked.
 fn follow(
     points: &[i64],
     depth: usize,
@@ -191,22 +196,28 @@ fn follow(
     ensures { λ _. ⌜ Adds (now (marks .entry)) (now (marks .exit)) (found depth (now (points .entry)) (length (now (from .entry))) (now (from .entry)) (now (to .entry)) own base) ⌝ }
 {
     let step = vectors::stride(depth);
+    let end = limit(own);
     let mut varying = [false; 6];
     let mut known = false;
+    let mut v = (step - 1) / 2;
     let mut spent = 0;
     let mut y = linked(start, 0, from.len());
     while y < from.len() {
         spent = spent + walk(points, depth, step, y, wide(start[y]), next, base, marks);
         y = linked(start, y + 1, from.len());
         if 64 < spent {
+            let mut stale = marks[base + v];
             if !known {
                 vary(points, depth, from.len(), next, start, &mut varying);
                 known = true;
+                stale = true;
             }
-            if full(marks, base, depth, &varying, own) {
-                return;
+            if stale {
+                v = missing(marks, base, v, end, step, &varying);
+                if end <= v {
+                    return;
+                }
             }
-            spent = 0;
         }
     }
 }

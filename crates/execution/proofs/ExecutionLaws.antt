@@ -6,20 +6,20 @@ use native.Mathlib.Omega.{arith}
 use native.Mathlib.Nat.{add-zero, zero-add, add-suc, suc-add, mul-le-mul}
 use lib.IntN.{ℤ}
 use lib.ListN.{length, getD}
+use Rattle.lists.specs.Parts.{rows}
 use Rattle.lists.proofs.MembershipLaws.{all-getD}
-use Rattle.model.specs.Ticket.{Access, Statement}
+use Rattle.model.specs.Ticket.{Statement}
 use Rattle.model.specs.Points.{iterations}
 use Rattle.model.specs.Bounds.{sprawl}
-use Rattle.model.specs.Machine.{element, bodyAt}
-use Rattle.model.specs.Store.{placeOf}
+use Rattle.model.specs.Machine.{bodyAt}
 use Rattle.space.proofs.SurveyLaws.{survey-near}
-use Rattle.sheet.specs.Sheets.{Sheet, sizesIn, statementsFrom, nestOf}
-use Rattle.sheet.specs.Stages.{ListIn, PointsAre, NumbersAre}
-use Rattle.sheet.proofs.SheetLaws.{sizes-count, access-is}
+use Rattle.sheet.specs.Sheets.{Sheet, sizesIn, statementsFrom, nestOf, SheetIn}
+use Rattle.sheet.specs.Stages.{ListIn, PointsAre, NumberIn, NumbersAre}
+use Rattle.sheet.proofs.SheetLaws.{sizes-count}
 use Rattle.store.specs.Runs.{RunIn}
 use Rattle.store.proofs.NestLaws.{statements-length}
-use Rattle.store.proofs.AdmittedLaws.{admitted-keep}
-use Rattle.execution.specs.Execution.{ExecuteIn}
+use Rattle.execution.specs.Execution.{Executable, ExecuteIn, PartIn}
+use Rattle.execution.proofs.PartLaws.{inside-part}
 
 -- the constant of statement j of those from statement i on
 constant-from : (P : Sheet) (k i j : ℕ) (ms : List ℕ) → j < length ms → bodyAt (statementsFrom P k i ms) j .constant ≡ getD (P .constants) (i + j) 0
@@ -27,6 +27,34 @@ unfolding bodyAt statementsFrom
 constant-from P k i j [] h = absurd (omega arith)
 constant-from P k i zero (m ∷ ms) h = ap (λ (x : ℕ). getD (P .constants) x 0) (sym (add-zero i))
 constant-from P k i (suc j) (m ∷ ms) h = constant-from P (k + m) (suc i) j ms (omega arith) ∙ ap (λ (x : ℕ). getD (P .constants) x 0) (suc-add i j ∙ sym (add-suc i j))
+
+module _ (P : Sheet) (s : SheetIn P) (g : Executable (nestOf P)) where
+  constant-is : (i : ℕ) → i < P .statements → bodyAt (nestOf P .statements) i .constant ≡ getD (P .constants) i 0
+  unfolding nestOf
+  constant-is i l = constant-from P 0 0 i (sizesIn P) (let n = sizes-count P s in omega arith) ∙ ap (λ (x : ℕ). getD (P .constants) x 0) (zero-add i)
+
+  word : (i : ℕ) → i < P .statements → getD (P .constants) i 0 < 2 ^ 32
+  unfolding nestOf bodyAt
+  word i l =
+      let m = statements-length P 0 0 (sizesIn P) in let n = sizes-count P s in let e = constant-is i l in
+      let f = all-getD (λ (x : Statement). x .constant ≤ 32767) (nestOf P .statements) i (record { rule = 0; constant = 0; writes = []; reads = [] }) (g .constants) (omega arith) in omega arith
+
+-- ---- a part of the points
+
+module _ (P : Sheet) (points : List ℤ) (n room : ℕ) (h : PartIn P points n room) where
+  pub number-in : (size : ℕ) → P .accesses * n ≤ size → NumberIn P points n size
+  number-in size l = record {
+    sheet = h .sheet;
+    formed = h .nest .formed;
+    stored = h .stored;
+    inside = inside-part (nestOf P .arrays) (iterations (nestOf P .loops)) (rows (P .depth) n points) (nestOf P .statements) (h .reached) (h .nest .inside);
+    fits = l;
+  }
+
+  pub run-in : (numbers : List ℕ) → NumbersAre P points n numbers → RunIn P points n numbers room
+  run-in numbers e = record { sheet = h .sheet; few = h .stored .bound; places = e; words = word P (h .sheet) (h .nest); whole = h .whole }
+
+-- ---- all points
 
 module _ (P : Sheet) (count room : ℕ) (h : ExecuteIn P count room) where
   pub few-points : count ≤ 4096
@@ -41,28 +69,6 @@ module _ (P : Sheet) (count room : ℕ) (h : ExecuteIn P count room) where
   pub listed : (points : List ℤ) (n : ℕ) → PointsAre P points n → PointsAre P points count
   listed points n p = subst (PointsAre P points) (p .count ∙ sym (h .counted)) p
 
-  -- numbers of 20 accesses at 4096 points are the most
-  pub few-numbers : P .accesses * count ≤ 81920
-  few-numbers = mul-le-mul {n₁ = P .accesses} {m₁ = count} {n₂ = 20} {m₂ = 4096} (h .sheet .few-accesses) few-points
-
-  constant-is : (i : ℕ) → i < P .statements → bodyAt (nestOf P .statements) i .constant ≡ getD (P .constants) i 0
-  unfolding nestOf
-  constant-is i g = constant-from P 0 0 i (sizesIn P) (let l = sizes-count P (h .sheet) in omega arith) ∙ ap (λ (x : ℕ). getD (P .constants) x 0) (zero-add i)
-
-  word : (i : ℕ) → i < P .statements → getD (P .constants) i 0 < 2 ^ 32
-  unfolding nestOf bodyAt
-  word i g =
-      let l = statements-length P 0 0 (sizesIn P) in let n = sizes-count P (h .sheet) in let e = constant-is i g in
-      let f = all-getD (λ (s : Statement). s .constant ≤ 32767) (nestOf P .statements) i (record { rule = 0; constant = 0; writes = []; reads = [] }) (h .nest .constants) (omega arith) in omega arith
-
-  pub run-in : (numbers : List ℕ) → NumbersAre P count numbers → RunIn P count numbers room
-  run-in numbers g = record {
-    sheet = h .sheet;
-    points = h .counted;
-    few = few-points;
-    space = g .room;
-    places = λ k x a b. g .are k x a b ∙ ap (λ (u : Access). placeOf (nestOf P .arrays) (element (getD (iterations (nestOf P .loops)) x []) u)) (access-is P (h .sheet) k a);
-    inside = admitted-keep P (h .sheet) (h .nest .inside);
-    words = word;
-    whole = h .whole;
-  }
+  -- numbers of 20 accesses at 256 points are the most
+  pub few-numbers : count ≤ 256 → P .accesses * count ≤ 5120
+  few-numbers l = mul-le-mul {n₁ = P .accesses} {m₁ = count} {n₂ = 20} {m₂ = 256} (h .sheet .few-accesses) l

@@ -1,17 +1,20 @@
--- What the tests before a run answer, and what the run asks of a sheet.
+-- What the tests before a run answer, and what the run asks of a sheet, for all its points and for a part of them.
 use mathlib.Core.Path.{_≡_}
 use mathlib.Core.Bool.{not}
 use mathlib.Core.List.{List}
 use Prim.Native.Nat.{ℕ, zero, suc, _≤_}
 use lib.Dec.{eqb}
+use lib.IntN.{ℤ}
 use lib.ListN.{length, getD}
-use Rattle.lists.specs.Membership.{All}
+use Rattle.lists.specs.Membership.{Mem, All}
+use Rattle.lists.specs.Parts.{rows}
 use Rattle.model.specs.Answer.{Answer, accepted, refused, require, _>>_}
 use Rattle.model.specs.Ticket.{Statement, Nest}
 use Rattle.model.specs.Grammar.{total}
 use Rattle.model.specs.Points.{iterations}
 use Rattle.model.specs.Bounds.{sprawl, inArrays}
 use Rattle.model.specs.Shape.{WellFormed}
+use Rattle.elements.specs.Search.{RowsIn}
 use Rattle.sheet.specs.Sheets.{Sheet, nestOf, SheetIn}
 
 -- ---- refusal 15
@@ -41,4 +44,12 @@ pub record ExecuteIn (P : Sheet) (count room : ℕ) : Type 0 where
   pub sheet : SheetIn P
   pub nest : Executable (nestOf P)
   pub counted : count ≡ length (iterations (nestOf P .loops))
+  pub whole : room ≡ total (nestOf P .arrays)
+
+-- n points of its nest, stored row by row
+pub record PartIn (P : Sheet) (points : List ℤ) (n room : ℕ) : Type 0 where
+  pub sheet : SheetIn P
+  pub nest : Executable (nestOf P)
+  pub stored : RowsIn points (P .depth) n
+  pub reached : All (λ p. Mem p (iterations (nestOf P .loops))) (rows (P .depth) n points)
   pub whole : room ≡ total (nestOf P .arrays)

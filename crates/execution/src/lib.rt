@@ -2,11 +2,13 @@
 ghost use mathlib.Core.Path.{_≡_};
 ghost use Prim.Native.Nat.{_*_, _≤_};
 ghost use lib.ListN.{length};
+ghost use Rattle.lists.specs.Parts.{rows};
 ghost use Rattle.model.specs.Store.{runNest};
 ghost use Rattle.model.specs.Entries.{transparent};
 ghost use Rattle.sheet.specs.Sheets.{sheetOf, nestOf, SheetIn};
 ghost use Rattle.sheet.specs.Stages.{PointsAre};
-ghost use Rattle.execution.specs.Execution.{opaqueAt, ExecuteIn};
+ghost use Rattle.store.specs.Runs.{runAt};
+ghost use Rattle.execution.specs.Execution.{opaqueAt, ExecuteIn, PartIn};
 use sheet::Outline;
 
 // The number of the first statement with rule 0, or 0.
@@ -26,8 +28,8 @@ pub fn first_opaque(outline: Outline, limits: &[i16], words: &[i16]) -> usize
     0
 }
 
-// Runs the nest of a sheet at its points. Lent is room for a number of each access at each point.
-fn run_by(
+// Runs the statements at the points of a part of the nest. Lent is room for a number of each access at each point.
+fn run_part(
     outline: Outline,
     limits: &[i16],
     words: &[i16],
@@ -36,52 +38,98 @@ fn run_by(
     numbers: &mut [u16],
     store: &mut [u32],
 )
-    requires { ⌜ ExecuteIn (sheetOf outline (now limits) (now words)) count (length (now store)) × PointsAre (sheetOf outline (now limits) (now words)) (now points) count × (outline .accesses * count ≤ length (now numbers)) ⌝ }
-    ensures { λ _. ⌜ now (store .exit) ≡ runNest (nestOf (sheetOf outline (now (limits .entry)) (now (words .entry)))) (now (store .entry)) ⌝ }
+    requires { ⌜ PartIn (sheetOf outline (now limits) (now words)) (now points) count (length (now store)) × (outline .accesses * count ≤ length (now numbers)) ⌝ }
+    ensures { λ _. ⌜ now (store .exit) ≡ runAt (nestOf (sheetOf outline (now (limits .entry)) (now (words .entry)))) (rows (outline .depth) count (now (points .entry))) (now (store .entry)) ⌝ }
 {
     sheet::number_accesses(outline, limits, words, points, count, numbers);
-    store::run(outline, limits, words, count, numbers, store);
+    store::run(outline, limits, words, points, count, numbers, store);
 }
 
-// Few accesses at few points have fewer numbers to clear.
-fn run_at(
+// The points of the next part, when so many are left.
+fn part_of(left: usize) -> usize
+    requires { ⌜ 1 ≤ left ⌝ }
+    ensures { λ r. ⌜ (1 ≤ r) × (r ≤ left) × (r ≤ 256) ⌝ }
+{
+    if left < 256 { left } else { 256 }
+}
+
+// Runs the nest of a sheet at its points, in parts of at most 256, whose numbers stay in the cache. Lent is room for those of one part.
+fn run_parts(
     outline: Outline,
     limits: &[i16],
     words: &[i16],
     points: &[i64],
     count: usize,
+    numbers: &mut [u16],
     store: &mut [u32],
 )
-    requires { ⌜ ExecuteIn (sheetOf outline (now limits) (now words)) count (length (now store)) × PointsAre (sheetOf outline (now limits) (now words)) (now points) count ⌝ }
+    requires { ⌜ ExecuteIn (sheetOf outline (now limits) (now words)) count (length (now store)) × PointsAre (sheetOf outline (now limits) (now words)) (now points) count × (outline .accesses * 256 ≤ length (now numbers)) ⌝ }
     ensures { λ _. ⌜ now (store .exit) ≡ runNest (nestOf (sheetOf outline (now (limits .entry)) (now (words .entry)))) (now (store .entry)) ⌝ }
 {
-    let needed = outline.accesses * count;
-    if needed <= 1024 {
-        let mut few = [0u16; 1024];
-        run_by(outline, limits, words, points, count, &mut few, store);
-        return;
+    let depth = outline.depth;
+    let mut first = 0;
+    while first < count {
+        let n = part_of(count - first);
+        run_part(
+            outline,
+            limits,
+            words,
+            &points[first * depth..],
+            n,
+            numbers,
+            store,
+        );
+        first += n;
     }
-    if needed <= 16384 {
-        let mut more = [0u16; 16384];
-        run_by(outline, limits, words, points, count, &mut more, store);
-        return;
-    }
-    let mut numbers = [0u16; 81920];
-    run_by(outline, limits, words, points, count, &mut numbers, store);
 }
 
-// Runs the nest of a sheet, which has `count` points, of at most six indices each. Few points have fewer indices to clear.
+// Of many points. Apart from `run_few`, whose frame would be walked through page by page with this room too.
+fn run_many(
+    outline: Outline,
+    limits: &[i16],
+    words: &[i16],
+    count: usize,
+    numbers: &mut [u16],
+    store: &mut [u32],
+)
+    requires { ⌜ ExecuteIn (sheetOf outline (now limits) (now words)) count (length (now store)) × (outline .accesses * 256 ≤ length (now numbers)) ⌝ }
+    ensures { λ _. ⌜ now (store .exit) ≡ runNest (nestOf (sheetOf outline (now (limits .entry)) (now (words .entry)))) (now (store .entry)) ⌝ }
+{
+    let mut points = [0i64; 24576];
+    sheet::list_points(outline, limits, words, &mut points);
+    run_parts(outline, limits, words, &points, count, numbers, store);
+}
+
+// Of few points, one part. Few accesses have fewer numbers to clear.
+fn run_few(outline: Outline, limits: &[i16], words: &[i16], count: usize, store: &mut [u32])
+    requires { ⌜ ExecuteIn (sheetOf outline (now limits) (now words)) count (length (now store)) × (count ≤ 256) ⌝ }
+    ensures { λ _. ⌜ now (store .exit) ≡ runNest (nestOf (sheetOf outline (now (limits .entry)) (now (words .entry)))) (now (store .entry)) ⌝ }
+{
+    let mut points = [0i64; 1536];
+    sheet::list_points(outline, limits, words, &mut points);
+    if outline.accesses * count <= 1024 {
+        let mut few = [0u16; 1024];
+        run_part(outline, limits, words, &points, count, &mut few, store);
+        return;
+    }
+    let mut numbers = [0u16; 5120];
+    run_part(outline, limits, words, &points, count, &mut numbers, store);
+}
+
+// Runs the nest of a sheet, which has `count` points, of at most six indices each.
 pub fn execute(outline: Outline, limits: &[i16], words: &[i16], count: usize, store: &mut [u32])
     requires { ⌜ ExecuteIn (sheetOf outline (now limits) (now words)) count (length (now store)) ⌝ }
     ensures { λ _. ⌜ now (store .exit) ≡ runNest (nestOf (sheetOf outline (now (limits .entry)) (now (words .entry)))) (now (store .entry)) ⌝ }
 {
     if count <= 256 {
-        let mut few = [0i64; 1536];
-        sheet::list_points(outline, limits, words, &mut few);
-        run_at(outline, limits, words, &few, count, store);
+        run_few(outline, limits, words, count, store);
         return;
     }
-    let mut points = [0i64; 24576];
-    sheet::list_points(outline, limits, words, &mut points);
-    run_at(outline, limits, words, &points, count, store);
+    if outline.accesses <= 4 {
+        let mut few = [0u16; 1024];
+        run_many(outline, limits, words, count, &mut few, store);
+        return;
+    }
+    let mut numbers = [0u16; 5120];
+    run_many(outline, limits, words, count, &mut numbers, store);
 }

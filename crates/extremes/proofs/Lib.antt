@@ -4,3 +4,4 @@ pub mod SumLaws
 pub mod CutLaws
 pub mod ValueLaws
 pub mod RangeLaws
+pub mod FreeLaws

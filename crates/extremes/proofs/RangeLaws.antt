@@ -51,7 +51,7 @@ unfolding rangesFrom
 ranges-snoc rs [] L = refl
 ranges-snoc rs (M ∷ N) L = ranges-snoc (rs ++ (rangeOf rs M ∷ [])) N L
 
-ranges-more : (s : List ℤ) (c : List ℕ) (i : ℕ) → ranges (loopsFrom s c 0 (i + 1)) ≡ ranges (loopsFrom s c 0 i) ++ (rangeAt s c i ∷ [])
+pub ranges-more : (s : List ℤ) (c : List ℕ) (i : ℕ) → ranges (loopsFrom s c 0 (i + 1)) ≡ ranges (loopsFrom s c 0 i) ++ (rangeAt s c i ∷ [])
 unfolding ranges rangeAt
 ranges-more s c i =
     ap (λ (n : ℕ). rangesFrom [] (loopsFrom s c 0 n)) (add-one i) ∙ ap (rangesFrom []) (loops-snoc s c 0 i) ∙ ranges-snoc [] (loopsFrom s c 0 i) (loopAt s c (0 + i))
@@ -71,25 +71,25 @@ pub none-held : (s : List ℤ) (c : List ℕ) (b : List Range) → length b ≡ 
 unfolding rangesOf ranges rangesFrom loopsFrom
 none-held s c b h = record { are = refl; held = record { six = h; few = omega arith; near = tt } }
 
-module _ (s : List ℤ) (c : List ℕ) (i : ℕ) (b : List Range) (x y : ℤ) where
-  next : Range
-  next = record { least = copy x; greatest = copy y }
+-- the range that the code makes of the two values of loop i
+pub range-made : (s : List ℤ) (c : List ℕ) (i : ℕ) (x y : ℤ) → (x ≡ rangeAt s c i .least) × (size x ≤ 32767) → (y ≡ rangeAt s c i .greatest) × (size y ≤ 32767)
+    → (rangeAs (record { least = copy x; greatest = copy y }) ≡ rangeAt s c i) × NearRange (record { least = copy x; greatest = copy y })
+range-made s c i x y l g =
+    let a : copy x ≡ x = (let z = l .1 in copied x (omega arith)) in
+    let d : copy y ≡ y = (let z = g .1 in copied y (omega arith)) in
+    (rw (a, d, l .0, g .0), record { low = rw a (l .1); high = rw d (g .1) })
 
-  pub more-held : i < 6 → RangesAre s c i b → (x ≡ rangeAt s c i .least) × (size x ≤ 32767) → (y ≡ rangeAt s c i .greatest) × (size y ≤ 32767)
-      → RangesAre s c (i + 1) (set b i (record { least = copy x; greatest = copy y }))
-  more-held h p l g =
-      let a : copy x ≡ x = (let z = l .1 in copied x (omega arith)) in
-      let d : copy y ≡ y = (let z = g .1 in copied y (omega arith)) in
-      let six = p .held .six in
-      let e : rangesOf (i + 1) (set b i (record { least = copy x; greatest = copy y })) ≡ rangesOf i b ++ (record { least = copy x; greatest = copy y } ∷ []) = held-more i b (record { least = copy x; greatest = copy y }) (omega arith) in
-      record {
-        are = e ∙ rw (a, d, l .0, g .0, p .are) (sym (ranges-more s c i));
-        held = record {
-          six = length-set b i (record { least = copy x; greatest = copy y }) ∙ six;
-          few = omega arith;
-          near = rw e (near-more (rangesOf i b) (record { least = copy x; greatest = copy y }) (p .held .near) (record { low = rw a (l .1); high = rw d (g .1) }));
-        };
-      }
+pub more-held : (s : List ℤ) (c : List ℕ) (i : ℕ) (b : List Range) (x y : ℤ) → i < 6 → RangesAre s c i b → (x ≡ rangeAt s c i .least) × (size x ≤ 32767) → (y ≡ rangeAt s c i .greatest) × (size y ≤ 32767)
+    → RangesAre s c (i + 1) (set b i (record { least = copy x; greatest = copy y }))
+more-held s c i b x y h p l g =
+    let r : Range = record { least = copy x; greatest = copy y } in
+    let m = range-made s c i x y l g in
+    let six = p .held .six in
+    let e : rangesOf (i + 1) (set b i r) ≡ rangesOf i b ++ (rangeAs r ∷ []) = held-more i b r (omega arith) in
+    record {
+      are = e ∙ rw (m .0, p .are) (sym (ranges-more s c i));
+      held = record { six = length-set b i r ∙ six; few = omega arith; near = rw e (near-more (rangesOf i b) (rangeAs r) (p .held .near) (m .1)) };
+    }
 
 -- ---- the value of a loop
 

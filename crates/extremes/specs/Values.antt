@@ -33,6 +33,10 @@ smallestFrom s k j n rs = smallest (map (greatestOf rs) (limitsAt s k j n))
 unfoldable pub rangeAt : List ℤ → List ℕ → ℕ → Model.Range
 rangeAt s c k = rangeOf (ranges (loopsFrom s c 0 k)) (loopAt s c k)
 
+-- none of n limits from limit j on has a coefficient of loop i
+abbrev pub Free : List ℤ → ℕ → ℕ → ℕ → Type 0
+Free s j n i = (l : ℕ) → l < n → getD s ((j + l) * 8 + 2 + i) (pos 0) ≡ pos 0
+
 -- limit j, of a loop with k loops outside
 pub record LimitIn (s : List ℤ) (j k : ℕ) (b : List Range) : Type 0 where
   pub words : length s ≡ 1536

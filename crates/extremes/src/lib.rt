@@ -1,14 +1,15 @@
 // The least and the greatest value of every loop, and of sums over them.
 use bounds::Whole;
 ghost use mathlib.Core.Path.{_≡_};
-ghost use Prim.Native.Nat.{suc, _+_, _*_, _≤_};
+ghost use mathlib.Core.Bool.{true, false};
+ghost use Prim.Native.Nat.{suc, _+_, _*_, _≤_, _<_};
 ghost use lib.IntN.{_+ℤ_};
-ghost use lib.ListN.{take, drop};
+ghost use lib.ListN.{length, take, drop};
 ghost use Rattle.integers.specs.Difference.{size};
 ghost use Rattle.model.specs.Quick.{leastTerm, greatestTerm, leastSum, greatestSum, rangeOf};
 ghost use Rattle.bounds.specs.Flat.{NestOk, limitAt, loopAt};
 ghost use Rattle.extremes.specs.Ranges.{rangeAs, rangesOf, TermIn, SumIn};
-ghost use Rattle.extremes.specs.Values.{leastOf, greatestOf, largestFrom, smallestFrom, rangeAt, LimitIn, SideIn, LoopIn, RangesAre};
+ghost use Rattle.extremes.specs.Values.{leastOf, greatestOf, largestFrom, smallestFrom, rangeAt, Free, LimitIn, SideIn, LoopIn, RangesAre};
 
 // The least and the greatest value of an index.
 pub struct Range {
@@ -156,23 +157,41 @@ fn greatest_over(nest: &[i16], counts: &[usize], k: usize, outer: [Range; 6]) ->
     cut(smallest_from(nest, k * 32 + 16, counts[k * 2 + 1], k, outer))
 }
 
-// The least value of loop k.
+// Whether one of n limits from limit j on has a coefficient of loop i.
+fn leans(nest: &[i16], j: usize, n: usize, i: usize) -> bool
+    requires { ⌜ (length (now nest) ≡ 1536) × (j + n ≤ 192) × (i < 6) ⌝ }
+    ensures { λ r. ⌜ (r ≡ false → Free (now (nest .entry)) j n i) × (r ≡ true → Free (now (nest .entry)) j n i → ⊥) ⌝ }
+{
+    let mut l = 0;
+    while l < n {
+        if nest[(j + l) * 8 + 2 + i] != 0 {
+            return true;
+        }
+        l += 1;
+    }
+    false
+}
+
+// The least value of loop k. Most limits lean on few loops, and it goes only into these: the range of another stays 0 to 0, since its coefficients are 0.
 pub fn least_value(nest: &[i16], counts: &[usize], k: usize) -> Whole
     requires { ⌜ NestOk (now nest) (now counts) (suc k) ⌝ }
     ensures { λ r. ⌜ (r .value ≡ rangeAt (now (nest .entry)) (now (counts .entry)) k .least) × (size (r .value) ≤ 32767) ⌝ }
 {
+    let n = counts[k * 2];
     let mut outer = [Range {
         least: 0,
         greatest: 0,
     }; 6];
     let mut i = 0;
     while i < k {
-        let least = least_value(nest, counts, i);
-        let greatest = greatest_value(nest, counts, i);
-        outer[i] = Range {
-            least: least.value,
-            greatest: greatest.value,
-        };
+        if leans(nest, k * 32, n, i) {
+            let least = least_value(nest, counts, i);
+            let greatest = greatest_value(nest, counts, i);
+            outer[i] = Range {
+                least: least.value,
+                greatest: greatest.value,
+            };
+        }
         i += 1;
     }
     least_over(nest, counts, k, outer)
@@ -183,18 +202,21 @@ pub fn greatest_value(nest: &[i16], counts: &[usize], k: usize) -> Whole
     requires { ⌜ NestOk (now nest) (now counts) (suc k) ⌝ }
     ensures { λ r. ⌜ (r .value ≡ rangeAt (now (nest .entry)) (now (counts .entry)) k .greatest) × (size (r .value) ≤ 32767) ⌝ }
 {
+    let n = counts[k * 2 + 1];
     let mut outer = [Range {
         least: 0,
         greatest: 0,
     }; 6];
     let mut i = 0;
     while i < k {
-        let least = least_value(nest, counts, i);
-        let greatest = greatest_value(nest, counts, i);
-        outer[i] = Range {
-            least: least.value,
-            greatest: greatest.value,
-        };
+        if leans(nest, k * 32 + 16, n, i) {
+            let least = least_value(nest, counts, i);
+            let greatest = greatest_value(nest, counts, i);
+            outer[i] = Range {
+                least: least.value,
+                greatest: greatest.value,
+            };
+        }
         i += 1;
     }
     greatest_over(nest, counts, k, outer)

@@ -1,10 +1,8 @@
-// From any bytes to a ticket laid out on a sheet, with its points counted; or the first refusal of 1 to 8. Then its points, and refusal 9. Then what
-// the entries answer that give a count.
+// From any bytes to a ticket laid out on a sheet, with its points counted; or the first refusal of 1 to 8. Then what the entries answer that give a count.
 ghost use mathlib.Core.Path.{_≡_};
-ghost use lib.ListN.{length};
 ghost use Rattle.reading.specs.declared.Status.the-variants.{Refused};
 ghost use Rattle.ticket.specs.Ticket.{Lent};
-ghost use Rattle.intake.specs.Intake.{Receives, Waits, withStatus, Admits};
+ghost use Rattle.intake.specs.Intake.{Receives};
 use admission::Counted;
 use reading::Refusal;
 use reading::Status;
@@ -52,14 +50,6 @@ pub fn receive(bytes: &[u8], limits: &mut [i16], words: &mut [i16]) -> Intake
         },
         Counted::Refused(r) => refused(r, steps, outline),
     }
-}
-
-// The points of a ticket that was received: at most four indices each. The bytes are lent for the contract alone.
-pub fn admit(bytes: &[u8], all: Intake, limits: &[i16], words: &[i16], points: &mut [i64]) -> Status
-    requires { ⌜ Waits (now bytes) all (now limits) (now words) (length (now points)) ⌝ }
-    ensures { λ r. ⌜ Admits (now (bytes .entry)) (now (points .entry)) (now (points .exit)) (withStatus r all) (now (limits .entry)) (now (words .entry)) ⌝ }
-{
-    admission::enumerate(all.outline, limits, words, points)
 }
 
 // The answer of judge, write, list and run: a count of iterations or of bytes.

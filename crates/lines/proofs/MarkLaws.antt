@@ -1,4 +1,4 @@
--- The lines of a nest, marked on its sheet. In order: equal places are equal elements; the accesses of the model's uses; what `mark_lines` asks is
+-- The lines of a nest, marked on its sheet. In order: equal places are equal elements; the accesses of the model's uses; what `mark_by` asks is
 -- met (`lines-in`); what the search is lent describes the nest (`describes`) and is as it asks (`ready`); what it marks are the lines of the
 -- nest's listing (`lines-are`); their text is the listing (`listing-is`).
 use mathlib.Core.Path.{_≡_, refl, sym, _∙_, ap, ap₂, subst}
@@ -9,20 +9,19 @@ use native.Mathlib.Omega.{arith}
 use native.Mathlib.Nat.{mul-le-mul}
 use lib.Dec.{T, eqb, eqb→eq, eqb-refl}
 use lib.IntN.{ℤ}
-use lib.ListN.{length, getD, take, replicate, length-map, length-replicate, List·getD-map}
+use lib.ListN.{length, getD, take, length-map, List·getD-map}
 use lib.Seq.{length-take-le}
 use Rattle.lists.specs.Membership.{Mem}
 use Rattle.lists.specs.Order.{Ordered}
 use Rattle.lists.specs.Tests.{select}
+use Rattle.lists.specs.Parts.{rows}
 use Rattle.lists.proofs.MembershipLaws.{getD-mem}
 use Rattle.lists.proofs.PartLaws.{rows-getD}
 use Rattle.lists.proofs.TestLaws.{T-same, equal-test}
 use Rattle.model.specs.Grammar.{total}
 use Rattle.model.specs.Ticket.{Access, Statement}
 use Rattle.model.specs.Points.{iterations}
-use Rattle.model.specs.Answer.{accepted}
-use Rattle.model.specs.Bounds.{accessesOf, admitted}
-use Rattle.model.specs.Shape.{WellFormed}
+use Rattle.model.specs.Bounds.{accessesOf, inArrays}
 use Rattle.model.specs.Machine.{Element, same, element, accesses}
 use Rattle.model.specs.Store.{placeOf}
 use Rattle.model.specs.Entries.{allAccesses}
@@ -31,7 +30,6 @@ use Rattle.model.specs.Directions.{Line, occurs, allLines, lines}
 use Rattle.model.specs.Listing.{linesOf, listing, headText, lineText}
 use Rattle.model.proofs.Machine.ElementLaws.{same-decides}
 use Rattle.model.proofs.Points.PointLaws.{iterations-rise}
-use Rattle.model.proofs.Verdict.VerdictLaws.{admitted-accepted}
 use Rattle.model.proofs.Store.PlaceLaws.{Valid, place-injective}
 use Rattle.vectors.specs.Candidates.{row}
 use Rattle.vectors.specs.Numbers.{place}
@@ -40,12 +38,12 @@ use Rattle.dependence.proofs.UseLaws.{uses-of}
 use Rattle.listing_text.specs.Text.{marked, shown, text}
 use Rattle.listing_text.proofs.IndexLaws.{count-small}
 use Rattle.sheet.specs.Sheets.{Sheet, sizesIn, statementsFrom, nestOf, SheetIn}
-use Rattle.sheet.specs.Stages.{NumberIn, NumbersAre, noAccess, accessOf}
+use Rattle.sheet.specs.Stages.{PointsAre, NumberIn, NumbersAre, noAccess, accessOf}
 use Rattle.sheet.proofs.SheetLaws.{access-count, sizes-count}
 use Rattle.sheet.proofs.StageLaws.{depth-is, access-valid}
 use Rattle.lines.specs.declared.Uses.{Uses}
 use Rattle.lines.specs.Uses.{UsesAre}
-use Rattle.lines.specs.Lines.{Admitted, LinesIn, LinesAre}
+use Rattle.lines.specs.Lines.{Markable, LinesIn, LinesAre}
 
 -- ---- equal places are equal elements
 
@@ -102,21 +100,10 @@ unfolding select
 select-same t u [] h = refl
 select-same t u (x ∷ l) h = rw (h x (List·Memᴰ·head refl), select-same t u l (λ y m. h y (List·Memᴰ·tail m)))
 
--- ---- the points of an admitted nest, and marks as they are made
+-- ---- the points listed
 
-pub clear-marks : (n j : ℕ) → getD (replicate n false) j false ≡ false
-clear-marks zero j = refl
-clear-marks (suc n) zero = refl
-clear-marks (suc n) (suc j) = clear-marks n j
-
-pub lines-in : (P : Sheet) (points : List ℤ) (n : ℕ) → Admitted P points n → (k : ℕ) → P .statements ≤ k → (m : ℕ) → k * k * 2187 ≡ m → LinesIn P points n (replicate m false)
-lines-in P points n h k l m e = record {
-  stray = record { sheet = h .sheet; points-are = h .points-are };
-  formed = h .formed;
-  inside = admitted-accepted (nestOf P) (h .admitted-is) .1;
-  clear = clear-marks m;
-  room = let q = length-replicate {A = Bool} m false in let r = mul-le-mul l l in omega arith;
-}
+pub lines-in : (P : Sheet) (marks : List Bool) → Markable P marks → (points : List ℤ) (n : ℕ) → PointsAre P points n → LinesIn P points n marks
+lines-in P marks h points n g = record { stray = record { sheet = h .sheet; points-are = g }; formed = h .formed; inside = h .inside; clear = h .clear; room = h .room }
 
 -- ---- what the search is lent
 
@@ -131,22 +118,29 @@ module _ (P : Sheet) (points : List ℤ) (n : ℕ) (marks : List Bool) (h : Line
   abbrev sheet-in : SheetIn P
   sheet-in = h .stray .sheet
 
+  -- all points of the nest are numbered
   pub number-in : NumberIn P points n room
-  number-in = record { stray = h .stray; formed = h .formed; inside = h .inside; fits = fits }
+  number-in = record {
+    sheet = sheet-in;
+    formed = h .formed;
+    stored = h .stray .points-are .stored;
+    inside = ap (λ (ps : List (List ℤ)). inArrays (nestOf P .arrays) ps 1 (nestOf P .statements)) (h .stray .points-are .are) ∙ h .inside;
+    fits = fits;
+  }
 
   abbrev flatOf : List ℕ → Uses → Flat
   flatOf e r = flat points (P .depth) n e (take (P .accesses) (r .statements)) (take (P .accesses) (r .writes)) (P .statements)
 
-  module _ (e : List ℕ) (g : NumbersAre P n e) (r : Uses) (u : UsesAre P r) where
+  module _ (e : List ℕ) (g : NumbersAre P points n e) (r : Uses) (u : UsesAre P r) where
     abbrev F : Flat
     F = flatOf e r
 
-    point-is : (x : ℕ) → x < n → pointAt F x ≡ getD (iterations (nestOf P .loops)) x []
+    point-is : (x : ℕ) → x < n → pointAt F x ≡ getD (rows (P .depth) n points) x []
     unfolding row
-    point-is x l = sym (rows-getD (P .depth) n points x [] l) ∙ ap (λ (ps : List (List ℤ)). getD ps x []) (h .stray .points-are .are)
+    point-is x l = sym (rows-getD (P .depth) n points x [] l)
 
     abbrev at : ℕ → ℕ → Element
-    at k x = element (getD (iterations (nestOf P .loops)) x []) (accessOf (nestOf P) k)
+    at k x = element (getD (rows (P .depth) n points) x []) (accessOf (nestOf P) k)
 
     element-is : (k x : ℕ) → x < n → element (pointAt F x) (useAt (nestOf P .statements) k .access) ≡ at k x
     element-is k x l = ap₂ element (point-is x l) (use-access P sheet-in k)
@@ -156,9 +150,9 @@ module _ (P : Sheet) (points : List ℤ) (n : ℕ) (marks : List Bool) (h : Line
       body = sym (statement-count P sheet-in);
       statements = u .statements;
       writes = u .writes;
-      elements = λ a b x y la lb lx ly. let c = use-count P sheet-in in let q = h .stray .points-are .count in
-          ap₂ eqb (g .are a x (omega arith) (omega arith)) (g .are b y (omega arith) (omega arith))
-          ∙ place-same (nestOf P .arrays) (at a x) (at b y) (access-valid P points n room number-in a x (omega arith) (omega arith)) (access-valid P points n room number-in b y (omega arith) (omega arith))
+      elements = λ a b x y la lb lx ly. let c = use-count P sheet-in in
+          ap₂ eqb (g .are a x (omega arith) lx) (g .are b y (omega arith) ly)
+          ∙ place-same (nestOf P .arrays) (at a x) (at b y) (access-valid P points n room number-in a x (omega arith) lx) (access-valid P points n room number-in b y (omega arith) ly)
           ∙ sym (ap₂ same (element-is a x lx) (element-is b y ly));
     }
 

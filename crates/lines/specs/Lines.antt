@@ -8,7 +8,7 @@ use lib.ListN.{length, getD}
 use Rattle.lists.specs.Membership.{SameMembers}
 use Rattle.model.specs.Answer.{accepted}
 use Rattle.model.specs.Points.{iterations}
-use Rattle.model.specs.Bounds.{inArrays, admitted}
+use Rattle.model.specs.Bounds.{inArrays}
 use Rattle.model.specs.Shape.{WellFormed}
 use Rattle.model.specs.Directions.{Line}
 use Rattle.model.specs.Judge.{directionsOf}
@@ -18,14 +18,15 @@ use Rattle.directions.specs.Sets.{vectorsIn}
 use Rattle.sheet.specs.Sheets.{Sheet, nestOf, SheetIn}
 use Rattle.sheet.specs.Stages.{PointsAre, StrayIn}
 
--- an admitted nest on its sheet, and its n points
-pub record Admitted (P : Sheet) (points : List ℤ) (n : ℕ) : Type 0 where
+-- a nest whose subscripts stay within their extents, and marks that are all clear: 3 × 729 for each pair of statements
+pub record Markable (P : Sheet) (marks : List Bool) : Type 0 where
   pub sheet : SheetIn P
-  pub points-are : PointsAre P points n
   pub formed : WellFormed (nestOf P)
-  pub admitted-is : admitted (nestOf P) ≡ accepted tt
+  pub inside : inArrays (nestOf P .arrays) (iterations (nestOf P .loops)) 1 (nestOf P .statements) ≡ accepted tt
+  pub clear : (j : ℕ) → getD marks j false ≡ false
+  pub room : P .statements * P .statements * 2187 ≤ length marks
 
--- n points of an admitted nest, and marks that are all clear: 3 × 729 for each pair of statements
+-- the same, and its n points
 pub record LinesIn (P : Sheet) (points : List ℤ) (n : ℕ) (marks : List Bool) : Type 0 where
   pub stray : StrayIn P points n
   pub formed : WellFormed (nestOf P)

@@ -1,12 +1,14 @@
-// The lines of a nest's listing, found on its sheet: a mark for each that there could be; and the directions of a nest from them.
+// The lines of a nest's listing, found on its sheet: a mark for each that there could be; and the set of their vectors.
 ghost use mathlib.Core.Path.{_≡_};
-ghost use Prim.Native.Nat.{_*_, _≤_};
-ghost use lib.ListN.{length, replicate};
+ghost use mathlib.Core.Bool.{false};
+ghost use Prim.Native.Nat.{ℕ, _*_, _≤_};
+ghost use lib.ListN.{length, getD, replicate};
 ghost use Rattle.lists.specs.Parts.{put};
 ghost use Rattle.listing_text.specs.Text.{Marks};
 ghost use Rattle.sheet.specs.Sheets.{sheetOf, SheetIn};
+ghost use Rattle.sheet.specs.Stages.{ListIn};
 ghost use Rattle.lines.specs.Uses.{firstWritten, EnterIn, UsesAre};
-ghost use Rattle.lines.specs.Lines.{Admitted, LinesIn, LinesAre, Shows, DirectionsAre};
+ghost use Rattle.lines.specs.Lines.{Markable, LinesIn, LinesAre, Shows};
 use sheet::Outline;
 
 // Of each access its statement, counted from 0, and whether it is the one that is written.
@@ -109,31 +111,37 @@ pub fn mark_few(
     mark_by(outline, limits, words, points, count, &mut numbers, marks);
 }
 
-// The same of any number of points.
-pub fn mark_many(
-    outline: Outline,
-    limits: &[i16],
-    words: &[i16],
-    points: &[i64],
-    count: usize,
-    marks: &mut [bool],
-)
-    requires { ⌜ LinesIn (sheetOf outline (now limits) (now words)) (now points) count (now marks) ⌝ }
+// The same of any number of points, which are listed here.
+pub fn mark_many(outline: Outline, limits: &[i16], words: &[i16], marks: &mut [bool])
+    requires { ⌜ Markable (sheetOf outline (now limits) (now words)) (now marks) × ListIn (sheetOf outline (now limits) (now words)) 16384 ⌝ }
     ensures { λ _. ⌜ LinesAre (sheetOf outline (now (limits .entry)) (now (words .entry))) (now (marks .exit)) × (length (now (marks .exit)) ≡ length (now (marks .entry))) ⌝ }
 {
+    let mut points = [0i64; 16384];
+    let count = sheet::list_points(outline, limits, words, &mut points);
     let needed = outline.accesses * count;
     if needed <= 16384 {
         let mut few = [0u16; 16384];
-        mark_by(outline, limits, words, points, count, &mut few, marks);
+        mark_by(outline, limits, words, &points, count, &mut few, marks);
         return;
     }
     if needed <= 40960 {
         let mut more = [0u16; 40960];
-        mark_by(outline, limits, words, points, count, &mut more, marks);
+        mark_by(outline, limits, words, &points, count, &mut more, marks);
         return;
     }
     let mut numbers = [0u16; 81920];
-    mark_by(outline, limits, words, points, count, &mut numbers, marks);
+    mark_by(outline, limits, words, &points, count, &mut numbers, marks);
+}
+
+// Takes all marks away.
+pub fn clear(marks: &mut [bool])
+    ensures { λ _. ⌜ ((j : ℕ) → getD (now (marks .exit)) j false ≡ false) × (length (now (marks .exit)) ≡ length (now (marks .entry))) ⌝ }
+{
+    let mut j = 0;
+    while j < marks.len() {
+        marks[j] = false;
+        j += 1;
+    }
 }
 
 // Makes the set of the vectors of the lines that are marked: a row of 729 marks for each source, sink and kind.
@@ -148,51 +156,4 @@ pub fn directions_of(marks: &[bool], n: usize, depth: usize, set: &mut [bool])
         directions::merge(set, &marks[b * 729..b * 729 + 729], depth);
         b += 1;
     }
-}
-
-fn directions_by(
-    outline: Outline,
-    limits: &[i16],
-    words: &[i16],
-    points: &[i64],
-    count: usize,
-    marks: &mut [bool],
-    set: &mut [bool],
-)
-    requires { ⌜ LinesIn (sheetOf outline (now limits) (now words)) (now points) count (now marks) × (length (now set) ≡ 729) ⌝ }
-    ensures { λ _. ⌜ DirectionsAre (sheetOf outline (now (limits .entry)) (now (words .entry))) (now (set .exit)) ⌝ }
-{
-    if count <= 256 {
-        mark_few(outline, limits, words, points, count, marks);
-        directions_of(marks, outline.statements, outline.depth, set);
-        return;
-    }
-    mark_many(outline, limits, words, points, count, marks);
-    directions_of(marks, outline.statements, outline.depth, set);
-}
-
-// Makes the set of the directions of an admitted nest. Few statements have fewer marks to clear.
-pub fn directions_in(
-    outline: Outline,
-    limits: &[i16],
-    words: &[i16],
-    points: &[i64],
-    count: usize,
-    set: &mut [bool],
-)
-    requires { ⌜ Admitted (sheetOf outline (now limits) (now words)) (now points) count × (length (now set) ≡ 729) ⌝ }
-    ensures { λ _. ⌜ DirectionsAre (sheetOf outline (now (limits .entry)) (now (words .entry))) (now (set .exit)) ⌝ }
-{
-    if outline.statements <= 1 {
-        let mut few = [false; 2187];
-        directions_by(outline, limits, words, points, count, &mut few, set);
-        return;
-    }
-    if outline.statements <= 2 {
-        let mut more = [false; 8748];
-        directions_by(outline, limits, words, points, count, &mut more, set);
-        return;
-    }
-    let mut marks = [false; 34992];
-    directions_by(outline, limits, words, points, count, &mut marks, set);
 }

@@ -6,7 +6,7 @@ use Prim.Native.Nat.{ℕ, _≤_, _<_}
 use native.Mathlib.Omega.{arith}
 use lib.Dec.{leb}
 use lib.IntN.{ℤ}
-use lib.ListN.{length, replicate, length-append}
+use lib.ListN.{length, length-append}
 use borrow.Author.Tests.{leb-true, leb-false}
 use Rattle.lists.specs.Parts.{put}
 use Rattle.model.specs.Answer as Model
@@ -20,21 +20,21 @@ use Rattle.reading.specs.declared.Refusal.{Refusal}
 use Rattle.reading.specs.declared.Refusal.the-variants.{BufferTooShort}
 use Rattle.reading.specs.declared.Status.{Status}
 use Rattle.reading.specs.declared.Status.the-variants as Status
-use Rattle.steps.specs.declared.Steps.{Steps}
-use Rattle.ticket.specs.Ticket.{ticketOn, decoded}
+use Rattle.reading.specs.declared.Status.the-variants.{Fine}
+use Rattle.reading.specs.Refusals.{refusal}
+use Rattle.ticket.specs.Ticket.{ticketOn}
 use Rattle.sheet.specs.Sheets.{Sheet, sheetOf, nestOf}
 use Rattle.listing_text.specs.Text.{text, Written}
-use Rattle.lines.specs.Lines.{Admitted}
 use Rattle.lines.proofs.MarkLaws.{listing-is}
+use Rattle.admission.proofs.AdmissionLaws.{few-points}
 use Rattle.intake.specs.declared.Intake.{Intake}
 use Rattle.intake.specs.declared.Answer.{Answer}
 use Rattle.intake.specs.declared.Answer.the-variants.{Accepted, Refused}
-use Rattle.intake.specs.Intake.{Laid, Waits, Admits}
+use Rattle.intake.specs.Intake.{Receives}
 use Rattle.intake.specs.Answers.{Hands}
-use Rattle.intake.proofs.AdmitLaws.{admitted-too}
+use Rattle.intake.proofs.AdmitLaws.{waits, not-admitted, admitted-too}
 use Rattle.intake.proofs.AnswerLaws.{refused-before, too-short, written, handed-fits}
-use Rattle.squeeze.specs.Squeezed.{Spacious, MarkIn, Marked}
-use Rattle.squeeze.proofs.KnownLaws.{clear-in}
+use Rattle.finding.specs.Findings.{Finds}
 use Rattle.list_entry.specs.Listable.{Listable}
 
 -- ---- a text that is not empty: no bytes are written where the buffer is short, and only there
@@ -86,52 +86,21 @@ module _ (P : Sheet) (n : ℕ) (marks : List Bool) (h : Listable P n marks) (o e
 abbrev listed : Model.Answer Ticket → Model.Answer (List ℕ)
 listed m = m >>= (λ T. accepted (listing (T .nest)))
 
--- the listing of an admitted ticket
-handed-by : (b : List ℕ) (P : Sheet) (S : Steps) → admit b ≡ accepted (ticketOn P S) → (m m′ : List ℕ) (a : Answer) → Hands (handOut (accepted (listing (nestOf P))) m) a m′ → Hands (list b m) a m′
-unfolding list _>>=_ ticketOn
-handed-by b P S e m m′ a = subst (λ (x : Model.Answer (List ℕ)). Hands (handOut x m) a m′) (sym (ap listed e))
+pub turned-away : (b : List ℕ) (r : Refusal) → admit b ≡ refusal r → (m : List ℕ) → Hands (list b m) (Refused r) m
+unfolding list _>>=_
+turned-away b r e m = refused-before (listed (admit b)) m r (ap listed (sym e))
 
-module _ (b : List ℕ) (o e : List ℤ) (q : Intake) (l w : List ℤ) (h : Admits b o e q l w) where
-  by-status : (s : Status) → q .status ≡ s → decoded s (ticketOn (sheetOf (q .outline) l w) (q .steps)) ≡ admit b
-  by-status s z = ap (λ (x : Status). decoded x (ticketOn (sheetOf (q .outline) l w) (q .steps))) (sym z) ∙ h .same
+module _ (b : List ℕ) (q : Intake) (l w : List ℤ) (h : Receives b q l w) (f : q .status ≡ Fine) (s : Status) (marks : List Bool) (g : Finds (sheetOf (q .outline) l w) s marks) where
+  pub found-refused : (r : Refusal) → s ≡ Status.Refused r → (m : List ℕ) → Hands (list b m) (Refused r) m
+  found-refused r e = turned-away b r (not-admitted b q l w h f s (g .admits) r e)
 
-  pub not-admitted : (r : Refusal) → q .status ≡ Status.Refused r → (m : List ℕ) → Hands (list b m) (Refused r) m
-  unfolding list _>>=_
-  not-admitted r z m = refused-before (listed (admit b)) m r (ap listed (by-status (Status.Refused r) z))
-
-  module _ (z : q .status ≡ Status.Fine) where
-    pub admitted-in : Admitted (sheetOf (q .outline) l w) e (q .count)
-    admitted-in = let t = h .taken z in record {
-      sheet = t .sheet;
-      points-are = t .points-are;
-      formed = t .formed;
-      admitted-is = t .admitted-is;
-    }
+  module _ (e : s ≡ Fine) where
+    pub listable : Listable (sheetOf (q .outline) l w) (q .count) marks
+    listable = let v = waits b q l w h f in let n = few-points (sheetOf (q .outline) l w) (q .count) v in record { lines = g .lines e; count = v .count; few = omega arith }
 
     pub handed : (m m′ : List ℕ) (a : Answer) → Hands (handOut (accepted (listing (nestOf (sheetOf (q .outline) l w)))) m) a m′ → Hands (list b m) a m′
-    handed = handed-by b (sheetOf (q .outline) l w) (q .steps) (sym (by-status Status.Fine z))
-
--- ---- without the points
-
-module _ (b : List ℕ) (q : Intake) (l w : List ℤ) (h : Waits b q l w 16384) where
-  laid : Laid (sheetOf (q .outline) l w) (q .steps) (q .count)
-  laid = h .receives .laid (h .fine)
-
-  spacious : Spacious (sheetOf (q .outline) l w)
-  spacious = record { sheet = laid .sheet; formed = laid .formed; spacious = laid .spacious }
-
-  pub marks-in-2 : q .outline .statements ≤ 2 → MarkIn (sheetOf (q .outline) l w) (replicate 8748 false)
-  marks-in-2 f = clear-in (sheetOf (q .outline) l w) spacious 2 f 8748 refl
-
-  pub marks-in-4 : MarkIn (sheetOf (q .outline) l w) (replicate 34992 false)
-  marks-in-4 = clear-in (sheetOf (q .outline) l w) spacious 4 (laid .sheet .few-statements) 34992 refl
-
-  module _ (marks : List Bool) (r : Bool) (k : r ≡ true → Marked (sheetOf (q .outline) l w) marks) (e : r ≡ true) where
-    pub listable-known : Listable (sheetOf (q .outline) l w) (q .count) marks
-    listable-known = let f = h .fits in record { lines = k e .lines; count = laid .count; few = omega arith }
-
-    pub handed-known : (m m′ : List ℕ) (a : Answer) → Hands (handOut (accepted (listing (nestOf (sheetOf (q .outline) l w)))) m) a m′ → Hands (list b m) a m′
-    handed-known = handed-by b (sheetOf (q .outline) l w) (q .steps) (admitted-too b q l w (h .receives) (h .fine) (k e .admitted-is))
+    unfolding list _>>=_ ticketOn
+    handed m m′ a = subst (λ (x : Model.Answer (List ℕ)). Hands (handOut x m) a m′) (sym (ap listed (admitted-too b q l w h f s (g .admits) e)))
 
 -- ---- for those who read what was written
 

@@ -216,8 +216,27 @@ vector-is d i s p h e f = let a = stride-half (6 - d) s f in let b = vector-smal
 pub count-small : (n p : ℕ) → n ≤ 4 → p ≤ 729 → (n * n ≤ 16) × (n * n * 3 * p ≤ 34992)
 count-small n p h g = let a : n * n ≤ 16 = mul-le-mul h h in let b : n * n * 3 ≤ 48 = omega arith in (a, mul-le-mul b g)
 
-pub mark-in : (n d i b v : ℕ) {m : ℕ} → At n d i → b ≡ i / stride d → v < 729 → n * n * 2187 ≤ m → b * 729 + v < m
-mark-in n d i b v a e h g = let c = a .block in omega arith
+-- the marks of a block are as far apart as a block has lines for
+whole-block : (d : ℕ) → d ≤ 6 → stride d * stride (6 - d) ≡ 729
+unfolding stride
+whole-block zero h = refl
+whole-block (suc zero) h = refl
+whole-block (suc (suc zero)) h = refl
+whole-block (suc (suc (suc zero))) h = refl
+whole-block (suc (suc (suc (suc zero)))) h = refl
+whole-block (suc (suc (suc (suc (suc zero))))) h = refl
+whole-block (suc (suc (suc (suc (suc (suc zero)))))) h = refl
+whole-block (suc (suc (suc (suc (suc (suc (suc d))))))) h = absurd (omega arith)
+
+pub mark-at : (n d i s : ℕ) → d ≤ 6 → s ≡ stride (6 - d) → At n d i → (place n (lineAt n d i) ≡ i * s + (s - 1) / 2) × (i * s + (s - 1) / 2 < n * n * 2187)
+mark-at n d i s h e a =
+    let q = i / stride d in let r = i % stride d in
+    let x : i * s ≡ q * 729 + r * s = ap (_* s) (sym (div-add-mod' i (stride d))) ∙ add-mul (q * stride d) r s ∙ ap (_+ r * s) (mul-assoc q (stride d) s ∙ ap (q *_) (ap (stride d *_) e ∙ whole-block d h)) in
+    let y : r * stride (6 - d) ≡ r * s = ap (r *_) (sym e) in
+    let m = stride-half (6 - d) s e in
+    let v = vector-small d r h (a .vector) in
+    let b = a .block in
+    (a .marked ∙ (let z : q * 729 + (r * stride (6 - d) + middle (6 - d)) ≡ i * s + (s - 1) / 2 = omega arith in z), omega arith)
 
 pub parts-in : (n d i b : ℕ) → At n d i → b ≡ i / stride d → (0 < n) × (b / 3 / n < n) × (b / 3 % n < n)
 parts-in n d i b a e = let s = a .source in rw e (omega arith, s, a .sink)

@@ -56,13 +56,13 @@ fn vector(depth: usize, i: usize) -> usize
     i % vectors::stride(6 - depth) * step + (step - 1) / 2
 }
 
-// Whether it is marked.
+// Whether it is marked. A block of 729 marks holds the lines of one source, sink and kind, `step` places from one to the next: so they go on in the next block.
 fn mark(marks: &[bool], n: usize, depth: usize, i: usize) -> bool
     requires { ⌜ Marks (now marks) n depth × (i < lineCount n depth) ⌝ }
     ensures { λ r. ⌜ r ≡ marked (now (marks .entry)) n (lineAt n depth i) ⌝ }
 {
-    let at = block(depth, i) * 729 + vector(depth, i);
-    marks[at]
+    let step = vectors::stride(depth);
+    marks[i * step + (step - 1) / 2]
 }
 
 fn letter(k: usize) -> u8

@@ -147,7 +147,7 @@ fn never_zero(words: &[i16], u: usize, v: usize, n: usize, ranges: [Range; 6]) -
 }
 
 // Whether one of d subscripts from subscript u on never equals its partner from subscript v on.
-fn some_apart(words: &[i16], u: usize, v: usize, d: usize, n: usize, ranges: [Range; 6]) -> bool
+pub fn some_apart(words: &[i16], u: usize, v: usize, d: usize, n: usize, ranges: [Range; 6]) -> bool
     requires { ⌜ FormsIn (now words) u v d n ranges ⌝ }
     ensures { λ r. ⌜ r ≡ someApart (rangesOf n ranges) (formsFrom (now (words .entry)) n u d) (formsFrom (now (words .entry)) n v d) ⌝ }
 {

@@ -5,7 +5,6 @@ use mathlib.Core.List.{List}
 use Prim.Native.Nat.{ℕ, zero, suc, _-_, _≤_, _<_}
 use native.Mathlib.Omega.{arith}
 use lib.Dec.{T, leb, leb→le, leb·zero, leb·suc-suc}
-use lib.IntN.{ℤ}
 use lib.ListN.{length, getD}
 use Rattle.model.specs.Answer.{accepted, refused, require, _>>_, _>>=_}
 use Rattle.model.specs.Ticket.{Access}
@@ -14,19 +13,12 @@ use Rattle.model.specs.Judge.{admit}
 use Rattle.model.specs.Entries.{allAccesses, accessNumber, quick}
 use Rattle.reading.specs.declared.Refusal.{Refusal}
 use Rattle.reading.specs.declared.Refusal.the-variants.{WordOutOfRange}
-use Rattle.reading.specs.declared.Status.{Status}
-use Rattle.reading.specs.declared.Status.the-variants as Status
 use Rattle.reading.specs.Refusals.{refusal}
 use Rattle.steps.specs.declared.Steps.{Steps}
-use Rattle.ticket.specs.Ticket.{ticketOn, decoded}
-use Rattle.sheet.specs.Sheets.{Sheet, sheetOf, nestOf, SheetIn}
+use Rattle.ticket.specs.Ticket.{ticketOn}
+use Rattle.sheet.specs.Sheets.{Sheet, nestOf, SheetIn}
 use Rattle.sheet.specs.Stages.{noAccess, accessOf, TestIn}
 use Rattle.sheet.proofs.SheetLaws.{access-count}
-use Rattle.intake.specs.declared.Intake.{Intake}
-use Rattle.intake.specs.Intake.{Laid, Waits, Admits}
-use Rattle.intake.proofs.AdmitLaws.{admitted-too}
-use Rattle.enclosure.specs.Promises.{StaysInside}
-use Rattle.enclosure.proofs.InsideLaws.{stays-admitted}
 use Rattle.quick_entry.specs.declared.Tested.{Tested}
 use Rattle.quick_entry.specs.Answers.{answerOf, tested}
 
@@ -111,42 +103,11 @@ module _ (P : Sheet) (h : SheetIn P) (u : ℕ) (s : Bool) (e : s ≡ (leb 1 u &&
 
 -- ---- the entry
 
-module _ (b : List ℕ) (P : Sheet) (S : Steps) (u v : ℕ) where
-  by-ticket : (s : Status) → decoded s (ticketOn P S) ≡ admit b → (decoded s (ticketOn P S) >>= (λ T. tested (T .nest) u v)) ≡ quick b u v
-  unfolding quick tested
-  by-ticket s e = ap (_>>= (λ T. tested (T .nest) u v)) e
+module _ (b : List ℕ) (u v : ℕ) where
+  pub refused-by : (r : Refusal) → admit b ≡ refusal r → refusal r ≡ quick b u v
+  unfolding quick tested _>>=_
+  refused-by r e = ap (_>>= (λ T. tested (T .nest) u v)) (sym e)
 
-  refused-by : (r : Refusal) → decoded (Status.Refused r) (ticketOn P S) ≡ admit b → refusal r ≡ quick b u v
-  unfolding _>>=_
-  refused-by r = by-ticket (Status.Refused r)
-
-  answered-by : decoded Status.Fine (ticketOn P S) ≡ admit b → (a : Tested) → answerOf a ≡ tested (nestOf P) u v → answerOf a ≡ quick b u v
-  unfolding _>>=_ ticketOn
-  answered-by e a g = g ∙ by-ticket Status.Fine e
-
-module _ (b : List ℕ) (o e : List ℤ) (q : Intake) (l w : List ℤ) (h : Admits b o e q l w) (u v : ℕ) where
-  by-status : (s : Status) → q .status ≡ s → decoded s (ticketOn (sheetOf (q .outline) l w) (q .steps)) ≡ admit b
-  by-status s z = ap (λ (x : Status). decoded x (ticketOn (sheetOf (q .outline) l w) (q .steps))) (sym z) ∙ h .same
-
-  pub not-admitted : (r : Refusal) → q .status ≡ Status.Refused r → refusal r ≡ quick b u v
-  not-admitted r s = refused-by b (sheetOf (q .outline) l w) (q .steps) u v r (by-status (Status.Refused r) s)
-
-  pub sheet-in : q .status ≡ Status.Fine → SheetIn (sheetOf (q .outline) l w)
-  sheet-in s = h .taken s .sheet
-
-  pub answered : q .status ≡ Status.Fine → (a : Tested) → answerOf a ≡ tested (nestOf (sheetOf (q .outline) l w)) u v → answerOf a ≡ quick b u v
-  answered s = answered-by b (sheetOf (q .outline) l w) (q .steps) u v (by-status Status.Fine s)
-
--- ---- without the points
-
-module _ (b : List ℕ) (q : Intake) (l w : List ℤ) (n : ℕ) (h : Waits b q l w n) where
-  laid : Laid (sheetOf (q .outline) l w) (q .steps) (q .count)
-  laid = h .receives .laid (h .fine)
-
-  pub sheet-laid : SheetIn (sheetOf (q .outline) l w)
-  sheet-laid = laid .sheet
-
-  pub answered-inside : (r : Bool) → StaysInside (sheetOf (q .outline) l w) r → r ≡ true → (u v : ℕ) (a : Tested) → answerOf a ≡ tested (nestOf (sheetOf (q .outline) l w)) u v → answerOf a ≡ quick b u v
-  answered-inside r g e u v =
-      let i = stays-admitted (sheetOf (q .outline) l w) r g e (laid .spacious) in
-      answered-by b (sheetOf (q .outline) l w) (q .steps) u v (sym (admitted-too b q l w (h .receives) (h .fine) i))
+  pub answered-by : (P : Sheet) (S : Steps) → admit b ≡ accepted (ticketOn P S) → (a : Tested) → answerOf a ≡ tested (nestOf P) u v → answerOf a ≡ quick b u v
+  unfolding quick tested _>>=_ ticketOn
+  answered-by P S e a g = g ∙ ap (_>>= (λ T. tested (T .nest) u v)) (sym e)

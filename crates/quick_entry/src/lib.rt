@@ -2,10 +2,11 @@
 ghost use mathlib.Core.Path.{_≡_};
 ghost use mathlib.Core.Bool.{_&&_};
 ghost use lib.Dec.{leb};
-ghost use lib.ListN.{length};
 ghost use Rattle.model.specs.Entries as Entries;
+ghost use Rattle.reading.specs.declared.Status.the-variants.{Fine};
 ghost use Rattle.sheet.specs.Sheets.{sheetOf, nestOf, SheetIn};
-ghost use Rattle.intake.specs.Intake.{Waits};
+ghost use Rattle.admission.specs.Admission.{Admits};
+ghost use Rattle.intake.specs.Intake.{Receives};
 ghost use Rattle.quick_entry.specs.Answers.{answerOf, tested};
 use intake::Intake;
 use reading::Refusal;
@@ -45,21 +46,20 @@ fn test(outline: Outline, limits: &[i16], words: &[i16], first: usize, second: u
     Tested::Perhaps
 }
 
-// Refusal 9 of what was received of the ticket, then the test.
-fn quick_by(
+// The test, where refusal 9 is passed. The ticket's bytes are lent for the contract alone.
+fn test_found(
     ticket: &[u8],
     all: Intake,
     limits: &[i16],
     words: &[i16],
-    points: &mut [i64],
+    found: Status,
     first: usize,
     second: usize,
 ) -> Tested
-    requires { ⌜ Waits (now ticket) all (now limits) (now words) (length (now points)) ⌝ }
+    requires { ⌜ Receives (now ticket) all (now limits) (now words) × (all .status ≡ Fine) × Admits (sheetOf (all .outline) (now limits) (now words)) found ⌝ }
     ensures { λ r. ⌜ answerOf r ≡ Entries.quick (now (ticket .entry)) first second ⌝ }
 {
-    let status = intake::admit(ticket, all, limits, words, points);
-    match status {
+    match found {
         Status::Fine => {}
         Status::Refused(r) => return Tested::Refused(r),
     }
@@ -67,27 +67,7 @@ fn quick_by(
     test(outline, limits, words, first, second)
 }
 
-// The same of many points: without them, where the ranges of the loops show that refusal 9 is passed.
-fn quick_many(
-    ticket: &[u8],
-    all: Intake,
-    limits: &[i16],
-    words: &[i16],
-    first: usize,
-    second: usize,
-) -> Tested
-    requires { ⌜ Waits (now ticket) all (now limits) (now words) 16384 ⌝ }
-    ensures { λ r. ⌜ answerOf r ≡ Entries.quick (now (ticket .entry)) first second ⌝ }
-{
-    let outline = all.outline;
-    if enclosure::stays_inside(outline, limits, words) {
-        return test(outline, limits, words, first, second);
-    }
-    let mut points = [0i64; 16384];
-    quick_by(ticket, all, limits, words, &mut points, first, second)
-}
-
-// Judges 1 to 9, then the two access numbers, from 1. Few points have fewer indices to clear. 'Apart' means that the two accesses never meet (model, Demands: apart-never-meet).
+// Judges 1 to 9, then the two access numbers, from 1. 'Apart' means that the two accesses never meet (model, Demands: apart-never-meet).
 pub fn quick(ticket: &[u8], first: usize, second: usize) -> Tested
     ensures { λ r. ⌜ answerOf r ≡ Entries.quick (now (ticket .entry)) first second ⌝ }
 {
@@ -99,9 +79,11 @@ pub fn quick(ticket: &[u8], first: usize, second: usize) -> Tested
         Status::Fine => {}
         Status::Refused(r) => return Tested::Refused(r),
     }
+    let outline = all.outline;
     if all.count <= 256 {
-        let mut few = [0i64; 1024];
-        return quick_by(ticket, all, &limits, &words, &mut few, first, second);
+        let few = admission::admit_few(outline, &limits, &words);
+        return test_found(ticket, all, &limits, &words, few, first, second);
     }
-    quick_many(ticket, all, &limits, &words, first, second)
+    let many = admission::admit_many(outline, &limits, &words);
+    test_found(ticket, all, &limits, &words, many, first, second)
 }

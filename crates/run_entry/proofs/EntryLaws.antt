@@ -21,17 +21,17 @@ use Rattle.reading.specs.declared.Refusal.{Refusal}
 use Rattle.reading.specs.declared.Status.{Status}
 use Rattle.reading.specs.declared.Status.the-variants as Status
 use Rattle.reading.specs.Refusals.{refusal}
-use Rattle.ticket.specs.Ticket.{ticketOn, decoded}
+use Rattle.ticket.specs.Ticket.{ticketOn}
 use Rattle.sheet.specs.Sheets.{Sheet, sheetOf, nestOf, SheetIn}
 use Rattle.intake.specs.declared.Intake.{Intake}
 use Rattle.intake.specs.declared.Answer.{Answer}
 use Rattle.intake.specs.declared.Answer.the-variants.{Refused}
-use Rattle.intake.specs.Intake.{Laid, Admits}
+use Rattle.intake.specs.Intake.{Laid}
 use Rattle.intake.proofs.AdmitLaws.{admitted-too}
 use Rattle.intake.specs.Answers.{Hands}
 use Rattle.judgement.specs.declared.Judged.{Judged}
 use Rattle.judgement.specs.Judgement.{judgedAs, Judges}
-use Rattle.verdict.specs.Verdicts.{Judgeable, Finds}
+use Rattle.verdict.specs.Verdicts.{Judgeable}
 use Rattle.execution.specs.Execution.{opaqueAt, Executable}
 use Rattle.execution.proofs.AcceptedLaws.{new-count, new-arrays, new-executable}
 use Rattle.judged_run.specs.Outcomes.{tested, outcome, RunIn}
@@ -61,12 +61,8 @@ module _ (b w : List ℕ) where
 
 -- ---- the entry
 
-module _ (b w : List ℕ) (o e : List ℤ) (q : Intake) (l m : List ℤ) (h : Admits b o e q l m) where
-  pub not-admitted : (r : Refusal) → q .status ≡ Status.Refused r → Hands (runEntry b w) (Refused r) w
-  not-admitted r z = judgement-refused b w r (refused-judged b (sym (h .same) ∙ ap (λ (x : Status). decoded x (ticketOn (sheetOf (q .outline) l m) (q .steps))) z))
-
-pub found-refused : (b w : List ℕ) (q : Intake) (l m : List ℤ) (s : Status) (d : List Bool) → Finds b q l m s d → (r : Refusal) → s ≡ Status.Refused r → Hands (runEntry b w) (Refused r) w
-found-refused b w q l m s d h r z = judgement-refused b w r (refused-judged b (h .turned-away r z))
+pub turned-away : (b w : List ℕ) (r : Refusal) → admit b ≡ refusal r → Hands (runEntry b w) (Refused r) w
+turned-away b w r e = judgement-refused b w r (refused-judged b e)
 
 module _ (b w : List ℕ) (q : Intake) (l m : List ℤ) (d : List Bool) (h : Judgeable b q l m d) where
   -- the ticket's own sheet
@@ -90,7 +86,7 @@ module _ (b w : List ℕ) (q : Intake) (l m : List ℤ) (d : List Bool) (h : Jud
     judge-is s y = sym (g .same) ∙ ap (λ (x : Status). judgedAs x whole) y
 
     judged-is : judged b ≡ judgeTicket (ticketOn own (q .steps))
-    judged-is = admitted-judged b (admitted-too b q l m (h .receives) (h .fine) (h .admitted-is))
+    judged-is = admitted-judged b (admitted-too b q l m (h .receives) (h .fine) Status.Fine (sym (h .admitted-is)) refl)
 
     pub not-judged : (x : Refusal) → r .status ≡ Status.Refused x → Hands (runEntry b w) (Refused x) w
     not-judged x y = judgement-refused b w x (judged-is ∙ judge-is (Status.Refused x) y)

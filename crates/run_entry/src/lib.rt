@@ -1,7 +1,12 @@
 // The entry `run`: the nest of a ticket in its new order, on a store.
+ghost use mathlib.Core.Path.{_≡_};
 ghost use Rattle.model.specs.Entries as Entries;
+ghost use Rattle.reading.specs.declared.Status.the-variants.{Fine};
+ghost use Rattle.sheet.specs.Sheets.{sheetOf};
+ghost use Rattle.intake.specs.Intake.{Receives};
 ghost use Rattle.intake.specs.Answers.{Hands};
-ghost use Rattle.verdict.specs.Verdicts.{Judgeable, Finds};
+ghost use Rattle.finding.specs.Findings.{Directs};
+ghost use Rattle.verdict.specs.Verdicts.{Judgeable};
 use directions::DirectionSet;
 use intake::Answer;
 use intake::Intake;
@@ -37,7 +42,7 @@ fn run_with(
     judged_run::run_judged(opaque, elements, new, limits, words, all.count, store)
 }
 
-// What was found decides, where it is no refusal.
+// The same, where refusal 9 is passed.
 fn run_found(
     ticket: &[u8],
     all: Intake,
@@ -47,7 +52,7 @@ fn run_found(
     marks: [bool; 729],
     store: &mut [u32],
 ) -> Answer
-    requires { ⌜ Finds (now ticket) all (now limits) (now words) found marks ⌝ }
+    requires { ⌜ Receives (now ticket) all (now limits) (now words) × (all .status ≡ Fine) × Directs (sheetOf (all .outline) (now limits) (now words)) found marks ⌝ }
     ensures { λ r. ⌜ Hands (Entries.runEntry (now (ticket .entry)) (now (store .entry))) r (now (store .exit)) ⌝ }
 {
     match found {
@@ -69,11 +74,8 @@ pub fn run(ticket: &[u8], store: &mut [u32]) -> Answer
         Status::Fine => {}
         Status::Refused(r) => return Answer::Refused(r),
     }
+    let outline = all.outline;
     let mut marks = [false; 729];
-    if all.count <= 256 {
-        let found = verdict::find_few(ticket, all, &limits, &words, &mut marks);
-        return run_found(ticket, all, &mut limits, &mut words, found, marks, store);
-    }
-    let found = verdict::find_many(ticket, all, &limits, &words, &mut marks);
+    let found = finding::find_directions(outline, &limits, &words, all.count, &mut marks);
     run_found(ticket, all, &mut limits, &mut words, found, marks, store)
 }

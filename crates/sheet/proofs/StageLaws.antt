@@ -1,8 +1,8 @@
 -- What each stage asks of the slices that it is lent, and what its answer says of the nest.
 use mathlib.Core.Path.{_≡_, refl, sym, _∙_, ap, subst}
-use mathlib.Core.Bool.{Bool, true, false}
+use mathlib.Core.Bool.{Bool, false}
 use mathlib.Core.List.{List, [], _∷_, map}
-use Prim.Native.Nat.{ℕ, zero, suc, _+_, _*_, _≤_, _<_}
+use Prim.Native.Nat.{ℕ, zero, suc, _+_, _*_, _<_}
 use native.Mathlib.Omega.{arith}
 use lib.Dec.{T}
 use lib.IntN.{ℤ}
@@ -10,10 +10,7 @@ use lib.ListN.{length, getD}
 use Rattle.lists.specs.Parts.{rows}
 use Rattle.lists.proofs.PartLaws.{length-rows}
 use Rattle.lists.proofs.MembershipLaws.{getD-mem}
-use Rattle.model.specs.Answer.{accepted}
 use Rattle.model.specs.Ticket.{Access}
-use Rattle.model.specs.Grammar.{total}
-use Rattle.model.specs.Points.{iterations}
 use Rattle.model.specs.Bounds.{survey, inArrays, strays}
 use Rattle.model.specs.Machine.{element}
 use Rattle.model.specs.Store.{placeOf}
@@ -25,7 +22,7 @@ use Rattle.space.specs.Stored.{PointsIn, Listed}
 use Rattle.space.specs.declared.Verdict.{Verdict}
 use Rattle.space.proofs.ThroughLaws.{loops-length}
 use Rattle.space.proofs.ListLaws.{listed-room}
-use Rattle.elements.specs.Layout.{arraysOf, accessAt}
+use Rattle.elements.specs.Layout.{accessAt}
 use Rattle.elements.specs.Search as Elements
 use Rattle.elements.specs.Places as Places
 use Rattle.elements.specs.Places.{placeAt, placesOf, numbered}
@@ -82,52 +79,46 @@ module _ (P : Sheet) where
 
   module _ (points : List ℤ) (n room : ℕ) (h : NumberIn P points n room) where
     abbrev s : SheetIn P
-    s = h .stray .sheet
+    s = h .sheet
 
-    inside-rows : inArrays (nestOf P .arrays) (rows (P .depth) n points) 1 (nestOf P .statements) ≡ accepted tt
-    inside-rows = ap (λ (ps : List (List ℤ)). inArrays (nestOf P .arrays) ps 1 (nestOf P .statements)) (h .stray .points-are .are) ∙ h .inside
+    abbrev at : ℕ → List ℤ
+    at x = getD (rows (P .depth) n points) x []
 
     pub number-in : Places.NumberIn (wordsIn P) (ownersIn P) (extentsIn P) points (P .depth) n room
     unfolding nestOf
     number-in = let l = owners-count P s in let e = s .all-accesses in let f = h .fits in record {
       accesses = s .accesses-ok;
-      stored = h .stray .points-are .stored;
-      inside = admitted-inside (wordsIn P) (ownersIn P) (extentsIn P) (P .depth) (rows (P .depth) n points) (sizesIn P) (nestOf P .statements) (bodies-are P s) (omega arith) inside-rows;
+      stored = h .stored;
+      inside = admitted-inside (wordsIn P) (ownersIn P) (extentsIn P) (P .depth) (rows (P .depth) n points) (sizesIn P) (nestOf P .statements) (bodies-are P s) (omega arith) (h .inside);
       fits = s .fits;
       space = omega (arith, ap (λ (m : ℕ). m * n) l);
     }
 
-    row-is : (x : ℕ) → getD (rows (P .depth) n points) x [] ≡ getD (iterations (nestOf P .loops)) x []
-    row-is x = ap (λ (ps : List (List ℤ)). getD ps x []) (h .stray .points-are .are)
-
-    keeps : (k x : ℕ) → k < P .accesses → x < length (iterations (nestOf P .loops)) → strays (nestOf P .arrays) (getD (iterations (nestOf P .loops)) x []) (accessOf (nestOf P) k) ≡ false
+    keeps : (k x : ℕ) → k < P .accesses → x < n → strays (nestOf P .arrays) (at x) (accessOf (nestOf P) k) ≡ false
     unfolding nestOf
     keeps k x a b =
-        let l = owners-count P s in let q = h .stray .points-are .count in let r = length-rows (P .depth) n points in
-        let f = number-in .inside k (omega arith) (getD (rows (P .depth) n points) x []) (getD-mem (rows (P .depth) n points) x [] (omega arith)) in
-        ap (λ (p : List ℤ). strays (nestOf P .arrays) p (accessOf (nestOf P) k)) (sym (row-is x)) ∙ ap (strays (nestOf P .arrays) (getD (rows (P .depth) n points) x [])) (access-is P s k a) ∙ f
+        let l = owners-count P s in let r = length-rows (P .depth) n points in
+        ap (strays (nestOf P .arrays) (at x)) (access-is P s k a) ∙ number-in .inside k (omega arith) (at x) (getD-mem (rows (P .depth) n points) x [] (omega arith))
 
     -- every access names an element of its array at every point
-    pub access-valid : (k x : ℕ) → k < P .accesses → x < length (iterations (nestOf P .loops)) → Valid (nestOf P .arrays) (element (getD (iterations (nestOf P .loops)) x []) (accessOf (nestOf P) k))
-    access-valid k x a b = element-valid (nestOf P .arrays) (length (nestOf P .loops)) (getD (iterations (nestOf P .loops)) x []) (accessOf (nestOf P) k) (access-fits P s (h .formed) k a) (λ t. subst T (keeps k x a b) t)
+    pub access-valid : (k x : ℕ) → k < P .accesses → x < n → Valid (nestOf P .arrays) (element (at x) (accessOf (nestOf P) k))
+    access-valid k x a b = element-valid (nestOf P .arrays) (length (nestOf P .loops)) (at x) (accessOf (nestOf P) k) (access-fits P s (h .formed) k a) (λ t. subst T (keeps k x a b) t)
 
-    pub number-out : (o e : List ℕ) → length o ≡ room → e ≡ numbered n (placesOf (wordsIn P) (ownersIn P) (extentsIn P) (P .depth) (rows (P .depth) n points)) (length (ownersIn P)) o → NumbersAre P n e
+    pub number-out : (o e : List ℕ) → length o ≡ room → e ≡ numbered n (placesOf (wordsIn P) (ownersIn P) (extentsIn P) (P .depth) (rows (P .depth) n points)) (length (ownersIn P)) o → NumbersAre P points n e
     unfolding nestOf placesOf placeAt
     number-out o e l q =
-        let c = owners-count P s in let d = h .stray .points-are .count in let f = h .fits in let m = same-out (wordsIn P) (ownersIn P) (extentsIn P) points (P .depth) n o numbers-in (length (ownersIn P)) (omega arith) e q in
-        record { count = d; room = omega (arith, ap (λ (m : ℕ). m * n) c); are = place-at; small = λ k x a b. let v = place-below (nestOf P .arrays) _ (access-valid k x a (omega arith)) in let z = place-at k x a b in omega arith }
+        let c = owners-count P s in let f = h .fits in let m = same-out (wordsIn P) (ownersIn P) (extentsIn P) points (P .depth) n o numbers-in (length (ownersIn P)) (omega arith) e q in
+        record { room = omega (arith, ap (λ (m : ℕ). m * n) c); are = place-at; small = λ k x a b. let v = place-below (nestOf P .arrays) _ (access-valid k x a b) in let z = place-at k x a b in omega arith }
       where
         numbers-in : Places.NumberIn (wordsIn P) (ownersIn P) (extentsIn P) points (P .depth) n (length o)
         numbers-in = subst (Places.NumberIn (wordsIn P) (ownersIn P) (extentsIn P) points (P .depth) n) (sym l) number-in
 
-        place-at : (k x : ℕ) → k < P .accesses → x < n
-            → getD e (k * n + x) 0 ≡ placeOf (nestOf P .arrays) (element (getD (iterations (nestOf P .loops)) x []) (accessOf (nestOf P) k))
+        place-at : (k x : ℕ) → k < P .accesses → x < n → getD e (k * n + x) 0 ≡ placeOf (nestOf P .arrays) (element (at x) (accessOf (nestOf P) k))
         place-at k x a b =
-            let c = owners-count P s in let d = h .stray .points-are .count in let r = length-rows (P .depth) n points in
-            stored-place (wordsIn P) (ownersIn P) (extentsIn P) points (P .depth) n o numbers-in e q k x (omega arith) (omega arith)
+            let c = owners-count P s in let r = length-rows (P .depth) n points in
+            stored-place (wordsIn P) (ownersIn P) (extentsIn P) points (P .depth) n o numbers-in e q k x (omega arith) b
             ∙ getD-map (placeAt (wordsIn P) (ownersIn P) (extentsIn P) (P .depth) k) (rows (P .depth) n points) x [] 0 (omega arith)
-            ∙ ap (λ (p : List ℤ). placeOf (nestOf P .arrays) (element p (accessAt (wordsIn P) (ownersIn P) (extentsIn P) (P .depth) k))) (row-is x)
-            ∙ ap (λ (u : Access). placeOf (nestOf P .arrays) (element (getD (iterations (nestOf P .loops)) x []) u)) (sym (access-is P s k a))
+            ∙ ap (λ (u : Access). placeOf (nestOf P .arrays) (element (at x) u)) (sym (access-is P s k a))
 
   -- ---- the quick test
 

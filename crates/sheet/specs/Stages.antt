@@ -48,10 +48,12 @@ pub record StrayIn (P : Sheet) (points : List ℤ) (n : ℕ) : Type 0 where
 abbrev pub Searched : Sheet → ℕ → Type 0
 Searched P r = Elements.answerOf r ≡ inArrays (nestOf P .arrays) (iterations (nestOf P .loops)) 1 (nestOf P .statements)
 
+-- any n points, all of the nest's or a part of them, at which no access leaves its array
 pub record NumberIn (P : Sheet) (points : List ℤ) (n room : ℕ) : Type 0 where
-  pub stray : StrayIn P points n
+  pub sheet : SheetIn P
   pub formed : WellFormed (nestOf P)
-  pub inside : inArrays (nestOf P .arrays) (iterations (nestOf P .loops)) 1 (nestOf P .statements) ≡ accepted tt
+  pub stored : RowsIn points (P .depth) n
+  pub inside : inArrays (nestOf P .arrays) (rows (P .depth) n points) 1 (nestOf P .statements) ≡ accepted tt
   pub fits : P .accesses * n ≤ room
 
 abbrev pub noAccess : Access
@@ -62,10 +64,9 @@ abbrev pub accessOf : Nest → ℕ → Access
 accessOf N k = getD (allAccesses N) k noAccess
 
 -- the number of access k at point x, of n points, stands at n k + x
-pub record NumbersAre (P : Sheet) (n : ℕ) (numbers : List ℕ) : Type 0 where
-  pub count : n ≡ length (iterations (nestOf P .loops))
+pub record NumbersAre (P : Sheet) (points : List ℤ) (n : ℕ) (numbers : List ℕ) : Type 0 where
   pub room : P .accesses * n ≤ length numbers
-  pub are : (k x : ℕ) → k < P .accesses → x < n → getD numbers (k * n + x) 0 ≡ placeOf (nestOf P .arrays) (element (getD (iterations (nestOf P .loops)) x []) (accessOf (nestOf P) k))
+  pub are : (k x : ℕ) → k < P .accesses → x < n → getD numbers (k * n + x) 0 ≡ placeOf (nestOf P .arrays) (element (getD (rows (P .depth) n points) x []) (accessOf (nestOf P) k))
   pub small : (k x : ℕ) → k < P .accesses → x < n → getD numbers (k * n + x) 0 < total (nestOf P .arrays)
 
 pub record TestIn (P : Sheet) (u v : ℕ) : Type 0 where

@@ -83,7 +83,7 @@ pub fn elements_in(outline: Outline, limits: &[i16], words: &[i16]) -> usize
     elements::total_of(&extents[..arrays * 4], arrays)
 }
 
-// The place in the store of every access at every point, those of one access after those of another.
+// The place in the store of every access at every point that is lent, those of one access after those of another.
 pub fn number_accesses(
     outline: Outline,
     limits: &[i16],
@@ -93,7 +93,7 @@ pub fn number_accesses(
     numbers: &mut [u16],
 )
     requires { ⌜ NumberIn (sheetOf outline (now limits) (now words)) (now points) count (length (now numbers)) ⌝ }
-    ensures { λ _. ⌜ NumbersAre (sheetOf outline (now (limits .entry)) (now (words .entry))) count (now (numbers .exit)) ⌝ }
+    ensures { λ _. ⌜ NumbersAre (sheetOf outline (now (limits .entry)) (now (words .entry))) (now (points .entry)) count (now (numbers .exit)) ⌝ }
 {
     let owners = outline.owners;
     let extents = outline.extents;

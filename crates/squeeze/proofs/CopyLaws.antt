@@ -1,12 +1,10 @@
--- A slice element by element: words copied, then marks cleared.
-use mathlib.Core.Path.{_≡_, sym, ap, _∙_, subst}
-use mathlib.Core.Bool.{Bool, false}
+-- Words copied one by one.
+use mathlib.Core.Path.{_≡_, sym, ap, _∙_}
 use Prim.Native.Nat.{ℕ, _+_, _≤_, _<_}
 use native.Mathlib.Omega.{arith}
-use native.Mathlib.Decide.{decLt}
 use lib.IntN.{ℤ, pos}
-use lib.ListN.{length, getD, take, set, List·getD-eq-default}
-use lib.Seq.{take-length, getD-set-same, getD-set-other}
+use lib.ListN.{length, getD, take, set}
+use lib.Seq.{take-length}
 use mathlib.Core.List.{List}
 use mir.Syntax.{w16}
 use mir.Val.{SFits, toZ, ofZ}
@@ -21,16 +19,3 @@ module _ (o from : List ℤ) (i : ℕ) (room : length o ≡ length from) (e : ta
   copy-done h g =
       let q : i ≡ length from = omega arith in
       sym (take-length o) ∙ ap (λ (k : ℕ). take k o) (room ∙ sym q) ∙ e ∙ ap (λ (k : ℕ). take k from) q ∙ take-length from
-
-module _ (m : List Bool) (i : ℕ) (f : (j : ℕ) → j < i → getD m j false ≡ false) where
-  pub clear-more : i < length m → (j : ℕ) → j < i + 1 → getD (set m i false) j false ≡ false
-  clear-more h j l = elim (decLt j i) [
-    | yes g ↦ getD-set-other m i j false false (λ e. omega arith) ∙ f j g
-    | no g ↦ let e : i ≡ j = omega arith in subst (λ (k : ℕ). getD (set m i false) k false ≡ false) e (getD-set-same m i false false h)
-  ]
-
-  pub clear-done : length m ≤ i → (j : ℕ) → getD m j false ≡ false
-  clear-done h j = elim (decLt j i) [
-    | yes g ↦ f j g
-    | no g ↦ List·getD-eq-default m false (omega arith)
-  ]

@@ -1,13 +1,13 @@
 -- A nest on its sheet. In order: the flat data of its accesses are as the pairs ask (`pairs-in`), and all pairs covered cover the sheet; a nest of few
--- points can be listed (`few-in`), and its lines can be marked (`few-lines`).
+-- points can be listed (`list-few`).
 use mathlib.Core.Path.{_≡_, sym, ap, _∙_, subst}
 use mathlib.Core.Bool.{Bool, true, false}
 use mathlib.Core.List.{List, map}
 use Prim.Native.Nat.{ℕ, _*_, _≤_, _<_}
 use native.Mathlib.Omega.{arith}
 use native.Mathlib.Nat.{mul-le-mul}
-use lib.IntN.{ℤ, pos}
-use lib.ListN.{length, getD, take, replicate, length-replicate, length-map, List·getD-map}
+use lib.IntN.{ℤ}
+use lib.ListN.{length, getD, take, length-map, List·getD-map}
 use Rattle.lists.proofs.MembershipLaws.{getD-mem}
 use Rattle.model.specs.Answer.{accepted}
 use Rattle.model.specs.Points.{iterations}
@@ -24,10 +24,10 @@ use Rattle.admission.specs.declared.Counted.{Counted}
 use Rattle.admission.specs.declared.Counted.the-variants.{Points}
 use Rattle.lines.specs.declared.Uses.{Uses}
 use Rattle.lines.specs.Uses.{UsesAre}
-use Rattle.lines.specs.Lines.{LinesIn}
+use Rattle.lines.specs.Lines.{Markable}
 use Rattle.lines.proofs.MarkLaws.{statement-count, use-count}
 use Rattle.squeeze.specs.Covered.{pairs, PairsIn, CoveredTo}
-use Rattle.squeeze.specs.Squeezed.{pairsOf, SheetCovered, CoverIn, PartIn}
+use Rattle.squeeze.specs.Squeezed.{pairsOf, SheetCovered, CoverIn}
 
 -- an answer that promises nothing
 pub unsaid : {A : Type 0} → false ≡ true → A
@@ -77,7 +77,7 @@ module _ (P : Sheet) (rs : List Range) (m : List Bool) (h : CoverIn P rs m) wher
 
 -- ---- few points
 
-module _ (P : Sheet) (m : List Bool) (h : PartIn P m) (r : Counted) (g : Counts P r) (n : ℕ) (e : r ≡ Points n) (few : n ≤ 128) where
+module _ (P : Sheet) (m : List Bool) (h : Markable P m) (r : Counted) (g : Counts P r) (n : ℕ) (e : r ≡ Points n) (few : n ≤ 128) where
   spacious : space (nestOf P .loops) ≡ accepted tt
   spacious = sym (g .same) ∙ ap answerOf e
 
@@ -92,11 +92,7 @@ module _ (P : Sheet) (m : List Bool) (h : PartIn P m) (r : Counted) (g : Counts 
   }
 
   pub list-few : ListIn P 768
-  list-few = let e = length-replicate {A = ℤ} 768 (pos 0) in subst (ListIn P) e (list-in P (replicate 768 (pos 0)) (subst (EnumerateIn P) (sym e) few-in))
+  list-few = list-in P 768 few-in
 
-  module _ (p : List ℤ) (k : ℕ) (q : PointsAre P p k) where
-    pub few-listed : k ≤ 256
-    few-listed = let a = q .count in let b = counted in omega arith
-
-    pub few-lines : LinesIn P p k m
-    few-lines = record { stray = record { sheet = h .sheet; points-are = q }; formed = h .formed; inside = h .inside; clear = h .clear; room = h .room }
+  pub few-listed : (p : List ℤ) (k : ℕ) → PointsAre P p k → k ≤ 256
+  few-listed p k q = let a = q .count in let b = counted in omega arith

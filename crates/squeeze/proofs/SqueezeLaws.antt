@@ -27,9 +27,9 @@ use Rattle.corner.specs.Corners.{Narrower}
 use Rattle.sheet.specs.declared.Outline.{Outline}
 use Rattle.sheet.specs.Sheets.{Sheet, sheetOf, nestOf, SheetIn}
 use Rattle.sheet.proofs.StageLaws.{depth-is}
-use Rattle.lines.specs.Lines.{LinesAre}
+use Rattle.lines.specs.Lines.{Markable, LinesAre}
 use Rattle.lines.proofs.MarkLaws.{select-same, statement-count}
-use Rattle.squeeze.specs.Squeezed.{limited, Recounted, SheetCovered, RangesOn, CoverIn, PartIn, SqueezeIn}
+use Rattle.squeeze.specs.Squeezed.{limited, Recounted, SheetCovered, RangesOn, CoverIn, SqueezeIn}
 use Rattle.squeeze.proofs.PartLaws.{part-sheet, part-formed, part-inside, part-lines}
 use Rattle.squeeze.proofs.CoverLaws.{covered-marked}
 
@@ -80,8 +80,8 @@ module _ (O : Outline) (s w : List ℤ) (m : List Bool) (p : SqueezeIn (sheetOf 
     narrower : Narrower s (O .counts) (O .depth) t d
     narrower = subst (λ (l : List ℤ). Narrower l (O .counts) (O .depth) t d) copied cut
 
-    pub part-in : PartIn (sheetOf Q t w) m
-    part-in = subst (λ (C : Sheet). PartIn C m) (sym (recounted s t w)) (record {
+    pub part-in : Markable (sheetOf Q t w) m
+    part-in = subst (λ (C : Sheet). Markable C m) (sym (recounted s t w)) (record {
       sheet = part-sheet P t d (p .part .sheet) narrower;
       formed = part-formed P t d (p .part .sheet) narrower (p .part .formed);
       inside = part-inside P t d (p .part .sheet) narrower (p .part .inside);

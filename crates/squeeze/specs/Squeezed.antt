@@ -6,16 +6,15 @@ use Prim.Native.Nat.{ℕ, _*_, _≤_}
 use lib.IntN.{ℤ}
 use lib.ListN.{length, getD}
 use Rattle.model.specs.Answer.{accepted}
-use Rattle.model.specs.Points.{iterations}
-use Rattle.model.specs.Bounds.{space, admitted, inArrays}
-use Rattle.model.specs.Shape.{WellFormed}
+use Rattle.model.specs.Bounds.{admitted}
 use Rattle.model.specs.Quick.{ranges}
 use Rattle.extremes.specs.declared.Range.{Range}
 use Rattle.extremes.specs.Ranges.{rangesOf, RangesIn}
 use Rattle.dependence.specs.Flat.{Use, uses}
 use Rattle.sheet.specs.declared.Outline.{Outline}
 use Rattle.sheet.specs.Sheets.{Sheet, sheetOf, extentsIn, ownersIn, wordsIn, nestOf, SheetIn}
-use Rattle.lines.specs.Lines.{LinesAre, DirectionsAre}
+use Rattle.lines.specs.Lines.{Markable, LinesAre}
+use Rattle.admission.specs.Admission.{Spacious}
 use Rattle.squeeze.specs.Covered.{Pairs, pairs, CoveredTo}
 
 -- the sheet with other limits
@@ -61,26 +60,12 @@ pub record CoverIn (P : Sheet) (rs : List Range) (m : List Bool) : Type 0 where
   pub ranges : RangesIn (P .depth) rs
   pub room : Room P m
 
--- a nest whose subscripts stay within their extents, and marks that are all clear
-pub record PartIn (P : Sheet) (m : List Bool) : Type 0 where
-  pub sheet : SheetIn P
-  pub formed : WellFormed (nestOf P)
-  pub inside : inArrays (nestOf P .arrays) (iterations (nestOf P .loops)) 1 (nestOf P .statements) ≡ accepted tt
-  pub clear : (j : ℕ) → getD m j false ≡ false
-  pub room : Room P m
-
--- of an admitted nest
+-- an admitted nest, and marks that are all clear
 pub record SqueezeIn (P : Sheet) (m : List Bool) : Type 0 where
-  pub part : PartIn P m
+  pub part : Markable P m
   pub admitted-is : admitted (nestOf P) ≡ accepted tt
 
--- a nest that passes refusals 7 and 8
-pub record Spacious (P : Sheet) : Type 0 where
-  pub sheet : SheetIn P
-  pub formed : WellFormed (nestOf P)
-  pub spacious : space (nestOf P .loops) ≡ accepted tt
-
--- with marks that are all clear
+-- a nest that passes refusals 7 and 8, and marks that are all clear
 pub record MarkIn (P : Sheet) (m : List Bool) : Type 0 where
   pub nest : Spacious P
   pub clear : (j : ℕ) → getD m j false ≡ false
@@ -90,13 +75,3 @@ pub record MarkIn (P : Sheet) (m : List Bool) : Type 0 where
 pub record Marked (P : Sheet) (m : List Bool) : Type 0 where
   pub admitted-is : admitted (nestOf P) ≡ accepted tt
   pub lines : LinesAre P m
-
--- and the set has the vectors of its directions
-pub record Directed (P : Sheet) (set : List Bool) : Type 0 where
-  pub admitted-is : admitted (nestOf P) ≡ accepted tt
-  pub directions : DirectionsAre P set
-
--- the answer promises something where it is true
-pub record Knows (P : Sheet) (r : Bool) (set : List Bool) : Type 0 where
-  pub room : length set ≡ 729
-  pub directed : r ≡ true → Directed P set

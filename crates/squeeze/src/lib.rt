@@ -1,14 +1,14 @@
-// The lines of a nest without its points. They are squeezed: the lines of a part of the nest are among them, and Banerjee's inequalities allow no others
-// than are marked. Where the two agree the lines are known; where they do not, nothing is said. The part is the nest's corner or its centre.
+// The lines of a nest without its points. They are squeezed: the lines of a part of the nest are among them, and Banerjee's inequalities or the quick test
+// allow no others than are marked. Where the two agree the lines are known; where they do not, nothing is said. The part is the nest's corner or its centre.
 ghost use mathlib.Core.Path.{_≡_};
-ghost use mathlib.Core.Bool.{true, false};
-ghost use Prim.Native.Nat.{ℕ, _<_};
-ghost use lib.ListN.{length, getD};
+ghost use mathlib.Core.Bool.{true};
+ghost use Prim.Native.Nat.{_<_};
+ghost use lib.ListN.{length};
 ghost use Rattle.extremes.specs.Values.{RangesAre};
 ghost use Rattle.sheet.specs.Sheets.{sheetOf};
-ghost use Rattle.lines.specs.Lines.{LinesAre};
+ghost use Rattle.lines.specs.Lines.{Markable, LinesAre};
 ghost use Rattle.squeeze.specs.Covered.{pairs, PairsIn, PairCovered, CoveredFrom, CoveredTo};
-ghost use Rattle.squeeze.specs.Squeezed.{Recounted, SheetCovered, CoverIn, PartIn, SqueezeIn, Spacious, MarkIn, Marked, Knows};
+ghost use Rattle.squeeze.specs.Squeezed.{Recounted, SheetCovered, CoverIn, SqueezeIn, MarkIn, Marked};
 use admission::Counted;
 use corner::Part;
 use extremes::Range;
@@ -16,7 +16,8 @@ use sheet::Outline;
 
 // ---- pairs of accesses, all lent as flat slices
 
-// Whether every vector that access a, as the source, can have with access b is marked.
+// Whether every vector that access a, as the source, can have with access b is marked. Accesses that never meet have none: the quick test is asked too, for
+// its greatest common divisor.
 fn pair_covered(
     words: &[i16],
     owners: &[usize],
@@ -43,17 +44,11 @@ fn pair_covered(
     let s = statements[a];
     let t = statements[b];
     let first = dependence::block(body, s, t, k);
-    banerjee::covers(
-        words,
-        a,
-        b,
-        arrays[owners[a] * 4],
-        depth,
-        ranges,
-        s < t,
-        first,
-        marks,
-    )
+    let dimensions = arrays[owners[a] * 4];
+    if banerjee::covers(words, a, b, dimensions, depth, ranges, s < t, first, marks) {
+        return true;
+    }
+    quick::some_apart(words, a * 3, b * 3, dimensions, depth, ranges)
 }
 
 // The same with every access as the sink.
@@ -164,7 +159,7 @@ fn sheet_covered(
 
 // Marks the lines of a nest of few points, if it is one. No subscript leaves its extent, as none does in the whole nest.
 fn mark_few(outline: Outline, limits: &[i16], words: &[i16], marks: &mut [bool]) -> bool
-    requires { ⌜ PartIn (sheetOf outline (now limits) (now words)) (now marks) ⌝ }
+    requires { ⌜ Markable (sheetOf outline (now limits) (now words)) (now marks) ⌝ }
     ensures { λ r. ⌜ (r ≡ true → LinesAre (sheetOf outline (now (limits .entry)) (now (words .entry))) (now (marks .exit))) × (length (now (marks .exit)) ≡ length (now (marks .entry))) ⌝ }
 {
     let count = match admission::count_points(outline, limits, words) {
@@ -238,16 +233,6 @@ fn mark_part(
     sheet_covered(outline, limits, words, ranges, marks)
 }
 
-fn clear(marks: &mut [bool])
-    ensures { λ _. ⌜ ((j : ℕ) → getD (now (marks .exit)) j false ≡ false) × (length (now (marks .exit)) ≡ length (now (marks .entry))) ⌝ }
-{
-    let mut j = 0;
-    while j < marks.len() {
-        marks[j] = false;
-        j += 1;
-    }
-}
-
 // The same of the corner, and where it does not settle it, of the centre: there A(i) meets A(n − 1 − i).
 fn mark_admitted(outline: Outline, limits: &[i16], words: &[i16], marks: &mut [bool]) -> bool
     requires { ⌜ SqueezeIn (sheetOf outline (now limits) (now words)) (now marks) ⌝ }
@@ -258,7 +243,7 @@ fn mark_admitted(outline: Outline, limits: &[i16], words: &[i16], marks: &mut [b
     if mark_part(outline, limits, words, ranges, Part::Corner, marks) {
         return true;
     }
-    clear(marks);
+    lines::clear(marks);
     mark_part(outline, limits, words, ranges, Part::Centre, marks)
 }
 
@@ -271,41 +256,4 @@ pub fn mark_lines(outline: Outline, limits: &[i16], words: &[i16], marks: &mut [
         return false;
     }
     mark_admitted(outline, limits, words, marks)
-}
-
-// ---- directions
-
-fn directions_by(
-    outline: Outline,
-    limits: &[i16],
-    words: &[i16],
-    marks: &mut [bool],
-    set: &mut [bool],
-) -> bool
-    requires { ⌜ MarkIn (sheetOf outline (now limits) (now words)) (now marks) × (length (now set) ≡ 729) ⌝ }
-    ensures { λ r. ⌜ Knows (sheetOf outline (now (limits .entry)) (now (words .entry))) r (now (set .exit)) ⌝ }
-{
-    if !mark_lines(outline, limits, words, marks) {
-        return false;
-    }
-    lines::directions_of(marks, outline.statements, outline.depth, set);
-    true
-}
-
-// Makes the set of the directions of a nest that passes refusals 7 and 8, and says so: then refusal 9 is passed too. Or says nothing. Few statements have
-// fewer marks to clear.
-pub fn directions(outline: Outline, limits: &[i16], words: &[i16], set: &mut [bool]) -> bool
-    requires { ⌜ Spacious (sheetOf outline (now limits) (now words)) × (length (now set) ≡ 729) ⌝ }
-    ensures { λ r. ⌜ Knows (sheetOf outline (now (limits .entry)) (now (words .entry))) r (now (set .exit)) ⌝ }
-{
-    if outline.statements <= 1 {
-        let mut few = [false; 2187];
-        return directions_by(outline, limits, words, &mut few, set);
-    }
-    if outline.statements <= 2 {
-        let mut more = [false; 8748];
-        return directions_by(outline, limits, words, &mut more, set);
-    }
-    let mut marks = [false; 34992];
-    directions_by(outline, limits, words, &mut marks, set)
 }

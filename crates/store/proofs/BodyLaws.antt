@@ -10,25 +10,24 @@ use borrow.Rule.Slice.PartMut.{putMid, midOf, set-mid-at}
 use lib.ListN.{length, getD, set, drop, length-set, length-take, length-drop}
 use lib.Seq.{drop-cons, drop-length}
 use Rattle.lists.proofs.PartLaws.{row-fits}
-use Rattle.model.specs.Store.{base, sum, make}
-use Rattle.elements.specs.Layout.{arraysOf}
+use Rattle.model.specs.Store.{sum, make}
 use Rattle.elements.proofs.LayoutLaws.{sum-drop}
 use Rattle.store.specs.Flat.{numberAt, fetched, performed, bodyFrom, pointsFrom, FetchIn, PointIn, BodyIn}
 
 -- ---- one statement
 
-module _ {o a numbers : List ℕ} {count room x : ℕ} (p : PointIn o a numbers count room x) where
+module _ {o bases numbers : List ℕ} {count room x : ℕ} (p : PointIn o bases numbers count room x) where
   pub reads-in : (k n : ℕ) → k + n < length o → FetchIn numbers count room x (k + 1) n
   reads-in k n h = let f = p .few in let m = p .numbered in let q : (k + 1 + n) * count ≤ length o * count = mul-le-mul-right count (omega arith) in record { few = omega arith; point = p .point; numbered = omega arith; inside = λ j l. p .inside j (omega arith) }
 
   pub write-numbered : (k n : ℕ) → k + n < length o → k * count + x < length numbers
   write-numbered k n h = let l = p .point in let m = p .numbered in let q = row-fits count k (length o) (omega arith) in omega arith
 
-  pub write-inside : (k n : ℕ) → k + n < length o → (b r : ℕ) → b ≡ base (arraysOf a) (getD o k 0) → r ≡ numberAt numbers count k x → (b ≤ r) × (r < room)
-  write-inside k n h b r e f = let g = p .begins k (omega arith) in let i = p .inside k (omega arith) in (omega arith, omega arith)
+  pub write-inside : (k n : ℕ) → k + n < length o → (r : ℕ) → r ≡ numberAt numbers count k x → (getD bases (getD o k 0) 0 ≤ r) × (r < room)
+  write-inside k n h r e = let g = p .begins k (omega arith) in let i = p .inside k (omega arith) in (omega arith, omega arith)
 
-  pub still : (room′ : ℕ) → room′ ≡ room → PointIn o a numbers count room′ x
-  still room′ e = subst (λ (n : ℕ). PointIn o a numbers count n x) (sym e) p
+  pub still : (room′ : ℕ) → room′ ≡ room → PointIn o bases numbers count room′ x
+  still room′ e = subst (λ (n : ℕ). PointIn o bases numbers count n x) (sym e) p
 
 module _ (numbers w : List ℕ) (count x rule constant k n : ℕ) where
   pub through-part : (b r v : ℕ) (e : List ℕ) → (b ≤ r) × (r < length w) → r ≡ numberAt numbers count k x → v ≡ make rule constant (fetched numbers count x w (k + 1) n)

@@ -1,40 +1,31 @@
--- The run by numbers is the model's run of the nest, and a sheet whose accesses keep within their arrays has what the functions ask.
-use mathlib.Core.Path.{_≡_, refl, sym, _∙_, ap, ap₂, subst}
-use mathlib.Core.Bool.{false}
+-- The run by numbers is the model's run of the nest at the points, and a sheet whose numbers `number_accesses` wrote has what the functions ask.
+use mathlib.Core.Path.{_≡_, refl, sym, _∙_, ap, ap₂}
 use mathlib.Core.List.{List, [], _∷_, map, flatMap, List·Memᴰ·head, List·Memᴰ·tail}
-use Prim.Native.Nat.{ℕ, zero, suc, _+_, _*_, _-_, _/_, _≤_, _<_}
+use Prim.Native.Nat.{ℕ, zero, suc, _+_, _*_, _-_, _≤_, _<_}
 use native.Mathlib.Omega.{arith}
 use native.Mathlib.Nat.{zero-add, add-zero, add-suc, suc-add}
 use lib.IntN.{ℤ}
-use lib.ListN.{length, getD, set, drop, length-drop}
+use lib.ListN.{length, getD, set, drop}
 use lib.Seq.{drop-cons, drop-length, length-take-le}
 use Rattle.lists.specs.Membership.{All}
-use Rattle.lists.proofs.MembershipLaws.{all-nil, all-cons, all-getD}
-use Rattle.lists.proofs.TestLaws.{false-not-T}
-use Rattle.model.specs.Ticket.{Subscript, Statement}
-use Rattle.model.specs.Grammar.{total, extents}
-use Rattle.model.specs.Bounds.{strays}
+use Rattle.lists.specs.Parts.{rows}
+use Rattle.lists.proofs.MembershipLaws.{all-getD}
+use Rattle.lists.proofs.PartLaws.{length-rows}
+use Rattle.model.specs.Ticket.{Access, Statement}
 use Rattle.model.specs.Machine.{element, bodyAt, accesses, body, instances, run}
-use Rattle.model.specs.Shape.{Fits}
-use Rattle.model.specs.Store.{base, placeOf, sum, make, storeWords, performOn, runNest}
+use Rattle.model.specs.Store.{placeOf, sum, make, storeWords, performOn}
 use Rattle.model.proofs.Machine.ReorderLaws.{run-append}
-use Rattle.model.proofs.Store.PlaceLaws.{Valid, element-valid, place-below}
-use Rattle.elements.specs.Layout.{arraysOf, formAt, formsFrom, accessAt, accessesFrom}
-use Rattle.elements.specs.Places.{BaseIn}
-use Rattle.elements.proofs.LayoutLaws.{array-in, extents-are, forms-length}
-use Rattle.elements.proofs.LayoutLaws.{extents-length as dimensions-are}
-use Rattle.elements.proofs.ElementLaws.{arrays-length}
+use Rattle.elements.specs.Layout.{arraysOf, accessAt, accessesFrom}
+use Rattle.elements.specs.Places.{TotalIn}
 use Rattle.sheet.specs.Sheets.{Sheet, nestOf, statementsFrom, extentsIn, sizesIn, ownersIn, wordsIn, SheetIn}
-use Rattle.store.specs.Flat.{numberAt, fetched, performed, bodyFrom, pointsFrom, PointIn, BodyIn}
-use Rattle.store.specs.Runs.{pointsOf, accessOf, RunIn}
+use Rattle.sheet.proofs.SheetLaws.{access-is}
+use Rattle.sheet.proofs.ArrayLaws.{arrays-in}
+use Rattle.store.specs.Flat.{numberAt, fetched, performed, bodyFrom, pointsFrom, BasesAre, PointIn, BodyIn}
+use Rattle.store.specs.Runs.{runAt, RunIn}
 
--- ---- one access
-
-forms-wide : (w : List ℤ) (n j d : ℕ) → n ≤ 6 → (j + d) * 8 ≤ length w → All (λ (s : Subscript). length (s .coefficients) ≡ n) (formsFrom w n j d)
-unfolding formsFrom formAt
-forms-wide w n j zero f h = all-nil (λ (s : Subscript). length (s .coefficients) ≡ n)
-forms-wide w n j (suc d) f h = all-cons (λ (s : Subscript). length (s .coefficients) ≡ n)
-    (length-take-le n (drop (j * 8 + 1) w) (let l = length-drop (j * 8 + 1) w in omega arith)) (forms-wide w n (suc j) d f (omega arith))
+-- access k of all
+abbrev accessOf : Sheet → ℕ → Access
+accessOf P k = accessAt (wordsIn P) (ownersIn P) (extentsIn P) (P .depth) k
 
 -- ---- one statement
 
@@ -69,7 +60,7 @@ module _ (P : Sheet) (numbers : List ℕ) (count x : ℕ) (p : List ℤ) (m : �
       next : (j : ℕ) → bodyAt ss (suc i + j) ≡ bodyAt (statementsFrom P (k + n) (suc i) ns) j
       next j = ap (bodyAt ss) (suc-add i j ∙ sym (add-suc i j)) ∙ e (suc j)
 
--- ---- all points
+-- ---- the points
 
 pub statements-length : (P : Sheet) (k i : ℕ) (ns : List ℕ) → length (statementsFrom P k i ns) ≡ length ns
 unfolding statementsFrom
@@ -86,71 +77,59 @@ module _ {P : Sheet} (s : SheetIn P) where
   pub extents-length : length (extentsIn P) ≡ P .arrays * 4
   extents-length = let l = s .extents-length in let f = s .few-arrays in length-take-le (P .arrays * 4) (P .extents) (omega arith)
 
-module _ {P : Sheet} {count : ℕ} {numbers : List ℕ} {room : ℕ} (r : RunIn P count numbers room) where
-  points-are : (n x : ℕ) (w : List ℕ) → x + n ≡ length (pointsOf P)
-      → pointsFrom (P .rules) (P .constants) (sizesIn P) numbers count x n w ≡ run (performOn (arraysOf (extentsIn P)) (statementsFrom P 0 0 (sizesIn P))) (instances (length (sizesIn P)) (drop x (pointsOf P))) w
-  unfolding pointsFrom run instances flatMap nestOf
-  points-are zero x w e = let z : x ≡ length (pointsOf P) = omega arith in sym (ap (λ (ps : List (List ℤ)). run (performOn (arraysOf (extentsIn P)) (statementsFrom P 0 0 (sizesIn P))) (instances (length (sizesIn P)) ps) w) (ap (λ (j : ℕ). drop j (pointsOf P)) z ∙ drop-length (pointsOf P)))
+module _ {P : Sheet} {points : List ℤ} {count : ℕ} {numbers : List ℕ} {room : ℕ} (r : RunIn P points count numbers room) where
+  abbrev ps : List (List ℤ)
+  ps = rows (P .depth) count points
+
+  place-is : (k x : ℕ) → k < P .accesses → x < count → numberAt numbers count k x ≡ placeOf (arraysOf (extentsIn P)) (element (getD ps x []) (accessOf P k))
+  unfolding nestOf
+  place-is k x h l = r .places .are k x h l ∙ ap (λ (u : Access). placeOf (arraysOf (extentsIn P)) (element (getD ps x []) u)) (access-is P (r .sheet) k h)
+
+  points-are : (n x : ℕ) (w : List ℕ) → x + n ≡ count
+      → pointsFrom (P .rules) (P .constants) (sizesIn P) numbers count x n w ≡ run (performOn (arraysOf (extentsIn P)) (statementsFrom P 0 0 (sizesIn P))) (instances (length (sizesIn P)) (drop x ps)) w
+  unfolding pointsFrom run instances flatMap
+  points-are zero x w e = let c = length-rows (P .depth) count points in let z : x ≡ length ps = omega arith in
+      sym (ap (λ (qs : List (List ℤ)). run (performOn (arraysOf (extentsIn P)) (statementsFrom P 0 0 (sizesIn P))) (instances (length (sizesIn P)) qs) w) (ap (λ (j : ℕ). drop j ps) z ∙ drop-length ps))
   points-are (suc n) x w e =
-      let c = r .points in
+      let c = length-rows (P .depth) count points in
       let step = performOn (arraysOf (extentsIn P)) (statementsFrom P 0 0 (sizesIn P)) in
-      let at = body 0 (length (sizesIn P)) (getD (pointsOf P) x []) in
-      let rest = instances (length (sizesIn P)) (drop (suc x) (pointsOf P)) in
+      let at = body 0 (length (sizesIn P)) (getD ps x []) in
+      let rest = instances (length (sizesIn P)) (drop (suc x) ps) in
       let a = r .sheet .all-accesses in
       points-are n (suc x) (bodyFrom (P .rules) (P .constants) numbers count x 0 0 (sizesIn P) w) (omega arith)
-      ∙ ap (run step rest) (body-is P numbers count x (getD (pointsOf P) x []) (P .accesses) (λ k h. r .places k x h (omega arith)) (statementsFrom P 0 0 (sizesIn P)) (sizesIn P) 0 0 w (r .sheet .each) (omega arith) (λ j. ap (bodyAt (statementsFrom P 0 0 (sizesIn P))) (zero-add j)))
+      ∙ ap (run step rest) (body-is P numbers count x (getD ps x []) (P .accesses) (λ k h. place-is k x h (omega arith)) (statementsFrom P 0 0 (sizesIn P)) (sizesIn P) 0 0 w (r .sheet .each) (omega arith) (λ j. ap (bodyAt (statementsFrom P 0 0 (sizesIn P))) (zero-add j)))
       ∙ sym (run-append step at rest w)
-      ∙ ap (λ (ps : List (List ℤ)). run step (instances (length (sizesIn P)) ps) w) (sym (drop-cons (pointsOf P) x [] (omega arith)))
+      ∙ ap (λ (qs : List (List ℤ)). run step (instances (length (sizesIn P)) qs) w) (sym (drop-cons ps x [] (omega arith)))
 
-  -- THE RUN BY NUMBERS IS THE RUN OF THE NEST
-  pub nest-run : (w : List ℕ) → pointsFrom (P .rules) (P .constants) (sizesIn P) numbers count 0 count w ≡ runNest (nestOf P) w
-  unfolding runNest nestOf
-  nest-run w = points-are count 0 w (let c = r .points in omega arith)
-      ∙ ap (λ (n : ℕ). run (performOn (arraysOf (extentsIn P)) (statementsFrom P 0 0 (sizesIn P))) (instances n (pointsOf P)) w) (sym (statements-length P 0 0 (sizesIn P)))
+  -- THE RUN BY NUMBERS IS THE RUN OF THE NEST AT THE POINTS
+  pub nest-run : (w : List ℕ) → pointsFrom (P .rules) (P .constants) (sizesIn P) numbers count 0 count w ≡ runAt (nestOf P) ps w
+  unfolding runAt nestOf
+  nest-run w = points-are count 0 w (zero-add count)
+      ∙ ap (λ (n : ℕ). run (performOn (arraysOf (extentsIn P)) (statementsFrom P 0 0 (sizesIn P))) (instances n ps) w) (sym (statements-length P 0 0 (sizesIn P)))
 
   -- ---- what the functions ask
 
-  module _ (k : ℕ) (h : k < P .accesses) where
-    there : getD (ownersIn P) k 0 < length (extentsIn P) / 4
-    there = let l = owners-length (r .sheet) in r .sheet .accesses-ok .there k (omega arith)
+  pub arrays-few : TotalIn (extentsIn P) (P .arrays) × (P .arrays ≤ 4)
+  arrays-few = (arrays-in P (r .sheet), r .sheet .few-arrays)
 
-    base-in : BaseIn (extentsIn P) (getD (ownersIn P) k 0)
-    base-in = record { array = array-in (wordsIn P) (ownersIn P) (extentsIn P) (P .depth) (getD (ownersIn P) k 0) (r .sheet .accesses-ok) there; fits = r .sheet .fits }
+  module _ (bases : List ℕ) (len : length bases ≡ 4) (are : BasesAre (extentsIn P) (P .arrays) bases) where
+    owner-in : (k : ℕ) → k < P .accesses → getD (ownersIn P) k 0 < P .arrays
+    owner-in k h = let o = owners-length (r .sheet) in let e = extents-length (r .sheet) in let t = r .sheet .accesses-ok .there k (omega arith) in omega arith
 
-    access-valid : (p : List ℤ) → strays (arraysOf (extentsIn P)) p (accessOf P k) ≡ false → Valid (arraysOf (extentsIn P)) (element p (accessOf P k))
-    unfolding accessAt
-    access-valid p e = element-valid (arraysOf (extentsIn P)) (P .depth) p (accessOf P k) fits (false-not-T (strays (arraysOf (extentsIn P)) p (accessOf P k)) e)
-      where
-        fits : Fits (arraysOf (extentsIn P)) (P .depth) (accessOf P k)
-        fits =
-            let l = arrays-length (extentsIn P) in let t = there in let i = getD (ownersIn P) k 0 in let q = base-in .array in let ok = r .sheet .accesses-ok in
-            let d = q .dimensions i t in let v = ok .words in let o = owners-length (r .sheet) in
-            record {
-              there = omega arith;
-              dimensions = forms-length (wordsIn P) (P .depth) (k * 3) (getD (extentsIn P) (i * 4) 0) ∙ sym (ap length (extents-are (extentsIn P) i q) ∙ dimensions-are (extentsIn P) i q);
-              wide = forms-wide (wordsIn P) (P .depth) (k * 3) (getD (extentsIn P) (i * 4) 0) (ok .shallow) (omega arith);
-            }
+    -- a place is not before its array
+    number-begins : (k x : ℕ) → k < P .accesses → x < count → getD bases (getD (ownersIn P) k 0) 0 ≤ numberAt numbers count k x
+    unfolding placeOf element accessAt
+    number-begins k x h l = let e = place-is k x h l in let b = are (getD (ownersIn P) k 0) (owner-in k h) in omega arith
 
-    module _ (x : ℕ) (l : x < count) where
-      number-inside : numberAt numbers count k x < total (arraysOf (extentsIn P))
-      unfolding nestOf
-      number-inside = subst (λ (j : ℕ). j < total (arraysOf (extentsIn P))) (sym (r .places k x h l))
-          (place-below (arraysOf (extentsIn P)) (element (getD (pointsOf P) x []) (accessOf P k)) (access-valid (getD (pointsOf P) x []) (all-getD _ (pointsOf P) x [] (r .inside k h) (let c = r .points in omega arith))))
-
-      number-begins : base (arraysOf (extentsIn P)) (getD (ownersIn P) k 0) ≤ numberAt numbers count k x
-      unfolding nestOf placeOf element accessAt
-      number-begins = let e = r .places k x h l in omega arith
-
-  pub point-in : (x : ℕ) → x < count → PointIn (ownersIn P) (extentsIn P) numbers count room x
-  unfolding nestOf
-  point-in x l = let o = owners-length (r .sheet) in let s = r .space in let f = r .sheet .few-accesses in let e = r .whole in record {
-    few = omega arith;
-    point = l;
-    numbered = omega (arith, ap (λ (m : ℕ). m * count) o);
-    inside = λ k h. let z = number-inside k (omega arith) x l in omega arith;
-    arrays = λ k h. base-in k (omega arith);
-    begins = λ k h. number-begins k (omega arith) x l;
-  }
+    pub point-in : (x : ℕ) → x < count → PointIn (ownersIn P) bases numbers count room x
+    point-in x l = let o = owners-length (r .sheet) in let s = r .places .room in let f = r .sheet .few-accesses in let a = r .sheet .few-arrays in let e = r .whole in record {
+      few = omega arith;
+      point = l;
+      numbered = omega (arith, ap (λ (m : ℕ). m * count) o);
+      inside = λ k h. let z = r .places .small k x (omega arith) l in omega arith;
+      arrays = λ k h. let z = owner-in k (omega arith) in omega arith;
+      begins = λ k h. number-begins k x (omega arith) l;
+    }
 
   pub body-in : BodyIn (ownersIn P) (sizesIn P) (P .rules) (P .constants)
   body-in = let o = owners-length (r .sheet) in let s = sizes-length (r .sheet) in let a = r .sheet .all-accesses in let f = r .sheet .few-statements in let u = r .sheet .rules-length in let v = r .sheet .constants-length in record {

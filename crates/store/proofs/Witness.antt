@@ -1,26 +1,24 @@
--- A real sheet meets what `run` asks: one loop with the one index 1, an array of one element, and a statement that adds 1 to it.
-use mathlib.Core.Path.{_≡_, refl, sym, _∙_, ap, subst}
-use mathlib.Core.Bool.{false}
-use mathlib.Core.List.{List, [], _∷_, flatMap}
+-- A real sheet meets what `run` asks at its one point: one loop with the one index 1, an array of one element, and a statement that adds 1 to it.
+use mathlib.Core.Path.{_≡_, refl, sym, _∙_, ap, ap₂}
+use mathlib.Core.List.{List, [], _∷_}
 use Prim.Native.Nat.{ℕ, zero, suc, _+_, _*_, _≤_, _<_}
 use native.Mathlib.Omega.{arith}
 use lib.IntN.{ℤ, pos}
-use lib.ListN.{length, getD, replicate, length-replicate, getD-replicate}
-use Rattle.lists.specs.Membership.{All}
+use lib.ListN.{getD, replicate, length-replicate, getD-replicate}
+use Rattle.lists.specs.Parts.{rows}
 use Rattle.lists.proofs.MembershipLaws.{all-nil, all-cons}
 use Rattle.integers.specs.Affine.{Within, affine, dot}
-use Rattle.integers.specs.Division.{floorDiv, ceilDiv}
+use Rattle.model.specs.Ticket.{Access}
 use Rattle.model.specs.Grammar.{elements, total, extents}
-use Rattle.model.specs.Points.{largest, smallest, value, firstIndex, lastIndex, span, ints, indices, points, iterations}
-use Rattle.model.specs.Bounds.{subscriptAt, outside, strays}
+use Rattle.model.specs.Bounds.{subscriptAt}
 use Rattle.model.specs.Machine.{element}
 use Rattle.model.specs.Store.{base, placeFrom, placeOf, sum}
-use Rattle.bounds.specs.Flat.{limitAt, limitsAt, loopAt, loopsFrom}
 use Rattle.space.proofs.DepthLaws.{nest-part}
 use Rattle.space.proofs.Witness.{ones-ok}
 use Rattle.elements.specs.Layout.{extentsAt, arraysFrom, arraysOf, formAt, formsFrom, accessAt, AccessesOk}
 use Rattle.sheet.specs.Sheets.{Sheet, nestOf, extentsIn, ownersIn, wordsIn, SheetIn}
-use Rattle.store.specs.Runs.{pointsOf, accessOf, RunIn}
+use Rattle.sheet.proofs.SheetLaws.{access-is}
+use Rattle.store.specs.Runs.{RunIn}
 
 abbrev pub counter : Sheet
 counter = record {
@@ -86,35 +84,29 @@ counter-in = record {
   constants-length = refl;
 }
 
-points-are : pointsOf counter ≡ (pos 1 ∷ []) ∷ []
-unfolding nestOf iterations points flatMap indices ints span firstIndex lastIndex largest smallest value affine dot ceilDiv floorDiv loopsFrom loopAt limitsAt limitAt
-points-are = refl
+point-is : (x : ℕ) → x ≡ 0 → getD (rows 1 1 (pos 1 ∷ [])) x [] ≡ pos 1 ∷ []
+unfolding rows
+point-is x e = ap (λ (j : ℕ). getD ((pos 1 ∷ []) ∷ []) j []) e
 
-place-is : (k : ℕ) → k < 2 → placeOf (nestOf counter .arrays) (element (pos 1 ∷ []) (accessOf counter k)) ≡ 0
+place-is : (k : ℕ) → k < 2 → placeOf (nestOf counter .arrays) (element (pos 1 ∷ []) (accessAt (wordsIn counter) (ownersIn counter) (extentsIn counter) 1 k)) ≡ 0
 unfolding nestOf placeOf base placeFrom extents element accessAt formsFrom formAt subscriptAt affine dot arraysOf arraysFrom extentsAt
 place-is zero h = refl
 place-is (suc zero) h = refl
 place-is (suc (suc k)) h = absurd (omega arith)
 
-keeps : (k : ℕ) → k < 2 → strays (nestOf counter .arrays) (pos 1 ∷ []) (accessOf counter k) ≡ false
-unfolding nestOf strays outside extents accessAt formsFrom formAt subscriptAt affine dot arraysOf arraysFrom extentsAt
-keeps zero h = refl
-keeps (suc zero) h = refl
-keeps (suc (suc k)) h = absurd (omega arith)
+number-is : (k x : ℕ) → k < 2 → x < 1 → getD {A = ℕ} (replicate 2 0) (k * 1 + x) 0 ≡ 0
+number-is k x h g = getD-replicate {A = ℕ} 2 (k * 1 + x) 0 0 (omega arith)
 
-pub counter-runs : RunIn counter 1 (replicate 2 0) 1
+pub counter-runs : RunIn counter (pos 1 ∷ []) 1 (replicate 2 0) 1
 unfolding nestOf total elements arraysOf arraysFrom extentsAt
 counter-runs = record {
   sheet = counter-in;
-  points = sym (ap length points-are);
   few = omega arith;
-  space = let l = length-replicate {A = ℕ} 2 0 in omega arith;
-  places = λ k x h g. getD-replicate {A = ℕ} 2 (k * 1 + x) 0 0 (omega arith) ∙ sym (ap (λ (p : List ℤ). placeOf (nestOf counter .arrays) (element p (accessOf counter k))) (first x (omega arith)) ∙ place-is k h);
-  inside = λ k h. subst (All (λ p. strays (nestOf counter .arrays) p (accessOf counter k) ≡ false)) (sym points-are)
-      (all-cons (λ p. strays (nestOf counter .arrays) p (accessOf counter k) ≡ false) (keeps k h) (all-nil (λ p. strays (nestOf counter .arrays) p (accessOf counter k) ≡ false)));
+  places = record {
+    room = let l = length-replicate {A = ℕ} 2 0 in omega arith;
+    are = λ k x h g. number-is k x h g ∙ sym (ap₂ (λ (p : List ℤ) (u : Access). placeOf (nestOf counter .arrays) (element p u)) (point-is x (omega arith)) (access-is counter counter-in k h) ∙ place-is k h);
+    small = λ k x h g. let e = number-is k x h g in omega arith;
+  };
   words = λ i h. let c = small i in omega arith;
   whole = refl;
 }
-  where
-    first : (x : ℕ) → x ≡ 0 → getD (pointsOf counter) x [] ≡ pos 1 ∷ []
-    first x e = ap (λ (ps : List (List ℤ)). getD ps x []) points-are ∙ ap (λ (j : ℕ). getD ((pos 1 ∷ []) ∷ []) j []) e

@@ -1,11 +1,11 @@
 -- The run by numbers: the place in the store of access k at point x, of `count` points, is number `count` k + x. A statement has a size (the
--- number of its accesses, the written one first), a rule and a constant. Then what each function asks.
+-- number of its accesses, the written one first), a rule and a constant. Then where the arrays begin, and what each function asks.
+use mathlib.Core.Path.{_≡_}
 use mathlib.Core.List.{List, [], _∷_}
 use Prim.Native.Nat.{ℕ, zero, suc, _+_, _*_, _-_, _^_, _≤_, _<_}
 use lib.ListN.{length, getD, set}
 use Rattle.model.specs.Store.{base, sum, make}
 use Rattle.elements.specs.Layout.{arraysOf}
-use Rattle.elements.specs.Places.{BaseIn}
 
 -- ---- the run
 
@@ -32,6 +32,12 @@ unfoldable pub pointsFrom : List ℕ → List ℕ → List ℕ → List ℕ → 
 pointsFrom rules constants sizes numbers count x zero w = w
 pointsFrom rules constants sizes numbers count x (suc n) w = pointsFrom rules constants sizes numbers count (suc x) n (bodyFrom rules constants numbers count x 0 0 sizes w)
 
+-- ---- where the arrays begin
+
+-- of the first n arrays, array i at number i
+abbrev pub BasesAre : List ℕ → ℕ → List ℕ → Type 0
+BasesAre a n bases = (i : ℕ) → i < n → getD bases i 0 ≡ base (arraysOf a) i
+
 -- ---- what is asked
 
 -- n accesses from access k on, at point x, in a store of this length
@@ -41,14 +47,14 @@ pub record FetchIn (numbers : List ℕ) (count room x k n : ℕ) : Type 0 where
   pub numbered : (k + n) * count ≤ length numbers
   pub inside : (j : ℕ) → j < k + n → numberAt numbers count j x < room
 
--- all accesses at point x: each has its place in the store, not before its array
-pub record PointIn (o a numbers : List ℕ) (count room x : ℕ) : Type 0 where
+-- all accesses at point x: each has its place in the store, not before its array, which begins at its base
+pub record PointIn (o bases numbers : List ℕ) (count room x : ℕ) : Type 0 where
   pub few : length o ≤ 20
   pub point : x < count
   pub numbered : length o * count ≤ length numbers
   pub inside : (k : ℕ) → k < length o → numberAt numbers count k x < room
-  pub arrays : (k : ℕ) → k < length o → BaseIn a (getD o k 0)
-  pub begins : (k : ℕ) → k < length o → base (arraysOf a) (getD o k 0) ≤ numberAt numbers count k x
+  pub arrays : (k : ℕ) → k < length o → getD o k 0 < length bases
+  pub begins : (k : ℕ) → k < length o → getD bases (getD o k 0) 0 ≤ numberAt numbers count k x
 
 -- the statements share out the accesses
 pub record BodyIn (o sizes rules constants : List ℕ) : Type 0 where

@@ -1,12 +1,14 @@
-// The run of a nest on a store. Its accesses are lent as the numbers of their places: access k at point x, of `count` points, at
-// `count` k + x.
+// The run of a nest on a store, at some of its points. Its accesses are lent as the numbers of their places: access k at point x, of `count`
+// points, at `count` k + x.
 ghost use mathlib.Core.Path.{_≡_};
 ghost use Prim.Native.Nat.{ℕ, _+_, _*_, _%_, _^_, _≤_, _<_};
 ghost use lib.ListN.{length, getD, set};
-ghost use Rattle.model.specs.Store.{sum, most, firstOf, make, runNest};
+ghost use Rattle.lists.specs.Parts.{rows};
+ghost use Rattle.model.specs.Store.{sum, most, firstOf, make};
+ghost use Rattle.elements.specs.Places.{TotalIn};
 ghost use Rattle.sheet.specs.Sheets.{sheetOf, nestOf};
-ghost use Rattle.store.specs.Flat.{numberAt, fetched, performed, bodyFrom, pointsFrom, FetchIn, PointIn, BodyIn};
-ghost use Rattle.store.specs.Runs.{RunIn};
+ghost use Rattle.store.specs.Flat.{numberAt, fetched, performed, bodyFrom, pointsFrom, BasesAre, FetchIn, PointIn, BodyIn};
+ghost use Rattle.store.specs.Runs.{runAt, RunIn};
 use sheet::Outline;
 
 // The place in the store of access k at point x.
@@ -116,7 +118,7 @@ fn put(part: &mut [u32], at: usize, v: u32)
 // One statement at point x: it writes access k and reads the n after it.
 fn perform(
     owners: &[usize],
-    arrays: &[usize],
+    bases: &[usize],
     numbers: &[u16],
     count: usize,
     rule: usize,
@@ -126,11 +128,11 @@ fn perform(
     x: usize,
     store: &mut [u32],
 )
-    requires { ⌜ PointIn (now owners) (now arrays) (now numbers) count (length (now store)) x × (k + n < length (now owners)) ⌝ }
+    requires { ⌜ PointIn (now owners) (now bases) (now numbers) count (length (now store)) x × (k + n < length (now owners)) ⌝ }
     ensures { λ _. ⌜ now (store .exit) ≡ performed (now (numbers .entry)) count x rule constant k n (now (store .entry)) ⌝ }
 {
     let v = value(rule, constant, numbers, count, store, k + 1, n, x);
-    let base = elements::base_of(arrays, owners[k]);
+    let base = bases[owners[k]];
     let at = place_of(numbers, count, k, x) - base;
     put(&mut store[base..], at, v);
 }
@@ -138,7 +140,7 @@ fn perform(
 // The statements at point x, in body order.
 fn perform_all(
     owners: &[usize],
-    arrays: &[usize],
+    bases: &[usize],
     sizes: &[usize],
     rules: &[usize],
     constants: &[usize],
@@ -147,7 +149,7 @@ fn perform_all(
     x: usize,
     store: &mut [u32],
 )
-    requires { ⌜ PointIn (now owners) (now arrays) (now numbers) count (length (now store)) x × BodyIn (now owners) (now sizes) (now rules) (now constants) ⌝ }
+    requires { ⌜ PointIn (now owners) (now bases) (now numbers) count (length (now store)) x × BodyIn (now owners) (now sizes) (now rules) (now constants) ⌝ }
     ensures { λ _. ⌜ now (store .exit) ≡ bodyFrom (now (rules .entry)) (now (constants .entry)) (now (numbers .entry)) count x 0 0 (now (sizes .entry)) (now (store .entry)) ⌝ }
 {
     let mut k = 0;
@@ -156,7 +158,7 @@ fn perform_all(
         let m = sizes[i];
         perform(
             owners,
-            arrays,
+            bases,
             numbers,
             count,
             rules[i],
@@ -174,7 +176,7 @@ fn perform_all(
 // The points one after the other.
 fn run_points(
     owners: &[usize],
-    arrays: &[usize],
+    bases: &[usize],
     sizes: &[usize],
     rules: &[usize],
     constants: &[usize],
@@ -182,14 +184,14 @@ fn run_points(
     count: usize,
     store: &mut [u32],
 )
-    requires { ⌜ (count ≤ 4096) × ((x : ℕ) → x < count → PointIn (now owners) (now arrays) (now numbers) count (length (now store)) x) × BodyIn (now owners) (now sizes) (now rules) (now constants) ⌝ }
+    requires { ⌜ (count ≤ 4096) × ((x : ℕ) → x < count → PointIn (now owners) (now bases) (now numbers) count (length (now store)) x) × BodyIn (now owners) (now sizes) (now rules) (now constants) ⌝ }
     ensures { λ _. ⌜ now (store .exit) ≡ pointsFrom (now (rules .entry)) (now (constants .entry)) (now (sizes .entry)) (now (numbers .entry)) count 0 count (now (store .entry)) ⌝ }
 {
     let mut x = 0;
     while x < count {
         perform_all(
             owners,
-            arrays,
+            bases,
             sizes,
             rules,
             constants,
@@ -202,19 +204,34 @@ fn run_points(
     }
 }
 
-// Runs the nest of a outline. Its limits and words are lent for the contract alone.
+// Where each of the n arrays begins in the store.
+fn bases_of(arrays: &[usize], n: usize) -> [usize; 4]
+    requires { ⌜ TotalIn (now arrays) n × (n ≤ 4) ⌝ }
+    ensures { λ r. ⌜ BasesAre (now (arrays .entry)) n r ⌝ }
+{
+    let mut r = [0; 4];
+    let mut i = 0;
+    while i < n {
+        r[i] = elements::base_of(arrays, i);
+        i += 1;
+    }
+    r
+}
+
+// Runs the nest of an outline at the points. Its limits, words and points are lent for the contract alone.
 pub fn run(
     outline: Outline,
     limits: &[i16],
     words: &[i16],
+    points: &[i64],
     count: usize,
     numbers: &[u16],
     store: &mut [u32],
 )
-    requires { ⌜ RunIn (sheetOf outline (now limits) (now words)) count (now numbers) (length (now store)) ⌝ }
-    ensures { λ _. ⌜ now (store .exit) ≡ runNest (nestOf (sheetOf outline (now (limits .entry)) (now (words .entry)))) (now (store .entry)) ⌝ }
+    requires { ⌜ RunIn (sheetOf outline (now limits) (now words)) (now points) count (now numbers) (length (now store)) ⌝ }
+    ensures { λ _. ⌜ now (store .exit) ≡ runAt (nestOf (sheetOf outline (now (limits .entry)) (now (words .entry)))) (rows (outline .depth) count (now (points .entry))) (now (store .entry)) ⌝ }
 {
-    let arrays = outline.arrays * 4;
+    let arrays = outline.arrays;
     let extents = outline.extents;
     let statements = outline.statements;
     let sizes = outline.sizes;
@@ -222,9 +239,10 @@ pub fn run(
     let constants = outline.constants;
     let accesses = outline.accesses;
     let owners = outline.owners;
+    let bases = bases_of(&extents[..arrays * 4], arrays);
     run_points(
         &owners[..accesses],
-        &extents[..arrays],
+        &bases,
         &sizes[..statements],
         &rules,
         &constants,

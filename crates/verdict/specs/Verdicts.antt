@@ -9,11 +9,8 @@ use Rattle.model.specs.Answer.{accepted}
 use Rattle.model.specs.Ticket as Model
 use Rattle.model.specs.Points.{iterations}
 use Rattle.model.specs.Bounds.{admitted}
-use Rattle.model.specs.Judge.{admit, judged}
-use Rattle.reading.specs.declared.Refusal.{Refusal}
-use Rattle.reading.specs.declared.Status.{Status}
-use Rattle.reading.specs.declared.Status.the-variants.{Fine, Refused}
-use Rattle.reading.specs.Refusals.{refusal}
+use Rattle.model.specs.Judge.{judged}
+use Rattle.reading.specs.declared.Status.the-variants.{Fine}
 use Rattle.sheet.specs.Sheets.{sheetOf, nestOf}
 use Rattle.lines.specs.Lines.{DirectionsAre}
 use Rattle.intake.specs.declared.Intake.{Intake}
@@ -27,12 +24,6 @@ pub record Judgeable (b : List ℕ) (q : Intake) (l w : List ℤ) (set : List Bo
   pub fine : q .status ≡ Fine
   pub admitted-is : admitted (nestOf (sheetOf (q .outline) l w)) ≡ accepted tt
   pub directions : DirectionsAre (sheetOf (q .outline) l w) set
-
--- what was received of the bytes b has refusal 9, or is admitted, and the set has the directions of its nest
-pub record Finds (b : List ℕ) (q : Intake) (l w : List ℤ) (s : Status) (set : List Bool) : Type 0 where
-  pub room : length set ≡ 729
-  pub turned-away : (r : Refusal) → s ≡ Refused r → admit b ≡ refusal r
-  pub found : s ≡ Fine → Judgeable b q l w set
 
 -- 1 to 13 of the ticket T that the bytes are, if they are one; then the count of its iterations and its new nest, whose limits and words are l and w
 pub record Decides (b : List ℕ) (r : Decided) (l w : List ℤ) : Type 0 where

@@ -8,7 +8,7 @@ pub struct Kernel {
     pub sizes: fn() -> Vec<String>,
 }
 
-pub const KERNELS: [Kernel; 11] = [
+pub const KERNELS: [Kernel; 12] = [
     Kernel {
         name: "stencil in one dimension",
         sizes: || [(1, 6), (4, 25), (4, 250), (4, 1024)].map(stencil_1d).into(),
@@ -52,6 +52,10 @@ pub const KERNELS: [Kernel; 11] = [
     Kernel {
         name: "even and odd",
         sizes: || PLANES.map(even_and_odd).into(),
+    },
+    Kernel {
+        name: "rows end to end",
+        sizes: || [(2, 3), (10, 10), (25, 40), (63, 64)].map(end_to_end).into(),
     },
 ];
 
@@ -182,8 +186,7 @@ fn mirrored(count: u32) -> String {
     )
 }
 
-/// Elements that are written and those that are read differ by the greatest common divisor alone, so that all points have to be searched however
-/// many there are.
+/// The greatest common divisor alone tells elements that are written from those that are read.
 fn even_and_odd((outer, inner): (u32, u32)) -> String {
     format!(
         "array A({})
@@ -192,6 +195,19 @@ fn even_and_odd((outer, inner): (u32, u32)) -> String {
              A(2*i+2*j) = A(2*i+2*j+1) + 1
          skew 1 2 by 1",
         2 * (outer + inner)
+    )
+}
+
+/// A plane in one dimension. No test but the search tells that an element is read in its own column alone, so that all points have to be searched
+/// however many there are.
+fn end_to_end((rows, columns): (u32, u32)) -> String {
+    format!(
+        "array A({})
+         for i = 1 to {rows}
+           for j = 0 to {columns}-1
+             A({columns}*i+j) = A({columns}*i+j-{columns}) + 1
+         exchange 1 2",
+        (rows + 1) * columns
     )
 }
 

@@ -147,15 +147,16 @@ impl<const D: usize> Chains<'_, D> {
     /// Marks the vectors of all conflicts. Left once there is nothing more to find.
     fn follow(&self, end: usize, marks: &mut [bool]) {
         let mut possible = None;
+        let mut found = 0;
         let mut spent = 0;
         for (y, first) in self.start.iter().enumerate() {
             spent += self.walk(y, *first, marks);
             if spent > 64 {
                 let possible = possible.get_or_insert_with(|| self.possible(end));
-                if possible.iter().all(|number| marks[*number]) {
+                found += possible[found..].iter().take_while(|number| marks[**number]).count();
+                if found == possible.len() {
                     break;
                 }
-                spent = 0;
             }
         }
     }

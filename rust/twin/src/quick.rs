@@ -23,6 +23,11 @@ fn never_equal(u: &Subscript, v: &Subscript, ranges: &Ranges) -> bool {
     !divides || !(u.over(ranges) - v.over(ranges)).contains(0)
 }
 
+/// Whether a subscript never equals its partner.
+pub fn are_apart(first: &[Subscript], second: &[Subscript], ranges: &Ranges) -> bool {
+    first.iter().zip(second).any(|(u, v)| never_equal(u, v, ranges))
+}
+
 /// Whether two accesses, numbered from 1, are apart.
 pub fn test(admitted: &Admitted, first: u64, second: u64) -> Outcome<bool> {
     let nest = &admitted.ticket.nest;
@@ -35,6 +40,6 @@ pub fn test(admitted: &Admitted, first: u64, second: u64) -> Outcome<bool> {
         return Ok(true);
     }
     let ranges = admitted.ranges();
-    let mut pairs = nest.subscripts_of(first).iter().zip(nest.subscripts_of(second));
-    Ok(ranges.iter().any(|range| range.is_empty()) || pairs.any(|(u, v)| never_equal(u, v, &ranges)))
+    let [first, second] = [first, second].map(|access| nest.subscripts_of(access));
+    Ok(ranges.iter().any(|range| range.is_empty()) || are_apart(first, second, &ranges))
 }

@@ -1,11 +1,12 @@
-//! The lines of a nest without its points. Those of its corner, or of its centre, are among them; where Banerjee's inequalities allow no others,
-//! they are all.
+//! The lines of a nest without its points. Those of its corner, or of its centre, are among them; where Banerjee's inequalities or the quick test
+//! allow no others, they are all.
 
 use std::array::from_fn;
 
 use crate::dependence::{Lines, lines_at, pairs, uses};
 use crate::directions::{power, sign_at};
 use crate::points::points_within;
+use crate::quick::are_apart;
 use crate::ranges::{Range, Ranges};
 use crate::ticket::{Nest, Subscript};
 
@@ -97,7 +98,7 @@ fn cover<const D: usize>(lines: &Lines, nest: &Nest, ranges: &Ranges) -> bool {
             .filter(|vector| vector.number < pair.end(D) && !marks[vector.number])
             .collect();
         let [source, sink] = [pair.source, pair.sink].map(|one| nest.subscripts_of(&nest.accesses[one.access]));
-        unmarked.is_empty() || are_impossible(unmarked, source, sink, ranges)
+        unmarked.is_empty() || are_impossible(unmarked, source, sink, ranges) || are_apart(source, sink, ranges)
     })
 }
 

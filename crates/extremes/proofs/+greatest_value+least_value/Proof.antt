@@ -1,10 +1,14 @@
--- `least_value` and `greatest_value`, a cycle of calls: the measure of each is its loop's number. The array holds the ranges of the loops so far.
-use Prim.Native.Nat.{_-_, _≤_}
+-- `least_value` and `greatest_value`, a cycle of calls: the measure of each is its loop's number. The array holds the ranges of those of the loops so far
+-- of which one of the limits has a coefficient.
+use Prim.Native.Nat.{ℕ, suc, _+_, _*_, _-_, _≤_, _<_}
 use native.Mathlib.Omega.{arith}
-use mathlib.Core.Path.{refl}
-use Rattle.extremes.specs.Values.{RangesAre}
-use Rattle.extremes.proofs.RangeLaws.{none-held, more-held, loop-in, least-at, greatest-at, loops-before}
-use Prim.Native.Nat.{ℕ, suc, _<_}
+use mathlib.Core.Path.{sym, subst}
+use mathlib.Core.Logic.{⊎-elim}
+use mathlib.Core.List.{List}
+use lib.ListN.{getD}
+use Rattle.extremes.specs.declared.Range.{Range}
+use Rattle.extremes.proofs.RangeLaws.{loops-before}
+use Rattle.extremes.proofs.FreeLaws.{NeededAre, needed-none, needed-free, needed-more, needed-in, needed-least, needed-greatest}
 use borrow.Fn.Kinds.{In}
 use borrow.Fn.PlainCycle.{Measures, is, falls, and}
 use Rattle.extremes.proofs.greatest_value.Reads as greatest-value
@@ -14,6 +18,7 @@ use Rattle.extremes.proofs.least_value.Reads as least-value
 use Rattle.extremes.proofs.least_value.Kinds as least-value-kinds
 use Rattle.extremes.proofs.+greatest_value+least_value.Lts-least_value as least-value-lts
 use Rattle.extremes.proofs.greatest_over.Reads as greatest-over-reads
+use Rattle.extremes.proofs.leans.Reads as leans-reads
 use Rattle.extremes.proofs.least_over.Reads as least-over-reads
 use Rattle.extremes.proofs.+greatest_value+least_value.{statement}
 use Rattle.extremes.proofs.+greatest_value+least_value.Tie.{close}
@@ -49,13 +54,62 @@ least-value-below t =
     and 2 least-value-kinds.ps (falls 2 least-value-kinds.ps _<_ μ-least-value t) least-value.Pre
 
 abbrev greatest-value-Inv-loop : greatest-value-lts.InvT-loop
-greatest-value-Inv-loop nest counts k outer₀ i₀ outer i = (i ≤ k) × RangesAre nest counts i outer
+greatest-value-Inv-loop nest counts k n outer₀ i₀ outer i = (i ≤ k) × NeededAre nest counts (k * 32 + 16) n i outer
 
 abbrev greatest-value-μ-loop : greatest-value-lts.MeasureT-loop
-greatest-value-μ-loop nest counts k outer₀ i₀ outer i = k - i
+greatest-value-μ-loop nest counts k n outer₀ i₀ outer i = k - i
 
--- src/lib.rt:188:5
+greatest-value-mul-n : (t : ℕ) → greatest-value-lts.Need-mul-n (
+  leans-reads.Asked,
+  leans-reads.Learnt,
+  least-value-below t,
+  least-value.Post,
+  greatest-value-below t,
+  greatest-value.Post,
+  greatest-over-reads.Asked,
+  greatest-over-reads.Learnt,
+) (greatest-value-at t) greatest-value.Post greatest-value-Inv-loop greatest-value-μ-loop
+greatest-value-mul-n t c = let f = c .before .pre .1 .shallow in omega arith
+
+greatest-value-add-n : (t : ℕ) → greatest-value-lts.Need-add-n (
+  leans-reads.Asked,
+  leans-reads.Learnt,
+  least-value-below t,
+  least-value.Post,
+  greatest-value-below t,
+  greatest-value.Post,
+  greatest-over-reads.Asked,
+  greatest-over-reads.Learnt,
+) (greatest-value-at t) greatest-value.Post greatest-value-Inv-loop greatest-value-μ-loop
+greatest-value-add-n t c = let f = c .before .pre .1 .shallow in omega arith
+
+greatest-value-mul-n-2 : (t : ℕ) → greatest-value-lts.Need-mul-n-2 (
+  leans-reads.Asked,
+  leans-reads.Learnt,
+  least-value-below t,
+  least-value.Post,
+  greatest-value-below t,
+  greatest-value.Post,
+  greatest-over-reads.Asked,
+  greatest-over-reads.Learnt,
+) (greatest-value-at t) greatest-value.Post greatest-value-Inv-loop greatest-value-μ-loop
+greatest-value-mul-n-2 t c = let f = c .before .pre .1 .shallow in omega arith
+
+greatest-value-shared-slice-read-n : (t : ℕ) → greatest-value-lts.Need-shared-slice-read-n (
+  leans-reads.Asked,
+  leans-reads.Learnt,
+  least-value-below t,
+  least-value.Post,
+  greatest-value-below t,
+  greatest-value.Post,
+  greatest-over-reads.Asked,
+  greatest-over-reads.Learnt,
+) (greatest-value-at t) greatest-value.Post greatest-value-Inv-loop greatest-value-μ-loop
+greatest-value-shared-slice-read-n t c = let f = c .before .before .pre .1 .shallow in let l = c .before .before .pre .1 .counts in omega arith
+
 greatest-value-loop-holds : (t : ℕ) → greatest-value-lts.Need-loop-holds (
+  leans-reads.Asked,
+  leans-reads.Learnt,
   least-value-below t,
   least-value.Post,
   greatest-value-below t,
@@ -63,10 +117,47 @@ greatest-value-loop-holds : (t : ℕ) → greatest-value-lts.Need-loop-holds (
   greatest-over-reads.Asked,
   greatest-over-reads.Learnt,
 ) (greatest-value-at t) greatest-value.Post greatest-value-Inv-loop greatest-value-μ-loop
-greatest-value-loop-holds t c = let s = c .before in (omega arith, none-held (s .args .nest .now) (s .args .counts .now) _ refl)
+greatest-value-loop-holds t c = let s = c .before .before .args in (omega arith, needed-none (s .nest .now) (s .counts .now) _ _)
 
--- src/lib.rt:189:13
+greatest-value-mul-leans : (t : ℕ) → greatest-value-lts.Need-mul-leans (
+  leans-reads.Asked,
+  leans-reads.Learnt,
+  least-value-below t,
+  least-value.Post,
+  greatest-value-below t,
+  greatest-value.Post,
+  greatest-over-reads.Asked,
+  greatest-over-reads.Learnt,
+) (greatest-value-at t) greatest-value.Post greatest-value-Inv-loop greatest-value-μ-loop
+greatest-value-mul-leans t c = let f = c .before .before .before .before .pre .1 .shallow in omega arith
+
+greatest-value-add-leans : (t : ℕ) → greatest-value-lts.Need-add-leans (
+  leans-reads.Asked,
+  leans-reads.Learnt,
+  least-value-below t,
+  least-value.Post,
+  greatest-value-below t,
+  greatest-value.Post,
+  greatest-over-reads.Asked,
+  greatest-over-reads.Learnt,
+) (greatest-value-at t) greatest-value.Post greatest-value-Inv-loop greatest-value-μ-loop
+greatest-value-add-leans t c = let f = c .before .before .before .before .pre .1 .shallow in omega arith
+
+greatest-value-leans-requires : (t : ℕ) → greatest-value-lts.Need-leans-requires (
+  leans-reads.Asked,
+  leans-reads.Learnt,
+  least-value-below t,
+  least-value.Post,
+  greatest-value-below t,
+  greatest-value.Post,
+  greatest-over-reads.Asked,
+  greatest-over-reads.Learnt,
+) (greatest-value-at t) greatest-value.Post greatest-value-Inv-loop greatest-value-μ-loop
+greatest-value-leans-requires t c κs = let s = c .before .before .before .before in let q = s .pre .1 in let f = q .shallow in let n = q .upper-count (s .args .k) (omega arith) in let h = c .loop-test .taken in (q .words, omega arith, omega arith)
+
 greatest-value-least-value-requires : (t : ℕ) → greatest-value-lts.Need-least-value-requires (
+  leans-reads.Asked,
+  leans-reads.Learnt,
   least-value-below t,
   least-value.Post,
   greatest-value-below t,
@@ -74,10 +165,11 @@ greatest-value-least-value-requires : (t : ℕ) → greatest-value-lts.Need-leas
   greatest-over-reads.Asked,
   greatest-over-reads.Learnt,
 ) (greatest-value-at t) greatest-value.Post greatest-value-Inv-loop greatest-value-μ-loop
-greatest-value-least-value-requires t c κs = let s = c .before .before .before in let m = s .pre .0 in let h = c .loop-test .taken in (omega arith, loops-before (s .args .nest .now) (s .args .counts .now) (suc (s .args .k)) (c .before .loop .i) (s .pre .1) (omega arith))
+greatest-value-least-value-requires t c κs = let s = c .before .before .before .before .before .before in let m = s .pre .0 in let h = c .before .before .loop-test .taken in (omega arith, loops-before (s .args .nest .now) (s .args .counts .now) (suc (s .args .k)) (c .before .before .before .loop .i) (s .pre .1) (omega arith))
 
--- src/lib.rt:190:13
 greatest-value-greatest-value-requires : (t : ℕ) → greatest-value-lts.Need-greatest-value-requires (
+  leans-reads.Asked,
+  leans-reads.Learnt,
   least-value-below t,
   least-value.Post,
   greatest-value-below t,
@@ -85,10 +177,11 @@ greatest-value-greatest-value-requires : (t : ℕ) → greatest-value-lts.Need-g
   greatest-over-reads.Asked,
   greatest-over-reads.Learnt,
 ) (greatest-value-at t) greatest-value.Post greatest-value-Inv-loop greatest-value-μ-loop
-greatest-value-greatest-value-requires t c κs = let s = c .before .before .before .before in let m = s .pre .0 in let h = c .before .loop-test .taken in (omega arith, loops-before (s .args .nest .now) (s .args .counts .now) (suc (s .args .k)) (c .before .before .loop .i) (s .pre .1) (omega arith))
+greatest-value-greatest-value-requires t c κs = let s = c .before .before .before .before .before .before .before in let m = s .pre .0 in let h = c .before .before .before .loop-test .taken in (omega arith, loops-before (s .args .nest .now) (s .args .counts .now) (suc (s .args .k)) (c .before .before .before .before .loop .i) (s .pre .1) (omega arith))
 
--- src/lib.rt:191:9
 greatest-value-mul-outer : (t : ℕ) → greatest-value-lts.Need-mul-outer (
+  leans-reads.Asked,
+  leans-reads.Learnt,
   least-value-below t,
   least-value.Post,
   greatest-value-below t,
@@ -96,10 +189,11 @@ greatest-value-mul-outer : (t : ℕ) → greatest-value-lts.Need-mul-outer (
   greatest-over-reads.Asked,
   greatest-over-reads.Learnt,
 ) (greatest-value-at t) greatest-value.Post greatest-value-Inv-loop greatest-value-μ-loop
-greatest-value-mul-outer t c = let f = c .before .before .before .before .before .before .before .pre .1 .shallow in let h = c .before .before .before .before .loop-test .taken in omega arith
+greatest-value-mul-outer t c = let f = c .before .before .before .before .before .before .before .before .before .before .pre .1 .shallow in let h = c .before .before .before .before .before .before .loop-test .taken in omega arith
 
--- src/lib.rt:191:9
 greatest-value-array-set-from-outer : (t : ℕ) → greatest-value-lts.Need-array-set-from-outer (
+  leans-reads.Asked,
+  leans-reads.Learnt,
   least-value-below t,
   least-value.Post,
   greatest-value-below t,
@@ -107,10 +201,11 @@ greatest-value-array-set-from-outer : (t : ℕ) → greatest-value-lts.Need-arra
   greatest-over-reads.Asked,
   greatest-over-reads.Learnt,
 ) (greatest-value-at t) greatest-value.Post greatest-value-Inv-loop greatest-value-μ-loop
-greatest-value-array-set-from-outer t c = let f = c .before .before .before .before .before .before .before .pre .1 .shallow in let h = c .before .before .before .before .loop-test .taken in let l = c .before .before .before .before .before .loop .inv .1 .held .six in omega arith
+greatest-value-array-set-from-outer t c = let f = c .before .before .before .before .before .before .before .before .before .before .pre .1 .shallow in let h = c .before .before .before .before .before .before .loop-test .taken in let l = c .before .before .before .before .before .before .before .loop .inv .1 .six in omega arith
 
--- src/lib.rt:192:9
 greatest-value-add-i : (t : ℕ) → greatest-value-lts.Need-add-i (
+  leans-reads.Asked,
+  leans-reads.Learnt,
   least-value-below t,
   least-value.Post,
   greatest-value-below t,
@@ -118,10 +213,11 @@ greatest-value-add-i : (t : ℕ) → greatest-value-lts.Need-add-i (
   greatest-over-reads.Asked,
   greatest-over-reads.Learnt,
 ) (greatest-value-at t) greatest-value.Post greatest-value-Inv-loop greatest-value-μ-loop
-greatest-value-add-i t c = let f = c .before .before .before .before .before .before .before .pre .1 .shallow in let h = c .before .before .before .before .loop-test .taken in omega arith
+greatest-value-add-i t c = let f = c .before .before .before .before .before .before .pre .1 .shallow in let h = c .before .before .loop-test .taken in omega arith
 
--- src/lib.rt:188:5
 greatest-value-loop-less : (t : ℕ) → greatest-value-lts.Need-loop-less (
+  leans-reads.Asked,
+  leans-reads.Learnt,
   least-value-below t,
   least-value.Post,
   greatest-value-below t,
@@ -129,10 +225,11 @@ greatest-value-loop-less : (t : ℕ) → greatest-value-lts.Need-loop-less (
   greatest-over-reads.Asked,
   greatest-over-reads.Learnt,
 ) (greatest-value-at t) greatest-value.Post greatest-value-Inv-loop greatest-value-μ-loop
-greatest-value-loop-less t c = let h = c .before .before .before .before .loop-test .taken in omega arith
+greatest-value-loop-less t c = let h = c .before .before .loop-test .taken in omega arith
 
--- src/lib.rt:188:5
 greatest-value-loop-again : (t : ℕ) → greatest-value-lts.Need-loop-again (
+  leans-reads.Asked,
+  leans-reads.Learnt,
   least-value-below t,
   least-value.Post,
   greatest-value-below t,
@@ -140,11 +237,18 @@ greatest-value-loop-again : (t : ℕ) → greatest-value-lts.Need-loop-again (
   greatest-over-reads.Asked,
   greatest-over-reads.Learnt,
 ) (greatest-value-at t) greatest-value.Post greatest-value-Inv-loop greatest-value-μ-loop
-greatest-value-loop-again t c = let s = c .before .before .before .before .before .before .before in let l = c .before .before .before .before .before .loop in let f = s .pre .1 .shallow in let h = c .before .before .before .before .loop-test .taken in
-    (omega arith, more-held (s .args .nest .now) (s .args .counts .now) (l .i) (l .outer) (c .before .before .before .least-value .result .value) (c .before .before .greatest-value .result .value) (omega arith) (l .inv .1) (c .before .before .before .least-value .ensures) (c .before .before .greatest-value .ensures))
+greatest-value-loop-again t c = let s = c .before .before .before .before .before .before in let l = c .before .before .before .loop in let f = s .pre .1 .shallow in let h = c .before .before .loop-test .taken in
+    let a = s .args in let are : List Range → Type 0 = NeededAre (a .nest .now) (a .counts .now) (a .k * 32 + 16) (getD (a .counts .now) (a .k * 2 + 1) 0) (l .i + 1) in (
+      omega arith,
+      ⊎-elim
+          (λ w. subst are (sym (w .5)) (needed-more (a .nest .now) (a .counts .now) (a .k * 32 + 16) (getD (a .counts .now) (a .k * 2 + 1) 0) (l .i) (l .outer) (l .inv .1) (w .1 .result .value) (w .2 .result .value) (omega arith) (w .1 .ensures) (w .2 .ensures)))
+          (λ w. subst are (sym (w .1)) (needed-free (a .nest .now) (a .counts .now) (a .k * 32 + 16) (getD (a .counts .now) (a .k * 2 + 1) 0) (l .i) (l .outer) (l .inv .1) (c .before .leans .ensures .0 (w .0 .left))))
+          (c .if1 .came),
+    )
 
--- src/lib.rt:194:5
 greatest-value-greatest-over-requires : (t : ℕ) → greatest-value-lts.Need-greatest-over-requires (
+  leans-reads.Asked,
+  leans-reads.Learnt,
   least-value-below t,
   least-value.Post,
   greatest-value-below t,
@@ -152,10 +256,11 @@ greatest-value-greatest-over-requires : (t : ℕ) → greatest-value-lts.Need-gr
   greatest-over-reads.Asked,
   greatest-over-reads.Learnt,
 ) (greatest-value-at t) greatest-value.Post greatest-value-Inv-loop greatest-value-μ-loop
-greatest-value-greatest-over-requires t c κs = let s = c .before .before .before in let l = c .before .loop in let h = c .loop-test .left in loop-in (s .args .nest .now) (s .args .counts .now) (s .args .k) (l .i) (l .outer) (s .pre .1) (l .inv .1) (omega arith)
+greatest-value-greatest-over-requires t c κs = let s = c .before .before .before .before in let l = c .before .loop in let h = c .loop-test .left in needed-in (s .args .nest .now) (s .args .counts .now) _ _ (s .args .k) (l .i) (l .outer) (s .pre .1) (l .inv .1) (omega arith)
 
--- src/lib.rt:182:1
 greatest-value-returns : (t : ℕ) → greatest-value-lts.Need-returns (
+  leans-reads.Asked,
+  leans-reads.Learnt,
   least-value-below t,
   least-value.Post,
   greatest-value-below t,
@@ -163,17 +268,54 @@ greatest-value-returns : (t : ℕ) → greatest-value-lts.Need-returns (
   greatest-over-reads.Asked,
   greatest-over-reads.Learnt,
 ) (greatest-value-at t) greatest-value.Post greatest-value-Inv-loop greatest-value-μ-loop
-greatest-value-returns t c = let s = c .before .before .before .before in let l = c .before .before .loop in let h = c .before .loop-test .left in let v = c .greatest-over in
-    (greatest-at (s .args .nest .now) (s .args .counts .now) (s .args .k) (l .i) (l .outer) (s .pre .1) (l .inv .1) (omega arith) (v .result .value) (v .ensures .0), v .ensures .1)
+greatest-value-returns t c = let s = c .before .before .before .before .before in let l = c .before .before .loop in let h = c .before .loop-test .left in let v = c .greatest-over in
+    (needed-greatest (s .args .nest .now) (s .args .counts .now) (s .args .k) (l .i) (l .outer) (s .pre .1) (omega arith) (v .result .value) (l .inv .1) (v .ensures .0), v .ensures .1)
 
 abbrev least-value-Inv-loop : least-value-lts.InvT-loop
-least-value-Inv-loop nest counts k outer₀ i₀ outer i = (i ≤ k) × RangesAre nest counts i outer
+least-value-Inv-loop nest counts k n outer₀ i₀ outer i = (i ≤ k) × NeededAre nest counts (k * 32) n i outer
 
 abbrev least-value-μ-loop : least-value-lts.MeasureT-loop
-least-value-μ-loop nest counts k outer₀ i₀ outer i = k - i
+least-value-μ-loop nest counts k n outer₀ i₀ outer i = k - i
 
--- src/lib.rt:172:5
+least-value-mul-n : (t : ℕ) → least-value-lts.Need-mul-n (
+  leans-reads.Asked,
+  leans-reads.Learnt,
+  least-value-below t,
+  least-value.Post,
+  greatest-value-below t,
+  greatest-value.Post,
+  least-over-reads.Asked,
+  least-over-reads.Learnt,
+) (least-value-at t) least-value.Post least-value-Inv-loop least-value-μ-loop
+least-value-mul-n t c = let f = c .before .pre .1 .shallow in omega arith
+
+least-value-mul-n-2 : (t : ℕ) → least-value-lts.Need-mul-n-2 (
+  leans-reads.Asked,
+  leans-reads.Learnt,
+  least-value-below t,
+  least-value.Post,
+  greatest-value-below t,
+  greatest-value.Post,
+  least-over-reads.Asked,
+  least-over-reads.Learnt,
+) (least-value-at t) least-value.Post least-value-Inv-loop least-value-μ-loop
+least-value-mul-n-2 t c = let f = c .before .pre .1 .shallow in omega arith
+
+least-value-shared-slice-read-n : (t : ℕ) → least-value-lts.Need-shared-slice-read-n (
+  leans-reads.Asked,
+  leans-reads.Learnt,
+  least-value-below t,
+  least-value.Post,
+  greatest-value-below t,
+  greatest-value.Post,
+  least-over-reads.Asked,
+  least-over-reads.Learnt,
+) (least-value-at t) least-value.Post least-value-Inv-loop least-value-μ-loop
+least-value-shared-slice-read-n t c = let f = c .before .before .pre .1 .shallow in let l = c .before .before .pre .1 .counts in omega arith
+
 least-value-loop-holds : (t : ℕ) → least-value-lts.Need-loop-holds (
+  leans-reads.Asked,
+  leans-reads.Learnt,
   least-value-below t,
   least-value.Post,
   greatest-value-below t,
@@ -181,10 +323,35 @@ least-value-loop-holds : (t : ℕ) → least-value-lts.Need-loop-holds (
   least-over-reads.Asked,
   least-over-reads.Learnt,
 ) (least-value-at t) least-value.Post least-value-Inv-loop least-value-μ-loop
-least-value-loop-holds t c = let s = c .before in (omega arith, none-held (s .args .nest .now) (s .args .counts .now) _ refl)
+least-value-loop-holds t c = let s = c .before .before .args in (omega arith, needed-none (s .nest .now) (s .counts .now) _ _)
 
--- src/lib.rt:173:13
+least-value-mul-leans : (t : ℕ) → least-value-lts.Need-mul-leans (
+  leans-reads.Asked,
+  leans-reads.Learnt,
+  least-value-below t,
+  least-value.Post,
+  greatest-value-below t,
+  greatest-value.Post,
+  least-over-reads.Asked,
+  least-over-reads.Learnt,
+) (least-value-at t) least-value.Post least-value-Inv-loop least-value-μ-loop
+least-value-mul-leans t c = let f = c .before .before .before .before .pre .1 .shallow in omega arith
+
+least-value-leans-requires : (t : ℕ) → least-value-lts.Need-leans-requires (
+  leans-reads.Asked,
+  leans-reads.Learnt,
+  least-value-below t,
+  least-value.Post,
+  greatest-value-below t,
+  greatest-value.Post,
+  least-over-reads.Asked,
+  least-over-reads.Learnt,
+) (least-value-at t) least-value.Post least-value-Inv-loop least-value-μ-loop
+least-value-leans-requires t c κs = let s = c .before .before .before .before in let q = s .pre .1 in let f = q .shallow in let n = q .lower-count (s .args .k) (omega arith) in let h = c .loop-test .taken in (q .words, omega arith, omega arith)
+
 least-value-least-value-requires : (t : ℕ) → least-value-lts.Need-least-value-requires (
+  leans-reads.Asked,
+  leans-reads.Learnt,
   least-value-below t,
   least-value.Post,
   greatest-value-below t,
@@ -192,10 +359,11 @@ least-value-least-value-requires : (t : ℕ) → least-value-lts.Need-least-valu
   least-over-reads.Asked,
   least-over-reads.Learnt,
 ) (least-value-at t) least-value.Post least-value-Inv-loop least-value-μ-loop
-least-value-least-value-requires t c κs = let s = c .before .before .before in let m = s .pre .0 in let h = c .loop-test .taken in (omega arith, loops-before (s .args .nest .now) (s .args .counts .now) (suc (s .args .k)) (c .before .loop .i) (s .pre .1) (omega arith))
+least-value-least-value-requires t c κs = let s = c .before .before .before .before .before .before in let m = s .pre .0 in let h = c .before .before .loop-test .taken in (omega arith, loops-before (s .args .nest .now) (s .args .counts .now) (suc (s .args .k)) (c .before .before .before .loop .i) (s .pre .1) (omega arith))
 
--- src/lib.rt:174:13
 least-value-greatest-value-requires : (t : ℕ) → least-value-lts.Need-greatest-value-requires (
+  leans-reads.Asked,
+  leans-reads.Learnt,
   least-value-below t,
   least-value.Post,
   greatest-value-below t,
@@ -203,10 +371,11 @@ least-value-greatest-value-requires : (t : ℕ) → least-value-lts.Need-greates
   least-over-reads.Asked,
   least-over-reads.Learnt,
 ) (least-value-at t) least-value.Post least-value-Inv-loop least-value-μ-loop
-least-value-greatest-value-requires t c κs = let s = c .before .before .before .before in let m = s .pre .0 in let h = c .before .loop-test .taken in (omega arith, loops-before (s .args .nest .now) (s .args .counts .now) (suc (s .args .k)) (c .before .before .loop .i) (s .pre .1) (omega arith))
+least-value-greatest-value-requires t c κs = let s = c .before .before .before .before .before .before .before in let m = s .pre .0 in let h = c .before .before .before .loop-test .taken in (omega arith, loops-before (s .args .nest .now) (s .args .counts .now) (suc (s .args .k)) (c .before .before .before .before .loop .i) (s .pre .1) (omega arith))
 
--- src/lib.rt:175:9
 least-value-mul-outer : (t : ℕ) → least-value-lts.Need-mul-outer (
+  leans-reads.Asked,
+  leans-reads.Learnt,
   least-value-below t,
   least-value.Post,
   greatest-value-below t,
@@ -214,10 +383,11 @@ least-value-mul-outer : (t : ℕ) → least-value-lts.Need-mul-outer (
   least-over-reads.Asked,
   least-over-reads.Learnt,
 ) (least-value-at t) least-value.Post least-value-Inv-loop least-value-μ-loop
-least-value-mul-outer t c = let f = c .before .before .before .before .before .before .before .pre .1 .shallow in let h = c .before .before .before .before .loop-test .taken in omega arith
+least-value-mul-outer t c = let f = c .before .before .before .before .before .before .before .before .before .before .pre .1 .shallow in let h = c .before .before .before .before .before .before .loop-test .taken in omega arith
 
--- src/lib.rt:175:9
 least-value-array-set-from-outer : (t : ℕ) → least-value-lts.Need-array-set-from-outer (
+  leans-reads.Asked,
+  leans-reads.Learnt,
   least-value-below t,
   least-value.Post,
   greatest-value-below t,
@@ -225,10 +395,11 @@ least-value-array-set-from-outer : (t : ℕ) → least-value-lts.Need-array-set-
   least-over-reads.Asked,
   least-over-reads.Learnt,
 ) (least-value-at t) least-value.Post least-value-Inv-loop least-value-μ-loop
-least-value-array-set-from-outer t c = let f = c .before .before .before .before .before .before .before .pre .1 .shallow in let h = c .before .before .before .before .loop-test .taken in let l = c .before .before .before .before .before .loop .inv .1 .held .six in omega arith
+least-value-array-set-from-outer t c = let f = c .before .before .before .before .before .before .before .before .before .before .pre .1 .shallow in let h = c .before .before .before .before .before .before .loop-test .taken in let l = c .before .before .before .before .before .before .before .loop .inv .1 .six in omega arith
 
--- src/lib.rt:176:9
 least-value-add-i : (t : ℕ) → least-value-lts.Need-add-i (
+  leans-reads.Asked,
+  leans-reads.Learnt,
   least-value-below t,
   least-value.Post,
   greatest-value-below t,
@@ -236,10 +407,11 @@ least-value-add-i : (t : ℕ) → least-value-lts.Need-add-i (
   least-over-reads.Asked,
   least-over-reads.Learnt,
 ) (least-value-at t) least-value.Post least-value-Inv-loop least-value-μ-loop
-least-value-add-i t c = let f = c .before .before .before .before .before .before .before .pre .1 .shallow in let h = c .before .before .before .before .loop-test .taken in omega arith
+least-value-add-i t c = let f = c .before .before .before .before .before .before .pre .1 .shallow in let h = c .before .before .loop-test .taken in omega arith
 
--- src/lib.rt:172:5
 least-value-loop-less : (t : ℕ) → least-value-lts.Need-loop-less (
+  leans-reads.Asked,
+  leans-reads.Learnt,
   least-value-below t,
   least-value.Post,
   greatest-value-below t,
@@ -247,10 +419,11 @@ least-value-loop-less : (t : ℕ) → least-value-lts.Need-loop-less (
   least-over-reads.Asked,
   least-over-reads.Learnt,
 ) (least-value-at t) least-value.Post least-value-Inv-loop least-value-μ-loop
-least-value-loop-less t c = let h = c .before .before .before .before .loop-test .taken in omega arith
+least-value-loop-less t c = let h = c .before .before .loop-test .taken in omega arith
 
--- src/lib.rt:172:5
 least-value-loop-again : (t : ℕ) → least-value-lts.Need-loop-again (
+  leans-reads.Asked,
+  leans-reads.Learnt,
   least-value-below t,
   least-value.Post,
   greatest-value-below t,
@@ -258,11 +431,18 @@ least-value-loop-again : (t : ℕ) → least-value-lts.Need-loop-again (
   least-over-reads.Asked,
   least-over-reads.Learnt,
 ) (least-value-at t) least-value.Post least-value-Inv-loop least-value-μ-loop
-least-value-loop-again t c = let s = c .before .before .before .before .before .before .before in let l = c .before .before .before .before .before .loop in let f = s .pre .1 .shallow in let h = c .before .before .before .before .loop-test .taken in
-    (omega arith, more-held (s .args .nest .now) (s .args .counts .now) (l .i) (l .outer) (c .before .before .before .least-value .result .value) (c .before .before .greatest-value .result .value) (omega arith) (l .inv .1) (c .before .before .before .least-value .ensures) (c .before .before .greatest-value .ensures))
+least-value-loop-again t c = let s = c .before .before .before .before .before .before in let l = c .before .before .before .loop in let f = s .pre .1 .shallow in let h = c .before .before .loop-test .taken in
+    let a = s .args in let are : List Range → Type 0 = NeededAre (a .nest .now) (a .counts .now) (a .k * 32) (getD (a .counts .now) (a .k * 2) 0) (l .i + 1) in (
+      omega arith,
+      ⊎-elim
+          (λ w. subst are (sym (w .5)) (needed-more (a .nest .now) (a .counts .now) (a .k * 32) (getD (a .counts .now) (a .k * 2) 0) (l .i) (l .outer) (l .inv .1) (w .1 .result .value) (w .2 .result .value) (omega arith) (w .1 .ensures) (w .2 .ensures)))
+          (λ w. subst are (sym (w .1)) (needed-free (a .nest .now) (a .counts .now) (a .k * 32) (getD (a .counts .now) (a .k * 2) 0) (l .i) (l .outer) (l .inv .1) (c .before .leans .ensures .0 (w .0 .left))))
+          (c .if1 .came),
+    )
 
--- src/lib.rt:178:5
 least-value-least-over-requires : (t : ℕ) → least-value-lts.Need-least-over-requires (
+  leans-reads.Asked,
+  leans-reads.Learnt,
   least-value-below t,
   least-value.Post,
   greatest-value-below t,
@@ -270,10 +450,11 @@ least-value-least-over-requires : (t : ℕ) → least-value-lts.Need-least-over-
   least-over-reads.Asked,
   least-over-reads.Learnt,
 ) (least-value-at t) least-value.Post least-value-Inv-loop least-value-μ-loop
-least-value-least-over-requires t c κs = let s = c .before .before .before in let l = c .before .loop in let h = c .loop-test .left in loop-in (s .args .nest .now) (s .args .counts .now) (s .args .k) (l .i) (l .outer) (s .pre .1) (l .inv .1) (omega arith)
+least-value-least-over-requires t c κs = let s = c .before .before .before .before in let l = c .before .loop in let h = c .loop-test .left in needed-in (s .args .nest .now) (s .args .counts .now) _ _ (s .args .k) (l .i) (l .outer) (s .pre .1) (l .inv .1) (omega arith)
 
--- src/lib.rt:166:1
 least-value-returns : (t : ℕ) → least-value-lts.Need-returns (
+  leans-reads.Asked,
+  leans-reads.Learnt,
   least-value-below t,
   least-value.Post,
   greatest-value-below t,
@@ -281,12 +462,14 @@ least-value-returns : (t : ℕ) → least-value-lts.Need-returns (
   least-over-reads.Asked,
   least-over-reads.Learnt,
 ) (least-value-at t) least-value.Post least-value-Inv-loop least-value-μ-loop
-least-value-returns t c = let s = c .before .before .before .before in let l = c .before .before .loop in let h = c .before .loop-test .left in let v = c .least-over in
-    (least-at (s .args .nest .now) (s .args .counts .now) (s .args .k) (l .i) (l .outer) (s .pre .1) (l .inv .1) (omega arith) (v .result .value) (v .ensures .0), v .ensures .1)
+least-value-returns t c = let s = c .before .before .before .before .before in let l = c .before .before .loop in let h = c .before .loop-test .left in let v = c .least-over in
+    (needed-least (s .args .nest .now) (s .args .counts .now) (s .args .k) (l .i) (l .outer) (s .pre .1) (omega arith) (v .result .value) (l .inv .1) (v .ensures .0), v .ensures .1)
 
 pub +greatest-value+least-value-spec : {M : Type 1} → statement M
 +greatest-value+least-value-spec =
     close μ-greatest-value μ-least-value (λ t. greatest-value-lts.spec (
+      leans-reads.Asked,
+      leans-reads.Learnt,
       least-value-below t,
       least-value.Post,
       greatest-value-below t,
@@ -298,7 +481,14 @@ pub +greatest-value+least-value-spec : {M : Type 1} → statement M
     greatest-value.Post
     greatest-value-Inv-loop
     greatest-value-μ-loop
+    (greatest-value-mul-n t)
+    (greatest-value-add-n t)
+    (greatest-value-mul-n-2 t)
+    (greatest-value-shared-slice-read-n t)
     (greatest-value-loop-holds t)
+    (greatest-value-mul-leans t)
+    (greatest-value-add-leans t)
+    (greatest-value-leans-requires t)
     (greatest-value-least-value-requires t)
     (greatest-value-greatest-value-requires t)
     (greatest-value-mul-outer t)
@@ -309,6 +499,8 @@ pub +greatest-value+least-value-spec : {M : Type 1} → statement M
     (greatest-value-greatest-over-requires t)
     (greatest-value-returns t))
     λ t. least-value-lts.spec (
+      leans-reads.Asked,
+      leans-reads.Learnt,
       least-value-below t,
       least-value.Post,
       greatest-value-below t,
@@ -320,7 +512,12 @@ pub +greatest-value+least-value-spec : {M : Type 1} → statement M
     least-value.Post
     least-value-Inv-loop
     least-value-μ-loop
+    (least-value-mul-n t)
+    (least-value-mul-n-2 t)
+    (least-value-shared-slice-read-n t)
     (least-value-loop-holds t)
+    (least-value-mul-leans t)
+    (least-value-leans-requires t)
     (least-value-least-value-requires t)
     (least-value-greatest-value-requires t)
     (least-value-mul-outer t)

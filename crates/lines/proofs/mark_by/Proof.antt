@@ -1,13 +1,13 @@
 -- `mark_by`: the places of the accesses, their statements, then the search.
 use mathlib.Core.Path.{sym}
 use lib.ListN.{length}
-use Rattle.lines.proofs.MarkLaws.{statements-count, writes-count, ready, numbers-below, lines-are}
+use Rattle.lines.proofs.MarkLaws.{number-in, statements-count, writes-count, ready, numbers-below, lines-are}
 use borrow.Author.Needs.{needs}
 use Rattle.lines.proofs.mark_by.Statement.{statement}
 use Rattle.lines.proofs.mark_by.Tie as tie
 
 number-accesses-requires : tie.Need-number-accesses-requires
-number-accesses-requires c κs = search needs
+number-accesses-requires c κs = let s = c .before .before .before in number-in _ (s .args .points .now) (s .args .count) (s .args .marks .now) (s .pre .0) _ (s .pre .1)
 
 uses-of-requires : tie.Need-uses-of-requires
 uses-of-requires c κs = search needs

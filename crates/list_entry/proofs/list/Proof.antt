@@ -1,7 +1,9 @@
--- `list`: 1 to 8, then few points or many.
+-- `list`: 1 to 8, then marks for 2 statements or for 4.
+use mathlib.Core.Path.{refl}
 use Rattle.ticket.proofs.DecodeLaws.{zeros-lent}
-use Rattle.intake.proofs.AdmitLaws.{not-received, waits-few, waits}
-use Rattle.list_entry.proofs.ListLaws.{not-admitted}
+use Rattle.intake.proofs.AdmitLaws.{not-received, waits}
+use Rattle.finding.proofs.FindingLaws.{find-in}
+use Rattle.list_entry.proofs.ListLaws.{turned-away}
 use borrow.Author.Needs.{needs}
 use Rattle.list_entry.proofs.list.Statement.{statement}
 use Rattle.list_entry.proofs.list.Tie as tie
@@ -22,19 +24,19 @@ enum-known-status : tie.Need-enum-known-status
 enum-known-status c = search needs
 
 returns : tie.Need-returns
-returns c = let s = c .before .before .before .before .before .before .before .before .before .before in let r = c .before .before .before .before .before .receive in let q = c .before .status .given .1 in not-admitted _ _ _ (r .result) _ _ (not-received _ (r .result) _ _ (r .ensures) _ q) _ q (s .args .out .now)
+returns c = let s = c .before .before .before .before .before .before .before .before .before .before in let r = c .before .before .before .before .before .receive in turned-away _ (c .before .status .given .0 .0) (not-received _ (r .result) _ _ (r .ensures) (c .before .status .given .0 .0) (c .before .status .given .1)) (s .args .out .now)
 
-slice-aggregate-list-by : tie.Need-slice-aggregate-list-by
-slice-aggregate-list-by c = search needs
+slice-aggregate-list-with : tie.Need-slice-aggregate-list-with
+slice-aggregate-list-with c = search needs
 
-slice-aggregate-list-by-2 : tie.Need-slice-aggregate-list-by-2
-slice-aggregate-list-by-2 c = search needs
+slice-aggregate-list-with-2 : tie.Need-slice-aggregate-list-with-2
+slice-aggregate-list-with-2 c = search needs
 
-slice-aggregate-list-by-3 : tie.Need-slice-aggregate-list-by-3
-slice-aggregate-list-by-3 c = search needs
+slice-aggregate-list-with-3 : tie.Need-slice-aggregate-list-with-3
+slice-aggregate-list-with-3 c = search needs
 
-list-by-requires : tie.Need-list-by-requires
-list-by-requires c κs = let r = c .before .before .before .before .before .before .before .before .before .before .receive in waits-few _ (r .result) _ _ (r .ensures) (c .before .before .before .before .before .before .enum-told .given .1) (c .before .before .before .before .if1 .taken)
+list-with-requires : tie.Need-list-with-requires
+list-with-requires c κs = let r = c .before .before .before .before .before .before .before .before .before .before .before .receive in let f = c .before .before .before .before .before .before .before .enum-told .given .1 in (r .ensures, f, find-in _ (r .result .count) (waits _ (r .result) _ _ (r .ensures) f) 2 (c .before .before .before .before .if1 .taken) 8748 refl)
 
 same-length : tie.Need-same-length
 same-length c = search needs
@@ -42,14 +44,17 @@ same-length c = search needs
 returns-2 : tie.Need-returns-2
 returns-2 c = search needs
 
-slice-aggregate-list-many : tie.Need-slice-aggregate-list-many
-slice-aggregate-list-many c = search needs
+slice-aggregate-list-with-4 : tie.Need-slice-aggregate-list-with-4
+slice-aggregate-list-with-4 c = search needs
 
-slice-aggregate-list-many-2 : tie.Need-slice-aggregate-list-many-2
-slice-aggregate-list-many-2 c = search needs
+slice-aggregate-list-with-5 : tie.Need-slice-aggregate-list-with-5
+slice-aggregate-list-with-5 c = search needs
 
-list-many-requires : tie.Need-list-many-requires
-list-many-requires c κs = let r = c .before .before .before .before .before .before .before .before .before .receive in waits _ (r .result) _ _ (r .ensures) (c .before .before .before .before .before .enum-told .given .1)
+slice-aggregate-list-with-6 : tie.Need-slice-aggregate-list-with-6
+slice-aggregate-list-with-6 c = search needs
+
+list-with-requires-2 : tie.Need-list-with-requires-2
+list-with-requires-2 c κs = let r = c .before .before .before .before .before .before .before .before .before .before .before .receive in let f = c .before .before .before .before .before .before .before .enum-told .given .1 in let v = waits _ (r .result) _ _ (r .ensures) f in (r .ensures, f, find-in _ (r .result .count) v 4 (v .nest .sheet .few-statements) 34992 refl)
 
 same-length-2 : tie.Need-same-length-2
 same-length-2 c = search needs
@@ -67,14 +72,15 @@ list-spec =
     enum-told
     enum-known-status
     returns
-    slice-aggregate-list-by
-    slice-aggregate-list-by-2
-    slice-aggregate-list-by-3
-    list-by-requires
+    slice-aggregate-list-with
+    slice-aggregate-list-with-2
+    slice-aggregate-list-with-3
+    list-with-requires
     same-length
     returns-2
-    slice-aggregate-list-many
-    slice-aggregate-list-many-2
-    list-many-requires
+    slice-aggregate-list-with-4
+    slice-aggregate-list-with-5
+    slice-aggregate-list-with-6
+    list-with-requires-2
     same-length-2
     returns-3)

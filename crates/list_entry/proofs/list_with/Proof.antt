@@ -1,14 +1,16 @@
--- `list_with`: without the points, or by them.
-use Rattle.list_entry.proofs.ListLaws.{listable-known, handed-known}
+-- `list_with`: few points, or many: without them, or by them.
+use native.Mathlib.Omega.{arith}
+use Rattle.admission.proofs.AdmissionLaws.{enumerate-many}
+use Rattle.finding.proofs.FindingLaws.{mark-in, finds-known}
 use borrow.Author.Needs.{needs}
 use Rattle.list_entry.proofs.list_with.Statement.{statement}
 use Rattle.list_entry.proofs.list_with.Tie as tie
 
-mark-lines-requires : tie.Need-mark-lines-requires
-mark-lines-requires c κs = search needs
+find-few-requires : tie.Need-find-few-requires
+find-few-requires c κs = search needs
 
-write-marked-requires : tie.Need-write-marked-requires
-write-marked-requires c κs = let s = c .before .before .before .before .before .before .before .before .before .before .before in let m = c .before .before .before .before .before .mark-lines in listable-known (s .args .ticket .now) (s .args .all) (s .args .limits .now) (s .args .words .now) (s .pre .0) _ (m .result) (m .ensures .0) (c .before .before .if1 .taken)
+write-found-requires : tie.Need-write-found-requires
+write-found-requires c κs = search needs
 
 same-length : tie.Need-same-length
 same-length c = search needs
@@ -17,13 +19,13 @@ same-length-2 : tie.Need-same-length-2
 same-length-2 c = search needs
 
 returns : tie.Need-returns
-returns c = let s = c .before .before .before .before .before .before .before .before .before .before .before .before .before .before in let m = c .before .before .before .before .before .before .before .before .mark-lines in let w = c .before .before .write-marked in handed-known (s .args .ticket .now) (s .args .all) (s .args .limits .now) (s .args .words .now) (s .pre .0) _ (m .result) (m .ensures .0) (c .before .before .before .before .before .if1 .taken) _ _ (w .result) (w .ensures)
+returns c = search needs
 
-slice-aggregate-list-by : tie.Need-slice-aggregate-list-by
-slice-aggregate-list-by c = search needs
+mark-lines-requires : tie.Need-mark-lines-requires
+mark-lines-requires c κs = let s = c .before .before .before .before .before .before .before in mark-in _ (s .args .all .count) (s .args .marks .now) (s .pre .2)
 
-list-by-requires : tie.Need-list-by-requires
-list-by-requires c κs = search needs
+write-found-requires-2 : tie.Need-write-found-requires-2
+write-found-requires-2 c κs = let s = c .before .before .before .before .before .before .before .before .before .before .before .before .before in (s .pre .0, s .pre .1, finds-known _ _ (c .before .before .before .before .before .mark-lines .ensures .0 (c .before .before .if2 .taken)))
 
 same-length-3 : tie.Need-same-length-3
 same-length-3 c = search needs
@@ -34,17 +36,37 @@ same-length-4 c = search needs
 returns-2 : tie.Need-returns-2
 returns-2 c = search needs
 
+find-many-requires : tie.Need-find-many-requires
+find-many-requires c κs = let s = c .before .before .before .before .before .before .before .before .before .before .before .before in let h = s .pre .2 in (h .waits .nest, enumerate-many _ (s .args .all .count) (h .waits), let r = h .room in omega (arith, c .before .before .before .before .mark-lines .ensures .1))
+
+write-found-requires-3 : tie.Need-write-found-requires-3
+write-found-requires-3 c κs = search needs
+
+same-length-5 : tie.Need-same-length-5
+same-length-5 c = search needs
+
+same-length-6 : tie.Need-same-length-6
+same-length-6 c = search needs
+
+returns-3 : tie.Need-returns-3
+returns-3 c = search needs
+
 pub list-with-spec : {M : Type 1} → statement M
 list-with-spec =
     tie.close
     (tie.spec
-    mark-lines-requires
-    write-marked-requires
+    find-few-requires
+    write-found-requires
     same-length
     same-length-2
     returns
-    slice-aggregate-list-by
-    list-by-requires
+    mark-lines-requires
+    write-found-requires-2
     same-length-3
     same-length-4
-    returns-2)
+    returns-2
+    find-many-requires
+    write-found-requires-3
+    same-length-5
+    same-length-6
+    returns-3)

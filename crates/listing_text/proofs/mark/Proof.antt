@@ -1,41 +1,44 @@
 -- `mark`: the mark at the line's place.
-use mathlib.Core.Path.{sym, ap, _∙_, ap₂}
+use mathlib.Core.Path.{_≡_, sym, ap}
 use mathlib.Core.Bool.{false}
-use Prim.Native.Nat.{_+_, _*_, _<_}
+use Prim.Native.Nat.{_+_, _*_, _-_, _/_, _<_}
 use native.Mathlib.Omega.{arith}
 use lib.ListN.{length, getD}
-use Rattle.listing_text.specs.Text.{marked}
-use Rattle.listing_text.proofs.IndexLaws.{At, line-at, mark-in}
+use Rattle.vectors.specs.Numbers.{place}
+use Rattle.vectors.proofs.NumberLaws.{stride-positive}
+use Rattle.listing_text.specs.Text.{lineAt, marked}
+use Rattle.listing_text.proofs.IndexLaws.{line-at, mark-at}
 use borrow.Author.Needs.{needs}
 use Rattle.listing_text.proofs.mark.Statement.{statement}
 use Rattle.listing_text.proofs.mark.Tie as tie
 
-abbrev at : (s : tie.Start) → At (s .args .n) (s .args .depth) (s .args .i)
-at s = line-at (s .args .n) (s .args .depth) (s .args .i) (s .pre .1)
+at : (c : tie.After-stride) → (let s = c .before .before in let n = s .args .n in let i = s .args .i in let p = c .stride .result in
+    (place n (lineAt n (s .args .depth) i) ≡ i * p + (p - 1) / 2) × (i * p + (p - 1) / 2 < n * n * 2187))
+at c = let s = c .before .before in mark-at (s .args .n) (s .args .depth) (s .args .i) (c .stride .result) (s .pre .0 .shallow) (c .stride .ensures .0) (line-at (s .args .n) (s .args .depth) (s .args .i) (s .pre .1))
 
-inside : (c : tie.After-vector) → c .before .block .result * 729 + c .vector .result < length (c .before .before .before .args .marks .now)
-inside c = let s = c .before .before .before in mark-in (s .args .n) (s .args .depth) (s .args .i) (c .before .block .result) (c .vector .result) (at s) (c .before .block .ensures) (c .vector .ensures .1) (s .pre .0 .room)
+inside : (c : tie.After-stride) → (let s = c .before .before in s .args .i * c .stride .result + (c .stride .result - 1) / 2 < length (s .args .marks .now))
+inside c = let h = at c .1 in let r = c .before .before .pre .0 .room in omega arith
 
-block-requires : tie.Need-block-requires
-block-requires c κs = search needs
+stride-requires : tie.Need-stride-requires
+stride-requires c κs = search needs
 
-mul-at : tie.Need-mul-at
-mul-at c = let s = c .before .before in let h = mark-in (s .args .n) (s .args .depth) (s .args .i) (c .block .result) 0 (at s) (c .block .ensures) (omega arith) (s .pre .0 .room) in let g = s .good .0 .0 in omega arith
+mul-result : tie.Need-mul-result
+mul-result c = let h = inside c in let g = c .before .before .good .0 .0 in omega arith
 
-vector-requires : tie.Need-vector-requires
-vector-requires c κs = search needs
+sub-result : tie.Need-sub-result
+sub-result c = let h = stride-positive (6 - c .before .before .args .depth) in let e = c .stride .ensures .0 in omega arith
 
-add-at : tie.Need-add-at
-add-at c = let h = inside c in let g = c .before .before .before .good .0 .0 in omega arith
+add-result : tie.Need-add-result
+add-result c = let h = inside c in let g = c .before .before .good .0 .0 in omega arith
 
 shared-slice-read-result : tie.Need-shared-slice-read-result
 shared-slice-read-result c = inside (c .before)
 
 returns : tie.Need-returns
 unfolding marked
-returns c = let s = c .before .before .before .before in ap (λ k. getD (s .args .marks .now) k false) (ap₂ (λ b v. b * 729 + v) (c .before .before .block .ensures) (c .before .vector .ensures .0) ∙ sym (at s .marked))
+returns c = ap (λ k. getD (c .before .before .before .args .marks .now) k false) (sym (at (c .before) .0))
 
 pub mark-spec : {M : Type 1} → statement M
 mark-spec =
     tie.close
-    (tie.spec block-requires mul-at vector-requires add-at shared-slice-read-result returns)
+    (tie.spec stride-requires mul-result sub-result add-result shared-slice-read-result returns)

@@ -1,5 +1,6 @@
--- `run_found`: the refusal that was found, or the run.
-use Rattle.run_entry.proofs.EntryLaws.{found-refused}
+-- `run_found`: 9, or 10 to 16 and the run.
+use Rattle.verdict.proofs.VerdictLaws.{found-refused, judgeable}
+use Rattle.run_entry.proofs.EntryLaws.{turned-away}
 use borrow.Author.Needs.{needs}
 use Rattle.run_entry.proofs.run_found.Statement.{statement}
 use Rattle.run_entry.proofs.run_found.Tie as tie
@@ -11,12 +12,10 @@ enum-known-found : tie.Need-enum-known-found
 enum-known-found c = search needs
 
 returns : tie.Need-returns
-returns c =
-    let s = c .before .before .before .before .before in
-    found-refused (s .args .ticket .now) (s .args .store .now) (s .args .all) (s .args .limits .now) (s .args .words .now) (s .args .found) (s .args .marks) (s .pre) _ (c .before .found .given .1)
+returns c = let s = c .before .before .before .before .before in turned-away (s .args .ticket .now) (s .args .store .now) (c .before .found .given .0 .0) (found-refused (s .args .ticket .now) (s .args .all) (s .args .limits .now) (s .args .words .now) (s .pre .0) (s .pre .1) (s .args .found) (s .args .marks) (s .pre .2) (c .before .found .given .0 .0) (c .before .found .given .1))
 
 run-with-requires : tie.Need-run-with-requires
-run-with-requires c κs = let s = c .before .before .before .before .before .before .before in s .pre .found (c .before .before .before .enum-told .given .1)
+run-with-requires c κs = let s = c .before .before .before .before .before .before .before in judgeable (s .args .ticket .now) (s .args .all) (s .args .limits .now) (s .args .words .now) (s .pre .0) (s .pre .1) (s .args .found) (s .args .marks) (s .pre .2) (c .before .before .before .enum-told .given .1)
 
 same-length : tie.Need-same-length
 same-length c = search needs

@@ -10,13 +10,13 @@ mul-number-accesses : tie.Need-mul-number-accesses
 mul-number-accesses c = search needs
 
 slice-aggregate-number-accesses : tie.Need-slice-aggregate-number-accesses
-slice-aggregate-number-accesses c = let s = c .before .before .before .before in sym (words-count _ (s .pre .stray .sheet))
+slice-aggregate-number-accesses c = let s = c .before .before .before .before in sym (words-count _ (s .pre .sheet))
 
 array-share-prefix-owners : tie.Need-array-share-prefix-owners
 array-share-prefix-owners c = search needs
 
 slice-aggregate-number-accesses-2 : tie.Need-slice-aggregate-number-accesses-2
-slice-aggregate-number-accesses-2 c = let s = c .before .before .before .before .before in sym (owners-count _ (s .pre .stray .sheet))
+slice-aggregate-number-accesses-2 c = let s = c .before .before .before .before .before in sym (owners-count _ (s .pre .sheet))
 
 mul-extents : tie.Need-mul-extents
 mul-extents c = search needs
@@ -25,7 +25,7 @@ array-share-prefix-extents : tie.Need-array-share-prefix-extents
 array-share-prefix-extents c = search needs
 
 slice-aggregate-number-accesses-3 : tie.Need-slice-aggregate-number-accesses-3
-slice-aggregate-number-accesses-3 c = let s = c .before .before .before .before .before .before .before in sym (extents-count _ (s .pre .stray .sheet))
+slice-aggregate-number-accesses-3 c = let s = c .before .before .before .before .before .before .before in sym (extents-count _ (s .pre .sheet))
 
 number-accesses-requires : tie.Need-number-accesses-requires
 number-accesses-requires c κs = let s = c .before .before .before .before .before .before .before .before in number-in _ _ _ _ (s .pre)

@@ -2,7 +2,8 @@
 use mathlib.Core.Path.{refl}
 use native.Mathlib.Omega.{arith}
 use Rattle.sheet.specs.Sheets.{Sheet, sheetOf}
-use Rattle.squeeze.proofs.FewLaws.{unsaid, list-few, few-listed, few-lines}
+use Rattle.lines.proofs.MarkLaws.{lines-in}
+use Rattle.squeeze.proofs.FewLaws.{unsaid, list-few, few-listed}
 use borrow.Author.Needs.{needs}
 use Rattle.squeeze.proofs.mark_few.Statement.{statement}
 use Rattle.squeeze.proofs.mark_few.Tie as tie
@@ -43,7 +44,7 @@ mark-few-requires c κs =
     let n = c .before .before .before .before .before .before .before .before .before .count-points in
     let e = c .before .before .before .before .before .before .before .n .given .1 in
     let l = c .before .before .before .list-points in
-    (few-lines (sheet s) (s .args .marks .now) (s .pre) (n .result) (n .ensures) _ e (omega (arith, c .before .before .before .before .before .if1 .left)) _ (l .result) (l .ensures .0), few-listed (sheet s) (s .args .marks .now) (s .pre) (n .result) (n .ensures) _ e (omega (arith, c .before .before .before .before .before .if1 .left)) _ (l .result) (l .ensures .0))
+    (lines-in _ _ (s .pre) _ (l .result) (l .ensures .0), few-listed (sheet s) (s .args .marks .now) (s .pre) (n .result) (n .ensures) _ e (omega (arith, c .before .before .before .before .before .if1 .left)) _ (l .result) (l .ensures .0))
 
 same-length : tie.Need-same-length
 same-length c = search needs

@@ -11,43 +11,46 @@ add-value c = search needs
 value-requires : tie.Need-value-requires
 value-requires c κs = let s = c .before .before .before .before .before in reads-in (s .pre .0) (s .args .k) (s .args .n) (s .pre .1)
 
-mul-base-of : tie.Need-mul-base-of
-mul-base-of c = search needs
+mul-base : tie.Need-mul-base
+mul-base c = search needs
 
-shared-slice-read-base-of : tie.Need-shared-slice-read-base-of
-shared-slice-read-base-of c = search needs
+shared-slice-read-base : tie.Need-shared-slice-read-base
+shared-slice-read-base c = search needs
 
-base-of-requires : tie.Need-base-of-requires
-base-of-requires c κs = let s = c .before .before .before .before .before .before .before in let h = s .pre .1 in s .pre .0 .arrays (s .args .k) (omega arith)
+mul-base-2 : tie.Need-mul-base-2
+mul-base-2 c = let s = c .before .before .before .before .before .before .before in let l = s .pre .1 in let h = s .pre .0 .arrays (s .args .k) (omega arith) in search needs
+
+shared-slice-read-base-2 : tie.Need-shared-slice-read-base-2
+shared-slice-read-base-2 c = let s = c .before .before .before .before .before .before .before .before in let l = s .pre .1 in s .pre .0 .arrays (s .args .k) (omega arith)
 
 place-of-requires : tie.Need-place-of-requires
 place-of-requires c κs = let s = c .before .before .before .before .before .before .before .before in write-numbered (s .pre .0) (s .args .k) (s .args .n) (s .pre .1)
 
 sub-at : tie.Need-sub-at
-sub-at c = let s = c .before .before .before .before .before .before .before .before .before in let h = write-inside (s .pre .0) (s .args .k) (s .args .n) (s .pre .1) (c .before .base-of .result) (c .place-of .result) (c .before .base-of .ensures) (c .place-of .ensures) in omega arith
+sub-at c = let s = c .before .before .before .before .before .before .before .before .before in let h = write-inside (s .pre .0) (s .args .k) (s .args .n) (s .pre .1) (c .place-of .result) (c .place-of .ensures) in omega arith
 
 mul-put : tie.Need-mul-put
-mul-put c = let s = c .before .before .before .before .before .before .before .before .before in let h = write-inside (s .pre .0) (s .args .k) (s .args .n) (s .pre .1) (c .before .base-of .result) (c .place-of .result) (c .before .base-of .ensures) (c .place-of .ensures) in search needs
+mul-put c = let s = c .before .before .before .before .before .before .before .before .before in let h = write-inside (s .pre .0) (s .args .k) (s .args .n) (s .pre .1) (c .place-of .result) (c .place-of .ensures) in search needs
 
 sub-put : tie.Need-sub-put
-sub-put c = let s = c .before .before .before .before .before .before .before .before .before in let h = write-inside (s .pre .0) (s .args .k) (s .args .n) (s .pre .1) (c .before .base-of .result) (c .place-of .result) (c .before .base-of .ensures) (c .place-of .ensures) in search needs
+sub-put c = let s = c .before .before .before .before .before .before .before .before .before in let h = write-inside (s .pre .0) (s .args .k) (s .args .n) (s .pre .1) (c .place-of .result) (c .place-of .ensures) in search needs
 
 part-put-start : tie.Need-part-put-start
-part-put-start c = let s = c .before .before .before .before .before .before .before .before .before in let h = write-inside (s .pre .0) (s .args .k) (s .args .n) (s .pre .1) (c .before .base-of .result) (c .place-of .result) (c .before .base-of .ensures) (c .place-of .ensures) in search needs
+part-put-start c = let s = c .before .before .before .before .before .before .before .before .before in let h = write-inside (s .pre .0) (s .args .k) (s .args .n) (s .pre .1) (c .place-of .result) (c .place-of .ensures) in search needs
 
 part-put-end : tie.Need-part-put-end
 part-put-end c = search needs
 
 put-requires : tie.Need-put-requires
-put-requires c κs = let s = c .before .before .before .before .before .before .before .before .before .before in let h = write-inside (s .pre .0) (s .args .k) (s .args .n) (s .pre .1) (c .before .before .base-of .result) (c .before .place-of .result) (c .before .before .base-of .ensures) (c .before .place-of .ensures) in search needs
+put-requires c κs = let s = c .before .before .before .before .before .before .before .before .before .before in let h = write-inside (s .pre .0) (s .args .k) (s .args .n) (s .pre .1) (c .before .place-of .result) (c .before .place-of .ensures) in search needs
 
 same-length : tie.Need-same-length
 same-length c = search needs
 
 returns : tie.Need-returns
-returns c = let s = c .before .before .before .before .before .before .before .before .before .before .before .before .before in let b = c .before .before .before .before .before .base-of in let r = c .before .before .before .before .place-of in
-    through-part (s .args .numbers .now) (s .args .store .now) (s .args .count) (s .args .x) (s .args .rule) (s .args .constant) (s .args .k) (s .args .n) (b .result) (r .result) (c .before .before .before .before .before .before .before .value .result) _
-    (write-inside (s .pre .0) (s .args .k) (s .args .n) (s .pre .1) (b .result) (r .result) (b .ensures) (r .ensures)) (r .ensures) (c .before .before .before .before .before .before .before .value .ensures) (c .before .before .put .ensures)
+returns c = let s = c .before .before .before .before .before .before .before .before .before .before .before .before .before in let r = c .before .before .before .before .place-of in let v = c .before .before .before .before .before .before .before .value in
+    through-part (s .args .numbers .now) (s .args .store .now) (s .args .count) (s .args .x) (s .args .rule) (s .args .constant) (s .args .k) (s .args .n) _ (r .result) (v .result) _
+    (write-inside (s .pre .0) (s .args .k) (s .args .n) (s .pre .1) (r .result) (r .ensures)) (r .ensures) (v .ensures) (c .before .before .put .ensures)
 
 pub perform-spec : {M : Type 1} → statement M
 perform-spec =
@@ -55,9 +58,10 @@ perform-spec =
     (tie.spec
     add-value
     value-requires
-    mul-base-of
-    shared-slice-read-base-of
-    base-of-requires
+    mul-base
+    shared-slice-read-base
+    mul-base-2
+    shared-slice-read-base-2
     place-of-requires
     sub-at
     mul-put

@@ -7,10 +7,10 @@ use Rattle.store.proofs.perform_all.Statement.{statement}
 use Rattle.store.proofs.perform_all.Tie as tie
 
 abbrev Inv-loop : tie.InvT-loop
-Inv-loop owners arrays sizes rules constants numbers count x store₀ k₀ i₀ store k i = Done owners sizes rules constants numbers count x store₀ store k i
+Inv-loop owners bases sizes rules constants numbers count x store₀ k₀ i₀ store k i = Done owners sizes rules constants numbers count x store₀ store k i
 
 abbrev μ-loop : tie.MeasureT-loop
-μ-loop owners arrays sizes rules constants numbers count x store₀ k₀ i₀ store k i = length sizes - i
+μ-loop owners bases sizes rules constants numbers count x store₀ k₀ i₀ store k i = length sizes - i
 
 loop-holds : tie.Need-loop-holds Inv-loop μ-loop
 loop-holds c = let s = c .before .before .before .before .before .before .before in none-done (s .pre .1) (s .args .numbers .now) (s .args .count) (s .args .x) (s .args .store .now)

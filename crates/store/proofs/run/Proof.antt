@@ -1,30 +1,36 @@
 -- `run`: the slices of the sheet are what the laws speak of.
 use mathlib.Core.Path.{sym, _∙_}
 use borrow.Author.Needs.{needs}
-use Rattle.store.proofs.NestLaws.{owners-length, extents-length, sizes-length, point-in, body-in, nest-run}
+use Rattle.store.proofs.NestLaws.{owners-length, extents-length, sizes-length, arrays-few, point-in, body-in, nest-run}
 use Rattle.store.proofs.run.Statement.{statement}
 use Rattle.store.proofs.run.Tie as tie
 
-mul-arrays : tie.Need-mul-arrays
-mul-arrays c = search needs
+mul-extents : tie.Need-mul-extents
+mul-extents c = search needs
+
+array-share-prefix-extents : tie.Need-array-share-prefix-extents
+array-share-prefix-extents c = search needs
+
+slice-aggregate-bases-of : tie.Need-slice-aggregate-bases-of
+slice-aggregate-bases-of c = sym (extents-length (c .before .before .before .before .before .before .before .before .pre .sheet))
+
+bases-of-requires : tie.Need-bases-of-requires
+bases-of-requires c κs = arrays-few (c .before .before .before .before .before .before .before .before .pre)
 
 array-share-prefix-owners : tie.Need-array-share-prefix-owners
 array-share-prefix-owners c = search needs
 
 slice-aggregate-run-points : tie.Need-slice-aggregate-run-points
-slice-aggregate-run-points c = sym (owners-length (c .before .before .before .before .before .before .before .before .before .pre .sheet))
-
-array-share-prefix-extents : tie.Need-array-share-prefix-extents
-array-share-prefix-extents c = search needs
+slice-aggregate-run-points c = sym (owners-length (c .before .before .before .before .before .before .before .before .before .before .pre .sheet))
 
 slice-aggregate-run-points-2 : tie.Need-slice-aggregate-run-points-2
-slice-aggregate-run-points-2 c = sym (extents-length (c .before .before .before .before .before .before .before .before .before .before .pre .sheet))
+slice-aggregate-run-points-2 c = search needs
 
 array-share-prefix-sizes : tie.Need-array-share-prefix-sizes
 array-share-prefix-sizes c = search needs
 
 slice-aggregate-run-points-3 : tie.Need-slice-aggregate-run-points-3
-slice-aggregate-run-points-3 c = sym (sizes-length (c .before .before .before .before .before .before .before .before .before .before .before .pre .sheet))
+slice-aggregate-run-points-3 c = sym (sizes-length (c .before .before .before .before .before .before .before .before .before .before .before .before .pre .sheet))
 
 slice-aggregate-run-points-4 : tie.Need-slice-aggregate-run-points-4
 slice-aggregate-run-points-4 c = search needs
@@ -33,22 +39,24 @@ slice-aggregate-run-points-5 : tie.Need-slice-aggregate-run-points-5
 slice-aggregate-run-points-5 c = search needs
 
 run-points-requires : tie.Need-run-points-requires
-run-points-requires c κs = let r = c .before .before .before .before .before .before .before .before .before .before .before .before .before .before .pre in (r .few, point-in r, body-in r)
+run-points-requires c κs = let r = c .before .before .before .before .before .before .before .before .before .before .before .before .before .before .before .pre in let b = c .before .before .before .before .before .before .bases-of in (r .few, point-in r (b .result) (search needs) (b .ensures), body-in r)
 
 same-length : tie.Need-same-length
 same-length c = search needs
 
 returns : tie.Need-returns
-returns c = let s = c .before .before .before .before .before .before .before .before .before .before .before .before .before .before .before .before .before in c .before .before .run-points .ensures ∙ nest-run (s .pre) (s .args .store .now)
+returns c = let s = c .before .before .before .before .before .before .before .before .before .before .before .before .before .before .before .before .before .before in c .before .before .run-points .ensures ∙ nest-run (s .pre) (s .args .store .now)
 
 pub run-spec : {M : Type 1} → statement M
 run-spec =
     tie.close
     (tie.spec
-    mul-arrays
+    mul-extents
+    array-share-prefix-extents
+    slice-aggregate-bases-of
+    bases-of-requires
     array-share-prefix-owners
     slice-aggregate-run-points
-    array-share-prefix-extents
     slice-aggregate-run-points-2
     array-share-prefix-sizes
     slice-aggregate-run-points-3

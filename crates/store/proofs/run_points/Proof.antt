@@ -7,10 +7,10 @@ use Rattle.store.proofs.run_points.Statement.{statement}
 use Rattle.store.proofs.run_points.Tie as tie
 
 abbrev Inv-loop : tie.InvT-loop
-Inv-loop owners arrays sizes rules constants numbers count store₀ x₀ store x = Passed rules constants sizes numbers count store₀ store x
+Inv-loop owners bases sizes rules constants numbers count store₀ x₀ store x = Passed rules constants sizes numbers count store₀ store x
 
 abbrev μ-loop : tie.MeasureT-loop
-μ-loop owners arrays sizes rules constants numbers count store₀ x₀ store x = count - x
+μ-loop owners bases sizes rules constants numbers count store₀ x₀ store x = count - x
 
 loop-holds : tie.Need-loop-holds Inv-loop μ-loop
 loop-holds c = let s = c .before .before .before .before .before .before .before in none-passed (s .args .rules .now) (s .args .constants .now) (s .args .sizes .now) (s .args .numbers .now) (s .args .count) (s .args .store .now)

@@ -1,0 +1,72 @@
+-- `find_with`: few points, or many: without them, or by them.
+use native.Mathlib.Omega.{arith}
+use Rattle.admission.proofs.AdmissionLaws.{enumerate-many}
+use Rattle.finding.proofs.FindingLaws.{mark-in, finds-known}
+use borrow.Author.Needs.{needs}
+use Rattle.finding.proofs.find_with.Statement.{statement}
+use Rattle.finding.proofs.find_with.Tie as tie
+
+find-few-requires : tie.Need-find-few-requires
+find-few-requires c κs = search needs
+
+merge-found-requires : tie.Need-merge-found-requires
+merge-found-requires c κs = search needs
+
+same-length : tie.Need-same-length
+same-length c = search needs
+
+same-length-2 : tie.Need-same-length-2
+same-length-2 c = search needs
+
+returns : tie.Need-returns
+returns c = search needs
+
+mark-lines-requires : tie.Need-mark-lines-requires
+mark-lines-requires c κs = let s = c .before .before .before .before in mark-in _ (s .args .count) (s .args .marks .now) (s .pre .0)
+
+merge-found-requires-2 : tie.Need-merge-found-requires-2
+merge-found-requires-2 c κs = let s = c .before .before .before .before .before .before .before .before .before .before in (finds-known _ _ (c .before .before .before .before .before .mark-lines .ensures .0 (c .before .before .if2 .taken)), s .pre .1)
+
+same-length-3 : tie.Need-same-length-3
+same-length-3 c = search needs
+
+same-length-4 : tie.Need-same-length-4
+same-length-4 c = search needs
+
+returns-2 : tie.Need-returns-2
+returns-2 c = search needs
+
+find-many-requires : tie.Need-find-many-requires
+find-many-requires c κs = let s = c .before .before .before .before .before .before .before .before .before in let h = s .pre .0 in (h .waits .nest, enumerate-many _ (s .args .count) (h .waits), let r = h .room in omega (arith, c .before .before .before .before .mark-lines .ensures .1))
+
+merge-found-requires-3 : tie.Need-merge-found-requires-3
+merge-found-requires-3 c κs = search needs
+
+same-length-5 : tie.Need-same-length-5
+same-length-5 c = search needs
+
+same-length-6 : tie.Need-same-length-6
+same-length-6 c = search needs
+
+returns-3 : tie.Need-returns-3
+returns-3 c = search needs
+
+pub find-with-spec : {M : Type 1} → statement M
+find-with-spec =
+    tie.close
+    (tie.spec
+    find-few-requires
+    merge-found-requires
+    same-length
+    same-length-2
+    returns
+    mark-lines-requires
+    merge-found-requires-2
+    same-length-3
+    same-length-4
+    returns-2
+    find-many-requires
+    merge-found-requires-3
+    same-length-5
+    same-length-6
+    returns-3)

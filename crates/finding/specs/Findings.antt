@@ -1,0 +1,29 @@
+-- What is found of a nest that passes refusals 7 and 8: refusal 9, or its lines, or its directions.
+use mathlib.Core.Path.{_≡_}
+use mathlib.Core.Bool.{Bool, false}
+use mathlib.Core.List.{List}
+use Prim.Native.Nat.{ℕ}
+use lib.ListN.{length, getD}
+use Rattle.reading.specs.declared.Status.{Status}
+use Rattle.reading.specs.declared.Status.the-variants.{Fine}
+use Rattle.sheet.specs.Sheets.{Sheet}
+use Rattle.lines.specs.Lines.{LinesAre, DirectionsAre}
+use Rattle.admission.specs.Admission.{Admits, Waits}
+use Rattle.squeeze.specs.Squeezed.{Room}
+
+-- a nest of n points, and marks that are all clear
+pub record FindIn (P : Sheet) (n : ℕ) (m : List Bool) : Type 0 where
+  pub waits : Waits P n
+  pub clear : (j : ℕ) → getD m j false ≡ false
+  pub room : Room P m
+
+-- refusal 9, or the nest's lines are those that are marked
+pub record Finds (P : Sheet) (s : Status) (m : List Bool) : Type 0 where
+  pub admits : Admits P s
+  pub lines : s ≡ Fine → LinesAre P m
+
+-- refusal 9, or the set has the vectors of the nest's directions
+pub record Directs (P : Sheet) (s : Status) (set : List Bool) : Type 0 where
+  pub room : length set ≡ 729
+  pub admits : Admits P s
+  pub directions : s ≡ Fine → DirectionsAre P set
