@@ -6,8 +6,8 @@ use native.Mathlib.Omega.{arith}
 use native.Mathlib.Nat.{mul-le-mul-left}
 use lib.IntN.{ℤ}
 use lib.ListN.{length}
-use Rattle.model.specs.Answer.{Answer, accepted, refused, _>>_, _>>=_}
-use Rattle.model.specs.Bounds.{survey, space, inArrays, admitted}
+use Rattle.model.specs.Answer.{accepted, _>>_, _>>=_}
+use Rattle.model.specs.Bounds.{space, inArrays, admitted}
 use Rattle.model.specs.Points.{iterations}
 use Rattle.reading.specs.declared.Refusal.{Refusal}
 use Rattle.reading.specs.declared.Refusal.the-variants.{IndexOutOfRange, TooManyPoints, SubscriptOutOfBounds}
@@ -18,7 +18,7 @@ use Rattle.space.specs.declared.Verdict.{Verdict}
 use Rattle.space.specs.declared.Verdict.the-variants.{Admitted, FarIndex, Crowded}
 use Rattle.space.proofs.ListLaws.{admitted-near, admitted-few}
 use Rattle.elements.specs.Search as Elements
-use Rattle.sheet.specs.Sheets.{Sheet, nestOf, SheetIn}
+use Rattle.sheet.specs.Sheets.{Sheet, nestOf}
 use Rattle.sheet.specs.Stages.{Surveyed, ListIn, PointsAre, Searched}
 use Rattle.sheet.proofs.StageLaws.{depth-is}
 use Rattle.admission.specs.declared.Counted.{Counted}

@@ -6,4 +6,5 @@ pub mod SpanLaws
 pub mod SumLaws
 pub mod RegionLaws
 pub mod ExtentLaws
+pub mod LeapLaws
 pub mod CoverLaws

@@ -5,6 +5,7 @@ use Prim.Native.Nat.{ℕ, _≤_, _<_}
 use lib.IntN.{ℤ, pos, _-ℤ_, _*ℤ_}
 use lib.Signed.{_≤ℤ_}
 use Rattle.integers.specs.Difference.{size}
+use Rattle.integers.proofs.OrderLaws.{_∣ℤ_}
 use Rattle.integers.specs.Sign.{sign}
 use Rattle.model.specs.Bounds.{subscriptAt}
 use Rattle.model.specs.Directions.{signs}
@@ -85,6 +86,10 @@ pub record Extent (w : List ℤ) (i j m n : ℕ) (b : List Range) (u : ℕ) (t :
 -- the two sums are never equal
 abbrev pub Excluded : List ℤ → ℕ → ℕ → ℕ → ℕ → List Range → ℕ → Type 0
 Excluded w i j m n b u = (p q : List ℤ) → Directed n b u p q → difference w i j m n p q ≡ pos 0 → ⊥
+
+-- no multiple of g is in r
+abbrev pub Skips : Range → ℕ → Type 0
+Skips r g = (z : ℤ) → InRange (rangeAs r) z → pos g ∣ℤ z → ⊥
 
 -- no iterations have the signs
 abbrev pub Vacant : ℕ → List Range → ℕ → Type 0

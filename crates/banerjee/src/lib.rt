@@ -1,6 +1,7 @@
 // Banerjee's inequalities with direction vectors: a vector is impossible for two accesses if, in one dimension or
 // in the sum of all, 0 lies outside the least and the greatest difference of their subscripts at iterations that
-// have the vector. Words, ranges and marks are flat, as crates elements, extremes and vectors have them.
+// have the vector. With some loops left to their greatest common divisor: if no multiple of it lies there.
+// Words, ranges and marks are flat, as crates elements, extremes and vectors have them.
 use bounds::Whole;
 use extremes::Range;
 ghost use mathlib.Core.Path.{_≡_};
@@ -11,7 +12,7 @@ ghost use lib.Signed.{leZ};
 ghost use Rattle.integers.specs.Difference.{size};
 ghost use Rattle.extremes.specs.Ranges.{rangeAs, NearRange, RangesIn};
 ghost use Rattle.banerjee.specs.Sums.{coefficientSum, SubscriptsIn, SumsIn};
-ghost use Rattle.banerjee.specs.Spans.{SpanIn, CornerIn, Filled, Widened, Spans, TermIn, PairIn, RegionIn, Extent, Excluded, Vacant, Impossible};
+ghost use Rattle.banerjee.specs.Spans.{SpanIn, CornerIn, Filled, Widened, Spans, TermIn, PairIn, RegionIn, Extent, Excluded, Skips, Vacant, Impossible};
 ghost use Rattle.banerjee.specs.Covers.{Covers, CoverIn, candidates as «candidates-of»};
 
 // ---- sums of coefficients
@@ -207,6 +208,61 @@ fn excludes(
     t.greatest < 0
 }
 
+// Whether no multiple of g is in the range. Of 0 nothing is said.
+fn skips(r: Range, g: u64) -> bool
+    requires { ⌜ (g ≤ 32767) × (size (r .least) ≤ 68719476736) × (size (r .greatest) ≤ 68719476736) ⌝ }
+    ensures { λ t. ⌜ (t ≡ true → Skips r g) ⌝ }
+{
+    if g == 0 {
+        return false;
+    }
+    let d = g as i64;
+    integers::floor_div(r.greatest, d) < integers::ceil_div(r.least, d)
+}
+
+// Whether the difference of two subscripts leaps over 0. The terms of the outer loops sum to a multiple of the greatest common divisor of their
+// coefficients; the constants and the inner loops, added one by one, must leave room for one.
+fn leaps(words: &[i16], i: usize, j: usize, n: usize, ranges: [Range; 6], u: usize) -> bool
+    requires { ⌜ RegionIn (now words) i j 1 n ranges ⌝ }
+    ensures { λ r. ⌜ (r ≡ true → Excluded (now (words .entry)) i j 1 n ranges u) ⌝ }
+{
+    let mut r = constant(words, i, j, 1);
+    let mut v = u;
+    let mut k = n;
+    while 0 < k {
+        if skips(r, quick::common_divisor(words, i, j, k)) {
+            return true;
+        }
+        r = sum(r, term(words, i, j, 1, k, ranges[k - 1], v % 3));
+        v = v / 3;
+        k -= 1;
+    }
+    false
+}
+
+// The same of one of d subscripts from i on and its partner from j on.
+fn some_leap(
+    words: &[i16],
+    i: usize,
+    j: usize,
+    d: usize,
+    n: usize,
+    ranges: [Range; 6],
+    u: usize,
+) -> bool
+    requires { ⌜ RegionIn (now words) i j d n ranges ⌝ }
+    ensures { λ r. ⌜ (r ≡ true → Impossible (now (words .entry)) i j d n ranges u) ⌝ }
+{
+    let mut t = 0;
+    while t < d {
+        if leaps(words, i + t, j + t, n, ranges, u) {
+            return true;
+        }
+        t += 1;
+    }
+    false
+}
+
 // Whether the range has one value or none.
 fn is_single(r: Range) -> bool
     requires { ⌜ NearRange (rangeAs r) ⌝ }
@@ -235,7 +291,7 @@ fn vacant(n: usize, ranges: [Range; 6], u: usize) -> bool
 }
 
 // Whether d subscripts from i on and d from j on cannot be equal in pairs at iterations with vector u: by one
-// dimension, or by the sum of all.
+// dimension, by the sum of all, or since one leaps over its partner.
 fn impossible(
     words: &[i16],
     i: usize,
@@ -258,7 +314,10 @@ fn impossible(
         }
         t += 1;
     }
-    excludes(words, i, j, d, n, ranges, u)
+    if excludes(words, i, j, d, n, ranges, u) {
+        return true;
+    }
+    some_leap(words, i, j, d, n, ranges, u)
 }
 
 // ---- all vectors
@@ -272,7 +331,7 @@ fn candidates(n: usize, own: bool) -> usize
     if own { before + 1 } else { before }
 }
 
-// Whether every vector that accesses a and b can have by Banerjee's inequalities is marked: those of an earlier
+// Whether every vector that accesses a and b can have by these tests is marked: those of an earlier
 // source, and that of one iteration if `own`.
 pub fn covers(
     words: &[i16],

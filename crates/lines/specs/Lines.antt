@@ -16,7 +16,7 @@ use Rattle.model.specs.Listing.{linesOf}
 use Rattle.listing_text.specs.Text.{shown, Marks}
 use Rattle.directions.specs.Sets.{vectorsIn}
 use Rattle.sheet.specs.Sheets.{Sheet, nestOf, SheetIn}
-use Rattle.sheet.specs.Stages.{PointsAre, StrayIn}
+use Rattle.sheet.specs.Stages.{StrayIn}
 
 -- a nest whose subscripts stay within their extents, and marks that are all clear: 3 × 729 for each pair of statements
 pub record Markable (P : Sheet) (marks : List Bool) : Type 0 where

@@ -76,7 +76,7 @@ fn divides(g: u64, c: i64) -> bool
 }
 
 // The greatest common divisor of all coefficients of subscripts u and v.
-fn common_divisor(words: &[i16], u: usize, v: usize, n: usize) -> u64
+pub fn common_divisor(words: &[i16], u: usize, v: usize, n: usize) -> u64
     requires { ⌜ PairIn (now words) u v n ⌝ }
     ensures { λ r. ⌜ r ≡ gcdOf (differenceAt (now (words .entry)) n u v .coefficients) ⌝ }
 {
@@ -147,7 +147,7 @@ fn never_zero(words: &[i16], u: usize, v: usize, n: usize, ranges: [Range; 6]) -
 }
 
 // Whether one of d subscripts from subscript u on never equals its partner from subscript v on.
-pub fn some_apart(words: &[i16], u: usize, v: usize, d: usize, n: usize, ranges: [Range; 6]) -> bool
+fn some_apart(words: &[i16], u: usize, v: usize, d: usize, n: usize, ranges: [Range; 6]) -> bool
     requires { ⌜ FormsIn (now words) u v d n ranges ⌝ }
     ensures { λ r. ⌜ r ≡ someApart (rangesOf n ranges) (formsFrom (now (words .entry)) n u d) (formsFrom (now (words .entry)) n v d) ⌝ }
 {

@@ -32,7 +32,7 @@ use Rattle.intake.specs.Answers.{Hands}
 use Rattle.judgement.specs.declared.Judged.{Judged}
 use Rattle.judgement.specs.Judgement.{judgedAs, Judges}
 use Rattle.verdict.specs.Verdicts.{Judgeable}
-use Rattle.execution.specs.Execution.{opaqueAt, Executable}
+use Rattle.execution.specs.Execution.{opaqueAt}
 use Rattle.execution.proofs.AcceptedLaws.{new-count, new-arrays, new-executable}
 use Rattle.judged_run.specs.Outcomes.{tested, outcome, RunIn}
 

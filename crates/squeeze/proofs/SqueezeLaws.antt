@@ -35,9 +35,6 @@ use Rattle.squeeze.proofs.CoverLaws.{covered-marked}
 
 module _ (P : Sheet) (t : List ℤ) (d : List ℕ) (h : SheetIn P) (g : Narrower (P .limits) (P .counts) (P .depth) t d) (f : WellFormed (nestOf P)) (adm : admitted (nestOf P) ≡ accepted tt)
     (rs : List Range) (on : RangesOn P rs) (m : List Bool) (seen : LinesAre (limited P t d) m) (cov : SheetCovered P rs m) where
-  occursIn : Line → Bool
-  occursIn = occurs (accesses (nestOf P .statements)) (iterations (nestOf P .loops))
-
   lines-in : linesOf (nestOf P) ≡ select (occurs (accesses (nestOf P .statements)) (iterations (nestOf P .loops))) (allLines (P .statements) (P .depth))
   unfolding linesOf lines
   lines-in = ap₂ (λ (i j : ℕ). select (occurs (accesses (nestOf P .statements)) (iterations (nestOf P .loops))) (allLines i j)) (statement-count P h) (depth-is P)

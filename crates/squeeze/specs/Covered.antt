@@ -1,4 +1,4 @@
--- Accesses as flat data, and marks that have every vector which a pair of them can have.
+-- Accesses as flat data, and marks that have every vector which Banerjee's inequalities allow a pair of them.
 use mathlib.Core.Path.{_≡_}
 use mathlib.Core.Bool.{Bool, true, false}
 use mathlib.Core.List.{List}

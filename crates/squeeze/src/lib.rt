@@ -1,5 +1,5 @@
-// The lines of a nest without its points. They are squeezed: the lines of a part of the nest are among them, and Banerjee's inequalities or the quick test
-// allow no others than are marked. Where the two agree the lines are known; where they do not, nothing is said. The part is the nest's corner or its centre.
+// The lines of a nest without its points. They are squeezed: the lines of a part of the nest are among them, and Banerjee's inequalities allow no others
+// than are marked. Where the two agree the lines are known; where they do not, nothing is said. The part is the nest's corner or its centre.
 ghost use mathlib.Core.Path.{_≡_};
 ghost use mathlib.Core.Bool.{true};
 ghost use Prim.Native.Nat.{_<_};
@@ -16,8 +16,7 @@ use sheet::Outline;
 
 // ---- pairs of accesses, all lent as flat slices
 
-// Whether every vector that access a, as the source, can have with access b is marked. Accesses that never meet have none: the quick test is asked too, for
-// its greatest common divisor.
+// Whether every vector that access a, as the source, can have with access b is marked.
 fn pair_covered(
     words: &[i16],
     owners: &[usize],
@@ -44,11 +43,17 @@ fn pair_covered(
     let s = statements[a];
     let t = statements[b];
     let first = dependence::block(body, s, t, k);
-    let dimensions = arrays[owners[a] * 4];
-    if banerjee::covers(words, a, b, dimensions, depth, ranges, s < t, first, marks) {
-        return true;
-    }
-    quick::some_apart(words, a * 3, b * 3, dimensions, depth, ranges)
+    banerjee::covers(
+        words,
+        a,
+        b,
+        arrays[owners[a] * 4],
+        depth,
+        ranges,
+        s < t,
+        first,
+        marks,
+    )
 }
 
 // The same with every access as the sink.

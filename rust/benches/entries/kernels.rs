@@ -8,7 +8,7 @@ pub struct Kernel {
     pub sizes: fn() -> Vec<String>,
 }
 
-pub const KERNELS: [Kernel; 12] = [
+pub const KERNELS: [Kernel; 13] = [
     Kernel {
         name: "stencil in one dimension",
         sizes: || [(1, 6), (4, 25), (4, 250), (4, 1024)].map(stencil_1d).into(),
@@ -56,6 +56,10 @@ pub const KERNELS: [Kernel; 12] = [
     Kernel {
         name: "rows end to end",
         sizes: || [(2, 3), (10, 10), (25, 40), (63, 64)].map(end_to_end).into(),
+    },
+    Kernel {
+        name: "distant rows",
+        sizes: || PLANES.map(distant_rows).into(),
     },
 ];
 
@@ -198,8 +202,7 @@ fn even_and_odd((outer, inner): (u32, u32)) -> String {
     )
 }
 
-/// A plane in one dimension. No test but the search tells that an element is read in its own column alone, so that all points have to be searched
-/// however many there are.
+/// A plane in one dimension.
 fn end_to_end((rows, columns): (u32, u32)) -> String {
     format!(
         "array A({})
@@ -208,6 +211,20 @@ fn end_to_end((rows, columns): (u32, u32)) -> String {
              A({columns}*i+j) = A({columns}*i+j-{columns}) + 1
          exchange 1 2",
         (rows + 1) * columns
+    )
+}
+
+/// What is read was written too far away for a corner of the nest or its centre to show it, so that all points have to be searched however many
+/// there are.
+fn distant_rows((rows, columns): (u32, u32)) -> String {
+    format!(
+        "array A({}, {columns})
+         for i = 16 to {}
+           for j = 0 to {columns}-1
+             A(i, j) = A(i-16, j) + 1
+         exchange 1 2",
+        rows + 16,
+        rows + 15
     )
 }
 

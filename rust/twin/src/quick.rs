@@ -5,7 +5,7 @@ use crate::ranges::Ranges;
 use crate::ticket::Subscript;
 use crate::{Outcome, Refusal};
 
-fn gcd(mut a: u64, mut b: u64) -> u64 {
+pub fn gcd(mut a: u64, mut b: u64) -> u64 {
     while b != 0 {
         (a, b) = (b, a % b);
     }
@@ -23,11 +23,6 @@ fn never_equal(u: &Subscript, v: &Subscript, ranges: &Ranges) -> bool {
     !divides || !(u.over(ranges) - v.over(ranges)).contains(0)
 }
 
-/// Whether a subscript never equals its partner.
-pub fn are_apart(first: &[Subscript], second: &[Subscript], ranges: &Ranges) -> bool {
-    first.iter().zip(second).any(|(u, v)| never_equal(u, v, ranges))
-}
-
 /// Whether two accesses, numbered from 1, are apart.
 pub fn test(admitted: &Admitted, first: u64, second: u64) -> Outcome<bool> {
     let nest = &admitted.ticket.nest;
@@ -40,6 +35,6 @@ pub fn test(admitted: &Admitted, first: u64, second: u64) -> Outcome<bool> {
         return Ok(true);
     }
     let ranges = admitted.ranges();
-    let [first, second] = [first, second].map(|access| nest.subscripts_of(access));
-    Ok(ranges.iter().any(|range| range.is_empty()) || are_apart(first, second, &ranges))
+    let mut pairs = nest.subscripts_of(first).iter().zip(nest.subscripts_of(second));
+    Ok(ranges.iter().any(|range| range.is_empty()) || pairs.any(|(u, v)| never_equal(u, v, &ranges)))
 }

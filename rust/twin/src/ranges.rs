@@ -36,6 +36,11 @@ impl Range {
         self.least <= value && value <= self.greatest
     }
 
+    /// Whether no multiple of a divisor lies in it; of 0 nothing is said.
+    pub fn skips(self, divisor: i64) -> bool {
+        divisor != 0 && floor_div(self.greatest, divisor) < ceil_div(self.least, divisor)
+    }
+
     pub fn is_empty(self) -> bool {
         self.least > self.greatest
     }

@@ -1,12 +1,12 @@
-//! The lines of a nest without its points. Those of its corner, or of its centre, are among them; where Banerjee's inequalities or the quick test
-//! allow no others, they are all.
+//! The lines of a nest without its points. Those of its corner, or of its centre, are among them; where Banerjee's inequalities allow no others,
+//! they are all.
 
 use std::array::from_fn;
 
 use crate::dependence::{Lines, lines_at, pairs, uses};
 use crate::directions::{power, sign_at};
 use crate::points::points_within;
-use crate::quick::are_apart;
+use crate::quick::gcd;
 use crate::ranges::{Range, Ranges};
 use crate::ticket::{Nest, Subscript};
 
@@ -64,11 +64,30 @@ impl<const D: usize> Difference<D> {
         }
     }
 
+    /// Whether it leaps over 0 at iterations that have the vector. The terms of the outer loops sum to a multiple of the divisor of their coefficients.
+    fn leaps(&self, divisors: &[u64; D], vector: &Vector<D>) -> bool {
+        let mut inner = Range::only(self.constant);
+        (0..D).rev().any(|k| {
+            let skips = inner.skips(divisors[k] as i64);
+            inner = inner + self.terms[k][vector.signs[k]];
+            skips
+        })
+    }
+
     /// Whether it can be 0 at iterations that have the vector.
     fn may_vanish(&self, vector: &Vector<D>) -> bool {
         let sum = (0..D).fold(Range::only(self.constant), |sum, k| sum + self.terms[k][vector.signs[k]]);
         sum.contains(0)
     }
+}
+
+/// Of the coefficients of the first loop, of the first two and so on, the greatest common divisor.
+fn divisors<const D: usize>(source: &Subscript, sink: &Subscript) -> [u64; D] {
+    let mut divisor = 0;
+    from_fn(|k| {
+        divisor = [source, sink].iter().fold(divisor, |g, one| gcd(one.row[k].unsigned_abs(), g));
+        divisor
+    })
 }
 
 fn total(subscripts: &[Subscript]) -> Subscript {
@@ -78,14 +97,22 @@ fn total(subscripts: &[Subscript]) -> Subscript {
     })
 }
 
-/// Whether each vector is ruled out, by one dimension or by the sum of all.
+/// Whether each vector is ruled out: by one dimension, by the sum of all, or since one dimension leaps over 0.
 fn are_impossible<const D: usize>(mut vectors: Vec<&Vector<D>>, source: &[Subscript], sink: &[Subscript], ranges: &Ranges) -> bool {
+    let dimensions = || source.iter().zip(sink);
     let mut rules_out = |source: &Subscript, sink: &Subscript| {
         let difference = Difference::new(source, sink, ranges);
         vectors.retain(|vector| difference.may_vanish(vector));
         vectors.is_empty()
     };
-    source.iter().zip(sink).any(|(source, sink)| rules_out(source, sink)) || source.len() > 1 && rules_out(&total(source), &total(sink))
+    if dimensions().any(|(source, sink)| rules_out(source, sink)) || source.len() > 1 && rules_out(&total(source), &total(sink)) {
+        return true;
+    }
+    dimensions().any(|(source, sink)| {
+        let (difference, divisors) = (Difference::new(source, sink, ranges), divisors(source, sink));
+        vectors.retain(|vector| !difference.leaps(&divisors, vector));
+        vectors.is_empty()
+    })
 }
 
 /// Whether every vector that a pair of accesses can have is marked.
@@ -98,7 +125,7 @@ fn cover<const D: usize>(lines: &Lines, nest: &Nest, ranges: &Ranges) -> bool {
             .filter(|vector| vector.number < pair.end(D) && !marks[vector.number])
             .collect();
         let [source, sink] = [pair.source, pair.sink].map(|one| nest.subscripts_of(&nest.accesses[one.access]));
-        unmarked.is_empty() || are_impossible(unmarked, source, sink, ranges) || are_apart(source, sink, ranges)
+        unmarked.is_empty() || are_impossible(unmarked, source, sink, ranges)
     })
 }
 

@@ -1,4 +1,4 @@
--- `impossible`: no iterations, one dimension, or the sum of all.
+-- `impossible`: no iterations, one dimension, the sum of all, or a leap.
 use Prim.Native.Nat.{_-_, _≤_}
 use native.Mathlib.Omega.{arith}
 use Rattle.banerjee.proofs.CoverLaws.{vacant-impossible, all-excluded, dimension-in, dimension-excluded}
@@ -45,7 +45,13 @@ excludes-requires-2 : tie.Need-excludes-requires-2 Inv-loop μ-loop
 excludes-requires-2 c κs = c .before .before .before .before .pre
 
 returns-3 : tie.Need-returns-3 Inv-loop μ-loop
-returns-3 c = let s = c .before .before .before .before .before in let a = s .args in λ e. all-excluded (a .words .now) (a .i) (a .j) (a .d) (a .n) (a .ranges) (s .pre) (a .u) (c .excludes2 .ensures e)
+returns-3 c = let s = c .before .before .before .before .before .before in let a = s .args in λ _. all-excluded (a .words .now) (a .i) (a .j) (a .d) (a .n) (a .ranges) (s .pre) (a .u) (c .before .excludes2 .ensures (c .if3 .taken))
+
+some-leap-requires : tie.Need-some-leap-requires Inv-loop μ-loop
+some-leap-requires c κs = c .before .before .before .before .before .before .pre
+
+returns-4 : tie.Need-returns-4 Inv-loop μ-loop
+returns-4 c = c .some-leap .ensures
 
 pub impossible-spec : {M : Type 1} → statement M
 impossible-spec =
@@ -64,4 +70,6 @@ impossible-spec =
     loop-less
     loop-again
     excludes-requires-2
-    returns-3)
+    returns-3
+    some-leap-requires
+    returns-4)

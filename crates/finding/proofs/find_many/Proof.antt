@@ -1,5 +1,4 @@
 -- `find_many`: 9, or the lines by the points.
-use mathlib.Core.Path.{_∙_}
 use native.Mathlib.Omega.{arith}
 use Rattle.admission.proofs.AdmissionLaws.{list-in}
 use Rattle.finding.proofs.FindingLaws.{finds-refused, finds-fine, markable}

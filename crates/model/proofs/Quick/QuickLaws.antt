@@ -78,7 +78,7 @@ difference-value f g p q e = rw (dot-append (f .coefficients) (map negℤ (g .co
     (lin (f .constant ∷ g .constant ∷ dot (f .coefficients) p ∷ dot (g .coefficients) q ∷ []) (λ c d s t. c ⊖ d ⊕ (s ⊕ ⊝ t) ≐ (c ⊕ s) ⊖ (d ⊕ t)) tt)
 
 module _ (rs : List Range) (p q : List ℤ) (hp : InRanges rs p) (hq : InRanges rs q) where
-  pub some-apart : (fs gs : List Subscript) → All (λ f. length (f .coefficients) ≡ length p) fs → map (subscriptAt p) fs ≡ map (subscriptAt q) gs → T (someApart rs fs gs) → ⊥
+  some-apart : (fs gs : List Subscript) → All (λ f. length (f .coefficients) ≡ length p) fs → map (subscriptAt p) fs ≡ map (subscriptAt q) gs → T (someApart rs fs gs) → ⊥
   unfolding someApart
   some-apart [] gs w e h = h
   some-apart (f ∷ fs) [] w e h = h

@@ -1,7 +1,7 @@
--- `pair_covered`: no conflict, different arrays, Banerjee's inequalities, or the quick test.
+-- `pair_covered`: no conflict, different arrays, or Banerjee's inequalities.
 use native.Mathlib.Omega.{arith}
 use Rattle.squeeze.specs.Covered.{Pairs, pairs}
-use Rattle.squeeze.proofs.PairLaws.{no-conflict, other-array, dimensions-read, block-in, cover-in, pair-is, forms-in, pair-apart}
+use Rattle.squeeze.proofs.PairLaws.{no-conflict, other-array, dimensions-read, block-in, cover-in, pair-is}
 use borrow.Author.Needs.{needs}
 use Rattle.squeeze.proofs.pair_covered.Statement.{statement}
 use Rattle.squeeze.proofs.pair_covered.Tie as tie
@@ -51,38 +51,26 @@ shared-slice-read-t c = search needs
 block-requires : tie.Need-block-requires
 block-requires c κs = let s = c .before .before .before .before .before .before .before .before .before .before .before .before .before .before in block-in (lent s) (s .args .marks .now) (s .pre .0) (s .args .a) (s .args .b) (s .pre .1) (s .pre .2) (c .before .before .before .before .before .before .kind .result) (c .before .before .before .before .before .if1 .left)
 
-mul-dimensions : tie.Need-mul-dimensions
-mul-dimensions c = search needs
+mul-covers : tie.Need-mul-covers
+mul-covers c = search needs
 
-shared-slice-read-dimensions : tie.Need-shared-slice-read-dimensions
-shared-slice-read-dimensions c = search needs
+shared-slice-read-covers : tie.Need-shared-slice-read-covers
+shared-slice-read-covers c = search needs
 
-mul-dimensions-2 : tie.Need-mul-dimensions-2
-mul-dimensions-2 c = let s = c .before .before .before .before .before .before .before .before .before .before .before .before .before .before .before .before in let r = dimensions-read (lent s) (s .args .marks .now) (s .pre .0) (s .args .a) (s .args .b) (s .pre .1) (s .pre .2) in omega (arith, r .0)
+mul-covers-2 : tie.Need-mul-covers-2
+mul-covers-2 c = let s = c .before .before .before .before .before .before .before .before .before .before .before .before .before .before .before .before in let r = dimensions-read (lent s) (s .args .marks .now) (s .pre .0) (s .args .a) (s .args .b) (s .pre .1) (s .pre .2) in omega (arith, r .0)
 
-mul-dimensions-3 : tie.Need-mul-dimensions-3
-mul-dimensions-3 c = let s = c .before .before .before .before .before .before .before .before .before .before .before .before .before .before .before .before in let r = dimensions-read (lent s) (s .args .marks .now) (s .pre .0) (s .args .a) (s .args .b) (s .pre .1) (s .pre .2) in omega (arith, r .0)
+mul-covers-3 : tie.Need-mul-covers-3
+mul-covers-3 c = let s = c .before .before .before .before .before .before .before .before .before .before .before .before .before .before .before .before in let r = dimensions-read (lent s) (s .args .marks .now) (s .pre .0) (s .args .a) (s .args .b) (s .pre .1) (s .pre .2) in omega (arith, r .0)
 
-shared-slice-read-dimensions-2 : tie.Need-shared-slice-read-dimensions-2
-shared-slice-read-dimensions-2 c = let s = c .before .before .before .before .before .before .before .before .before .before .before .before .before .before .before .before .before in let r = dimensions-read (lent s) (s .args .marks .now) (s .pre .0) (s .args .a) (s .args .b) (s .pre .1) (s .pre .2) in omega (arith, r .1)
+shared-slice-read-covers-2 : tie.Need-shared-slice-read-covers-2
+shared-slice-read-covers-2 c = let s = c .before .before .before .before .before .before .before .before .before .before .before .before .before .before .before .before .before in let r = dimensions-read (lent s) (s .args .marks .now) (s .pre .0) (s .args .a) (s .args .b) (s .pre .1) (s .pre .2) in omega (arith, r .1)
 
 covers-requires : tie.Need-covers-requires
 covers-requires c κs = let s = c .before .before .before .before .before .before .before .before .before .before .before .before .before .before .before .before .before in cover-in (lent s) (s .args .marks .now) (s .pre .0) (s .args .a) (s .args .b) (s .pre .1) (s .pre .2) (c .before .before .before .before .before .before .before .before .before .kind .result) (c .before .before .block .result) (c .before .before .before .before .before .before .before .before .before .kind .ensures) (c .before .before .before .before .before .before .before .before .if1 .left) (c .before .before .block .ensures .0)
 
 returns-3 : tie.Need-returns-3
-returns-3 c = let s = c .before .before .before .before .before .before .before .before .before .before .before .before .before .before .before .before .before .before .before in λ _. pair-is (lent s) (s .args .marks .now) (s .pre .0) (s .args .a) (s .args .b) (s .pre .1) (s .pre .2) (c .before .before .before .before .before .before .before .before .before .before .before .kind .result) (c .before .before .before .before .block .result) (c .before .before .before .before .before .before .before .before .before .before .before .kind .ensures) (c .before .before .before .before .before .before .before .before .before .before .if1 .left) (c .before .before .before .before .block .ensures .0) (c .before .covers .result) (c .before .covers .ensures) (c .if3 .taken)
-
-mul-some-apart : tie.Need-mul-some-apart
-mul-some-apart c = search needs
-
-mul-some-apart-2 : tie.Need-mul-some-apart-2
-mul-some-apart-2 c = search needs
-
-some-apart-requires : tie.Need-some-apart-requires
-some-apart-requires c κs = let s = c .before .before .before .before .before .before .before .before .before .before .before .before .before .before .before .before .before .before .before in forms-in (lent s) (s .args .marks .now) (s .pre .0) (s .args .a) (s .args .b) (s .pre .1) (s .pre .2)
-
-returns-4 : tie.Need-returns-4
-returns-4 c = let s = c .before .before .before .before .before .before .before .before .before .before .before .before .before .before .before .before .before .before .before .before in pair-apart (lent s) (s .args .marks .now) (s .pre .0) (s .args .a) (s .args .b) (s .pre .1) (s .pre .2) (c .some-apart .result) (c .some-apart .ensures)
+returns-3 c = let s = c .before .before .before .before .before .before .before .before .before .before .before .before .before .before .before .before .before .before in pair-is (lent s) (s .args .marks .now) (s .pre .0) (s .args .a) (s .args .b) (s .pre .1) (s .pre .2) (c .before .before .before .before .before .before .before .before .before .before .kind .result) (c .before .before .before .block .result) (c .before .before .before .before .before .before .before .before .before .before .kind .ensures) (c .before .before .before .before .before .before .before .before .before .if1 .left) (c .before .before .before .block .ensures .0) (c .covers .result) (c .covers .ensures)
 
 pub pair-covered-spec : {M : Type 1} → statement M
 pair-covered-spec =
@@ -102,14 +90,10 @@ pair-covered-spec =
     mul-t
     shared-slice-read-t
     block-requires
-    mul-dimensions
-    shared-slice-read-dimensions
-    mul-dimensions-2
-    mul-dimensions-3
-    shared-slice-read-dimensions-2
+    mul-covers
+    shared-slice-read-covers
+    mul-covers-2
+    mul-covers-3
+    shared-slice-read-covers-2
     covers-requires
-    returns-3
-    mul-some-apart
-    mul-some-apart-2
-    some-apart-requires
-    returns-4)
+    returns-3)
