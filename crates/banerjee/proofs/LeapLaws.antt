@@ -7,7 +7,7 @@ use mathlib.Core.List.{List, [], _∷_, map, List·Memᴰ, List·Memᴰ·head, L
 use Prim.Native.Nat.{ℕ, zero, suc, _+_, _*_, _≤_, _<_}
 use native.Mathlib.Omega.{arith}
 use native.Mathlib.Nat.{le-of-dvd}
-use lib.IntN.{ℤ, pos, negsuc, natAbs, negℤ, _+ℤ_, _-ℤ_}
+use lib.IntN.{ℤ, pos, natAbs, negℤ, _+ℤ_, _-ℤ_}
 use lib.Signed.{ltZ, _≤ℤ_, _<ℤ_}
 use lib.ListN.{length, getD, take, drop, length-drop}
 use lib.Seq.{getD-take, getD-drop, length-take-le}
@@ -16,7 +16,7 @@ use Rattle.integers.specs.Difference.{size}
 use Rattle.integers.specs.Division.{floorDiv, ceilDiv}
 use Rattle.integers.specs.Gcd.{gcd, gcdOf}
 use Rattle.integers.proofs.RingLaws.{zarith}
-use Rattle.integers.proofs.RangeLaws.{size-neg, test-lt}
+use Rattle.integers.proofs.RangeLaws.{size-natAbs, size-neg, test-lt}
 use Rattle.integers.proofs.OrderLaws.{_∣ℤ_, ∣-zero, ∣-add, ∣-sub, ∣-mul}
 use Rattle.integers.proofs.DivisionLaws.{floor-iff, ceil-iff, size-floor, size-ceil}
 use Rattle.integers.proofs.GcdLaws.{gcd-is, gcd-none, gcdOf-divides, dvd-int}
@@ -36,14 +36,10 @@ use Rattle.banerjee.proofs.ExtentLaws.{Inward}
 
 -- ---- a divisor of words
 
-abs-size : (z : ℤ) → natAbs z ≡ size z
-abs-size (pos n) = omega arith
-abs-size (negsuc n) = omega arith
-
 small-divisor : (l : List ℤ) (m : ℕ) → ((a : ℤ) → List·Memᴰ a l → size a ≤ m) → gcdOf l ≤ m
 unfolding gcdOf
 small-divisor [] m h = omega arith
-small-divisor (x ∷ l) m h = go (natAbs x) (let s = h x (List·Memᴰ·head refl) in let e = abs-size x in omega arith) (small-divisor l m (λ a i. h a (List·Memᴰ·tail i)))
+small-divisor (x ∷ l) m h = go (natAbs x) (let s = h x (List·Memᴰ·head refl) in let e = size-natAbs x in omega arith) (small-divisor l m (λ a i. h a (List·Memᴰ·tail i)))
   where
     go : (a : ℕ) → a ≤ m → gcdOf l ≤ m → gcd a (gcdOf l) ≤ m
     go zero f r = let e = gcd-none (gcdOf l) in omega arith
