@@ -1,14 +1,20 @@
 //! Builds and links the proved library.
 //!
-//! In the repository's root this runs `rt check hurkeztor`, which proves on all cores, and then `rt staticlib hurkeztor`, which writes
-//! `target/staticlib/libhurkeztor.a`. Where HURKEZTOR_ARCHIVE_DIR names a folder, the archive in it is linked and no `rt` is run.
+//! In the repository's root this runs `rt check` on all that the crate `hurkeztor` names, which proves on all cores, and then `rt staticlib
+//! hurkeztor`, which proves that crate and writes `target/staticlib/libhurkeztor.a`. Where HURKEZTOR_ARCHIVE_DIR names a folder, the archive in it
+//! is linked and no `rt` is run.
 
 use std::env;
 use std::fs;
-use std::io::ErrorKind;
+use std::io::{self, BufRead, BufReader, ErrorKind};
 use std::path::{Path, PathBuf};
-use std::process::{Command, exit};
+use std::process::{Command, ExitStatus, exit};
 
+#[path = "build/progress.rs"]
+mod progress;
+use progress::Progress;
+
+const LIBRARY: &str = "hurkeztor";
 const ARCHIVE: &str = "libhurkeztor.a";
 const LINES_SHOWN: usize = 30;
 
@@ -56,8 +62,15 @@ fn build_archive() -> PathBuf {
     for input in ["crates", "crates.txt"] {
         println!("cargo::rerun-if-changed={}", root.join(input).display());
     }
-    rt(&root, "check");
-    rt(&root, "staticlib");
+    let crates = match fs::read_to_string(root.join("crates.txt")) {
+        Ok(crates) => crates,
+        Err(error) => fail(&[format!("{} could not be read: {error}.", root.join("crates.txt").display())]),
+    };
+    let mut progress = Progress::new(progress::count(&crates, LIBRARY));
+    let below = progress::dependencies(&crates, LIBRARY);
+    rt(&root, &[&["check"], &below[..]].concat(), &mut progress);
+    progress.last(LIBRARY);
+    rt(&root, &["staticlib", LIBRARY], &mut progress);
     let archive = root.join("target").join("staticlib").join(ARCHIVE);
     if !archive.is_file() {
         fail(&[format!("'rt staticlib hurkeztor' ended well and left no {}.", archive.display())]);
@@ -74,29 +87,39 @@ fn build_archive() -> PathBuf {
     folder
 }
 
-fn rt(root: &Path, verb: &str) {
-    let output = match Command::new("rt").args([verb, "hurkeztor"]).current_dir(root).output() {
-        Ok(output) => output,
+fn rt(root: &Path, words: &[&str], progress: &mut Progress) {
+    let ended = match run_rt(root, words, progress) {
+        Ok((status, _)) if status.success() => return,
+        Ok(ended) => ended,
         Err(error) if error.kind() == ErrorKind::NotFound => fail(&[
             "Hurkeztor's library is proved and built by the Rattle toolchain, and its command 'rt' is not on the PATH.".into(),
             "Install the Rattle kit, then build again. Or set HURKEZTOR_ARCHIVE_DIR to a folder that holds libhurkeztor.a.".into(),
         ]),
         Err(error) => fail(&[format!("The command 'rt' could not be run: {error}.")]),
     };
-    if output.status.success() {
-        return;
-    }
-    let mut message = vec![format!(
-        "'rt {verb} hurkeztor' failed in {} ({}). It ends:",
-        root.display(),
-        output.status
-    )];
-    let text = [output.stdout, output.stderr].concat();
-    let text = String::from_utf8_lossy(&text);
-    let lines: Vec<&str> = text.lines().collect();
+    let (status, lines) = ended;
+    let mut message = vec![format!("'rt {}' failed in {} ({status}). It ends:", words[0], root.display())];
     let shown = lines.iter().skip(lines.len().saturating_sub(LINES_SHOWN));
     message.extend(shown.map(|line| format!("  {line}")));
     fail(&message);
+}
+
+/// How rt ended, and all that it printed.
+fn run_rt(root: &Path, words: &[&str], progress: &mut Progress) -> io::Result<(ExitStatus, Vec<String>)> {
+    let (printed, end) = io::pipe()?;
+    let mut running = Command::new("rt")
+        .args(words)
+        .current_dir(root)
+        .stdout(end.try_clone()?)
+        .stderr(end)
+        .spawn()?;
+    let mut lines = Vec::new();
+    for line in BufReader::new(printed).split(b'\n') {
+        let line = String::from_utf8_lossy(&line?).into_owned();
+        progress.read(&line);
+        lines.push(line);
+    }
+    Ok((running.wait()?, lines))
 }
 
 /// Cargo shows the message, and fails the build once the script has ended.
