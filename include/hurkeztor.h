@@ -16,6 +16,12 @@
 #include <stddef.h>
 #include <stdint.h>
 
+/* The version of this header and of the library that belongs to it. */
+#define HURKEZTOR_VERSION_MAJOR 0
+#define HURKEZTOR_VERSION_MINOR 1
+#define HURKEZTOR_VERSION_PATCH 0
+#define HURKEZTOR_VERSION "0.1.0"
+
 #ifdef __cplusplus
 extern "C" {
 #endif

@@ -106,3 +106,16 @@ fn a_missing_file_is_told() {
         (Some(2), "", "judge: can't open no-such.ticket: No such file or directory\n")
     );
 }
+
+#[test]
+fn the_header_has_the_version_of_the_package() {
+    let header = fs::read_to_string(root().join("include/hurkeztor.h")).expect("the header");
+    let version = env!("CARGO_PKG_VERSION");
+    let mut lines = vec![format!("#define HURKEZTOR_VERSION \"{version}\"")];
+    for (part, number) in ["MAJOR", "MINOR", "PATCH"].iter().zip(version.split('.')) {
+        lines.push(format!("#define HURKEZTOR_VERSION_{part} {number}"));
+    }
+    for line in lines {
+        assert!(header.lines().any(|l| l == line), "{line}");
+    }
+}
