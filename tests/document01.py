@@ -183,7 +183,9 @@ def backwards(v):
 
 
 TURN = {"<": ">", "=": "=", ">": "<"}
-ADD = {("<", "<"): "<", ("<", "="): "<", ("<", ">"): "<=>", ("=", "<"): "<", ("=", "="): "=", ("=", ">"): ">", (">", "<"): "<=>", (">", "="): ">", (">", ">"): ">"}
+ADD = {("<", "<"): "<", ("<", "="): "<", ("<", ">"): "<=>",
+       ("=", "<"): "<", ("=", "="): "=", ("=", ">"): ">",
+       (">", "<"): "<=>", (">", "="): ">", (">", ">"): ">"}
 
 
 def step_vectors(step, v):
@@ -285,7 +287,7 @@ class Judged:
 
 def judged(data):
     t = admit(data)
-    vectors = {l[4] for l in lines(t)}
+    vectors = {l[4] for l in lines(t)} if t.steps else set()
     loops, statements = t.loops, t.statements
     for number, step in enumerate(t.steps, 1):
         vectors = {w for v in vectors for w in step_vectors(step, v)}

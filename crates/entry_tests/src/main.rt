@@ -1,58 +1,46 @@
-// Prints what judge, write and run answer for each case on standard input: the lengths of a ticket, of a buffer and of a store, in two bytes each,
-// lowest first, then the ticket and the store's words, in four bytes each, lowest first. It prints `accepted` with the count, or the refusal;
-// the bytes written in hexadecimal; and the words that an accepted run leaves. It prints `changed` where a byte around what was written, of 65,536
-// bytes filled with 170, or a word of a store that was not to change, is not what it was.
+// Prints what judge, write, list, quick and run answer for each case on standard input. A case is six numbers in two bytes each, lowest first: the
+// lengths of a ticket, of the buffer that write is lent, of the one that list is lent and of a store, and two access numbers; then the ticket and
+// the store's words, in four bytes each, lowest first. It prints `accepted` with the count, `apart`, `perhaps`, or `refused` with number and place;
+// the bytes of a new nest in hexadecimal, the text of a listing, and the words that an accepted run leaves. It prints `changed` where a byte around
+// what was written, of 65,536 bytes filled with 170, or a word of a store that was not to change, is not what it was.
+ghost use mathlib.Core.Path.{_≡_};
 ghost use Prim.Native.Nat.{_+_, _*_, _<_, _≤_};
 ghost use lib.ListN.{length};
+ghost use Rattle.model.specs.Answer.{count};
+ghost use Rattle.intake.specs.Answers.{answerOf};
 use intake::Answer;
 use libc::STDIN_FILENO;
 use libc::STDOUT_FILENO;
+use quick_entry::Tested;
 use reading::Refusal;
+
+// ---- answers
+
+fn print_number(n: usize) {
+    io::write_all(STDOUT_FILENO, b" ");
+    io::print_decimal(STDOUT_FILENO, n as u64);
+}
 
 fn print_count(n: usize) {
     io::write_all(STDOUT_FILENO, b"accepted");
-    refusal_text::print_number(STDOUT_FILENO, n);
+    print_number(n);
     io::write_all(STDOUT_FILENO, b"\n");
 }
 
 fn print_refusal(r: Refusal) {
-    refusal_text::print_refusal(STDOUT_FILENO, r);
-}
-
-fn print_changed() {
-    io::write_all(STDOUT_FILENO, b"changed\n");
-}
-
-// ---- judge
-
-fn try_judge(ticket: &[u8]) {
-    match judge_entry::judge(ticket) {
-        Answer::Accepted(n) => print_count(n),
-        Answer::Refused(r) => print_refusal(r),
-    }
-}
-
-// ---- write
-
-fn print_byte(b: u8) {
-    io::print_hex(STDOUT_FILENO, b as u64, 2);
-}
-
-fn print_bytes(bytes: &[u8]) {
-    print_count(bytes.len());
-    let mut i = 0;
-    while i < bytes.len() {
-        print_byte(bytes[i]);
-        i += 1;
-    }
+    io::write_all(STDOUT_FILENO, b"refused");
+    print_number(reading::number_of(r));
+    print_number(reading::place_of(r));
     io::write_all(STDOUT_FILENO, b"\n");
 }
 
-// Prints the answer, and returns how many bytes were written.
-fn print_write(ticket: &[u8], out: &mut [u8]) -> usize {
-    match write_entry::write(ticket, out) {
+// Returns the count, which is 0 of a refusal.
+fn print_answer(a: Answer) -> usize
+    ensures { λ r. ⌜ r ≡ count (answerOf a) ⌝ }
+{
+    match a {
         Answer::Accepted(n) => {
-            print_bytes(&out[..n]);
+            print_count(n);
             n
         }
         Answer::Refused(r) => {
@@ -61,6 +49,32 @@ fn print_write(ticket: &[u8], out: &mut [u8]) -> usize {
         }
     }
 }
+
+fn print_unless_kept(kept: bool) {
+    if !kept {
+        io::write_all(STDOUT_FILENO, b"changed\n");
+    }
+}
+
+// ---- judge and quick
+
+fn try_judge(ticket: &[u8]) {
+    print_answer(judge_entry::judge(ticket));
+}
+
+fn try_quick(ticket: &[u8], first: usize, second: usize) {
+    match quick_entry::quick(ticket, first, second) {
+        Tested::Apart => {
+            io::write_all(STDOUT_FILENO, b"apart\n");
+        }
+        Tested::Perhaps => {
+            io::write_all(STDOUT_FILENO, b"perhaps\n");
+        }
+        Tested::Refused(r) => print_refusal(r),
+    }
+}
+
+// ---- write and list
 
 fn fill(out: &mut [u8]) {
     let mut i = 0;
@@ -82,14 +96,37 @@ fn is_filled(out: &[u8], first: usize) -> bool {
     true
 }
 
+fn print_byte(b: u8) {
+    io::print_hex(STDOUT_FILENO, b as u64, 2);
+}
+
+fn print_bytes(bytes: &[u8]) {
+    let mut i = 0;
+    while i < bytes.len() {
+        print_byte(bytes[i]);
+        i += 1;
+    }
+    io::write_all(STDOUT_FILENO, b"\n");
+}
+
 fn try_write(ticket: &[u8], out: &mut [u8], lent: usize)
     requires { ⌜ lent ≤ length (now out) ⌝ }
 {
     fill(out);
-    let n = print_write(ticket, &mut out[..lent]);
-    if !is_filled(out, n) {
-        print_changed();
+    let n = print_answer(write_entry::write(ticket, &mut out[..lent]));
+    if 0 < n {
+        print_bytes(&out[..n]);
     }
+    print_unless_kept(is_filled(out, n));
+}
+
+fn try_list(ticket: &[u8], out: &mut [u8], lent: usize)
+    requires { ⌜ lent ≤ length (now out) ⌝ }
+{
+    fill(out);
+    let n = print_answer(list_entry::list(ticket, &mut out[..lent]));
+    io::write_all(STDOUT_FILENO, &out[..n]);
+    print_unless_kept(is_filled(out, n));
 }
 
 // ---- run
@@ -108,7 +145,7 @@ fn print_words(store: &[u32]) {
     io::write_all(STDOUT_FILENO, b"\n");
 }
 
-// Prints the answer, and returns how many words may have changed.
+// Returns how many words may have changed.
 fn print_run(ticket: &[u8], store: &mut [u32]) -> usize {
     match run_entry::run(ticket, store) {
         Answer::Accepted(n) => {
@@ -168,9 +205,7 @@ fn try_run(ticket: &[u8], bytes: &[u8], store: &mut [u32], lent: usize)
 {
     set_words(bytes, store);
     let n = print_run(ticket, &mut store[..lent]);
-    if !is_as_set(bytes, store, n) {
-        print_changed();
-    }
+    print_unless_kept(is_as_set(bytes, store, n));
 }
 
 // ---- cases
@@ -188,41 +223,46 @@ fn wide(b: u8) -> usize
 }
 
 // Two bytes, lowest first.
-fn length_at(head: &[u8; 6], at: usize) -> usize
-    requires { ⌜ at + 2 ≤ 6 ⌝ }
+fn number_at(head: &[u8; 12], at: usize) -> usize
+    requires { ⌜ at + 2 ≤ 12 ⌝ }
     ensures { λ r. ⌜ r < 65536 ⌝ }
 {
     wide(head[at]) + 256 * wide(head[at + 1])
 }
 
-fn try_ticket(ticket: &[u8], lent: usize, words: usize)
-    requires { ⌜ lent < 65536 ⌝ }
+fn try_ticket(ticket: &[u8], head: &[u8; 12]) {
+    let mut out = io::large_buffer();
+    try_judge(ticket);
+    try_write(ticket, &mut out, number_at(head, 2));
+    try_list(ticket, &mut out, number_at(head, 4));
+    try_quick(ticket, number_at(head, 8), number_at(head, 10));
+}
+
+fn try_store(ticket: &[u8], words: usize)
     requires { ⌜ words ≤ 16384 ⌝ }
 {
-    let mut out = io::large_buffer();
     let mut bytes = io::large_buffer();
     let mut store = [0u32; 16384];
     read_part(&mut bytes, words * 4);
-    try_judge(ticket);
-    try_write(ticket, &mut out, lent);
     try_run(ticket, &bytes, &mut store, words);
 }
 
 // Reads a case and prints its answers; or says that there is none.
 fn try_next() -> bool {
-    let mut head = [0u8; 6];
-    if io::read_full(STDIN_FILENO, &mut head) < 6 {
+    let mut head = [0u8; 12];
+    if io::read_full(STDIN_FILENO, &mut head) < 12 {
         return false;
     }
-    let taken = length_at(&head, 0);
-    let lent = length_at(&head, 2);
-    let words = length_at(&head, 4);
+    let taken = number_at(&head, 0);
+    let words = number_at(&head, 6);
     if 16384 < words {
         return false;
     }
     let mut ticket = io::large_buffer();
     read_part(&mut ticket, taken);
-    try_ticket(&ticket[..taken], lent, words);
+    let t = &ticket[..taken];
+    try_ticket(t, &head);
+    try_store(t, words);
     true
 }
 

@@ -11,9 +11,6 @@ Inv-loop bytes i₀ t3 i = Unit {0}
 abbrev μ-loop : tie.MeasureT-loop
 μ-loop bytes i₀ t3 i = length bytes - i
 
-print-count-requires : tie.Need-print-count-requires Inv-loop μ-loop
-print-count-requires c κs = search needs
-
 loop-holds : tie.Need-loop-holds Inv-loop μ-loop
 loop-holds c = tt
 
@@ -47,7 +44,6 @@ print-bytes-spec =
     (tie.spec
     Inv-loop
     μ-loop
-    print-count-requires
     loop-holds
     shared-slice-read-print-byte
     print-byte-requires

@@ -14,14 +14,11 @@ read-full-requires c κs = search needs
 returns : tie.Need-returns
 returns c = search needs
 
-length-at-requires : tie.Need-length-at-requires
-length-at-requires c κs = search needs
+number-at-requires : tie.Need-number-at-requires
+number-at-requires c κs = search needs
 
-length-at-requires-2 : tie.Need-length-at-requires-2
-length-at-requires-2 c κs = search needs
-
-length-at-requires-3 : tie.Need-length-at-requires-3
-length-at-requires-3 c κs = search needs
+number-at-requires-2 : tie.Need-number-at-requires-2
+number-at-requires-2 c κs = search needs
 
 returns-2 : tie.Need-returns-2
 returns-2 c = search needs
@@ -38,11 +35,14 @@ read-part-requires c κs = search needs
 array-share-prefix-ticket : tie.Need-array-share-prefix-ticket
 array-share-prefix-ticket c = search needs
 
-slice-aggregate-try-ticket : tie.Need-slice-aggregate-try-ticket
-slice-aggregate-try-ticket c = sym (length-take-le _ _ (array-share-prefix-ticket (c .before)))
+slice-aggregate-t : tie.Need-slice-aggregate-t
+slice-aggregate-t c = sym (length-take-le _ _ (array-share-prefix-ticket (c .before)))
 
 try-ticket-requires : tie.Need-try-ticket-requires
 try-ticket-requires c κs = search needs
+
+try-store-requires : tie.Need-try-store-requires
+try-store-requires c κs = search needs
 
 returns-3 : tie.Need-returns-3
 returns-3 c = search needs
@@ -54,14 +54,14 @@ try-next-spec =
     slice-aggregate-read-full
     read-full-requires
     returns
-    length-at-requires
-    length-at-requires-2
-    length-at-requires-3
+    number-at-requires
+    number-at-requires-2
     returns-2
     large-buffer-requires
     slice-aggregate-read-part
     read-part-requires
     array-share-prefix-ticket
-    slice-aggregate-try-ticket
+    slice-aggregate-t
     try-ticket-requires
+    try-store-requires
     returns-3)

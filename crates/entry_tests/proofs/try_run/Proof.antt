@@ -20,20 +20,14 @@ print-run-requires c κs = search needs
 is-as-set-requires : tie.Need-is-as-set-requires
 is-as-set-requires c κs = search needs
 
-print-changed-requires : tie.Need-print-changed-requires
-print-changed-requires c κs = search needs
+print-unless-kept-requires : tie.Need-print-unless-kept-requires
+print-unless-kept-requires c κs = search needs
 
 same-length : tie.Need-same-length
 same-length c = search needs
 
 returns : tie.Need-returns
 returns c = search needs
-
-same-length-2 : tie.Need-same-length-2
-same-length-2 c = search needs
-
-returns-2 : tie.Need-returns-2
-returns-2 c = search needs
 
 pub try-run-spec : {M : Type 1} → statement M
 try-run-spec =
@@ -44,8 +38,6 @@ try-run-spec =
     slice-aggregate-print-run
     print-run-requires
     is-as-set-requires
-    print-changed-requires
+    print-unless-kept-requires
     same-length
-    returns
-    same-length-2
-    returns-2)
+    returns)
