@@ -5,7 +5,7 @@ use native.Mathlib.Omega.{arith}
 use lib.ListN.{length, length-append}
 use Rattle.model.specs.Answer as Model
 use Rattle.model.specs.Answer.{count}
-use Rattle.model.specs.Entries.{handOut, write, list}
+use Rattle.model.specs.Entries.{handOut, write, writeOf, list, listOf}
 use Rattle.intake.specs.declared.Answer.{Answer}
 use Rattle.intake.specs.declared.Answer.the-variants.{Accepted, Refused}
 use Rattle.intake.specs.Answers.{answerOf, Hands}
@@ -17,11 +17,11 @@ fits m o e (Accepted n) h = handed-fits m o e n h
 fits m o e (Refused r) h = omega arith
 
 pub write-fits : (b o e : List ℕ) (a : Answer) → Hands (write b o) a e → count (answerOf a) ≤ length o
-unfolding write
+unfolding writeOf
 write-fits b o e a h = fits _ o e a h
 
 pub list-fits : (b o e : List ℕ) (a : Answer) → Hands (list b o) a e → count (answerOf a) ≤ length o
-unfolding list
+unfolding listOf
 list-fits b o e a h = fits _ o e a h
 
 pub in-front : (n : ℕ) (xs ys : List ℕ) → n ≤ length xs → n ≤ length (xs ++ ys)

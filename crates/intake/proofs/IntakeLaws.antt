@@ -3,11 +3,10 @@ use mathlib.Core.Path.{_≡_, sym, _∙_, ap, subst}
 use mathlib.Core.List.{List}
 use Prim.Native.Nat.{ℕ}
 use lib.IntN.{ℤ}
-use Rattle.model.specs.Answer.{accepted, _>>_, _>>=_}
+use Rattle.model.specs.Answer.{Answer, accepted, _>>_, _>>=_}
 use Rattle.model.specs.Ticket as Model
-use Rattle.model.specs.Grammar.{decode}
 use Rattle.model.specs.Bounds.{space}
-use Rattle.model.proofs.Grammar.GrammarLaws.{decode-ranges, decode-formed}
+use Rattle.model.proofs.Grammar.GrammarLaws.{Sound}
 use Rattle.reading.specs.declared.Refusal.{Refusal}
 use Rattle.reading.specs.declared.Status.{Status}
 use Rattle.reading.specs.declared.Status.the-variants.{Fine, Refused}
@@ -23,25 +22,25 @@ use Rattle.intake.specs.declared.Intake.{Intake}
 use Rattle.intake.specs.Intake.{received, Receives}
 
 -- a refusal, whatever stands beside it
-refuse : (b : List ℕ) (r : Refusal) (q : Intake) (l w : List ℤ) → q .status ≡ Refused r → refusal r ≡ received b → Receives b q l w
-refuse b r q l w s h = record {
+refuse : (m : Answer Model.Ticket) (r : Refusal) (q : Intake) (l w : List ℤ) → q .status ≡ Refused r → refusal r ≡ received m → Receives m q l w
+refuse m r q l w s h = record {
   same = ap (λ (x : Status). decoded x (ticketOn (sheetOf (q .outline) l w) (q .steps))) s ∙ h;
   laid = λ f. not-fine (q .status) s f;
 }
 
-module _ (b : List ℕ) (d : Decoded) (l w : List ℤ) (h : Decodes b d l w) where
+module _ (m : Answer Model.Ticket) (d : Decoded) (l w : List ℤ) (h : Decodes m d l w) where
   abbrev T : Model.Ticket
   T = ticketOn (sheetOf (d .outline) l w) (d .steps)
 
-  pub decode-refused : (r : Refusal) (q : Intake) → d .status ≡ Refused r → q .status ≡ Refused r → Receives b q l w
+  pub decode-refused : (r : Refusal) (q : Intake) → d .status ≡ Refused r → q .status ≡ Refused r → Receives m q l w
   unfolding received _>>=_
-  decode-refused r q s z = refuse b r q l w z (ap (_>>= (λ T. space (T .nest .loops) >> accepted T)) (sym (ap (λ (x : Status). decoded x T) s) ∙ h .same))
+  decode-refused r q s z = refuse m r q l w z (ap (_>>= (λ T. space (T .nest .loops) >> accepted T)) (sym (ap (λ (x : Status). decoded x T) s) ∙ h .same))
 
   module _ (s : d .status ≡ Fine) where
-    is-ticket : decode b ≡ accepted T
+    is-ticket : m ≡ accepted T
     is-ticket = sym (h .same) ∙ ap (λ (x : Status). decoded x T) s
 
-    receives : received b ≡ (space (T .nest .loops) >> accepted T)
+    receives : received m ≡ (space (T .nest .loops) >> accepted T)
     unfolding received _>>=_
     receives = ap (_>>= (λ T. space (T .nest .loops) >> accepted T)) is-ticket
 
@@ -50,18 +49,18 @@ module _ (b : List ℕ) (d : Decoded) (l w : List ℤ) (h : Decodes b d l w) whe
       unfolding ticketOn
       same-answer = g .same
 
-      pub space-refused : (r : Refusal) (q : Intake) → a ≡ Counted.Refused r → q .status ≡ Refused r → Receives b q l w
+      pub space-refused : (r : Refusal) (q : Intake) → a ≡ Counted.Refused r → q .status ≡ Refused r → Receives m q l w
       unfolding _>>_ _>>=_
-      space-refused r q s z = refuse b r q l w z (ap (_>> accepted T) (sym (ap answerOf s) ∙ same-answer) ∙ sym receives)
+      space-refused r q s z = refuse m r q l w z (ap (_>> accepted T) (sym (ap answerOf s) ∙ same-answer) ∙ sym receives)
 
-      pub received-out : (n : ℕ) → a ≡ Counted.Points n → Receives b (record { status = Fine; steps = d .steps; outline = d .outline; count = n }) l w
+      pub received-out : (n : ℕ) → a ≡ Counted.Points n → Sound m → Receives m (record { status = Fine; steps = d .steps; outline = d .outline; count = n }) l w
       unfolding _>>_ _>>=_ ticketOn
-      received-out n y = record {
+      received-out n y sound = record {
         same = sym (ap (_>> accepted T) (sym same-answer ∙ ap answerOf y)) ∙ sym receives;
         laid = λ _. record {
           steps = h .steps;
-          ranges = decode-ranges b is-ticket;
-          formed = decode-formed b is-ticket;
+          ranges = sound .ranges is-ticket;
+          formed = sound .formed is-ticket;
           spacious = sym same-answer ∙ ap answerOf y;
           sheet = h .sheet s;
           shallow = h .shallow s;

@@ -6,7 +6,6 @@ use lib.IntN.{ℤ}
 use lib.ListN.{length}
 use Rattle.model.specs.Answer.{Answer, accepted, _>>_, _>>=_}
 use Rattle.model.specs.Ticket as Model
-use Rattle.model.specs.Grammar.{decode}
 use Rattle.model.specs.Points.{iterations}
 use Rattle.model.specs.Bounds.{space}
 use Rattle.model.specs.Ranges.{TicketRanges}
@@ -19,9 +18,9 @@ use Rattle.sheet.specs.Sheets as Sheet
 use Rattle.sheet.specs.Sheets.{Sheet, sheetOf, SheetIn}
 use Rattle.intake.specs.declared.Intake.{Intake}
 
--- 1 to 8
-unfoldable pub received : List ℕ → Answer Model.Ticket
-received b = decode b >>= (λ T. space (T .nest .loops) >> accepted T)
+-- 1 to 8 of what was decoded
+unfoldable pub received : Answer Model.Ticket → Answer Model.Ticket
+received m = m >>= (λ T. space (T .nest .loops) >> accepted T)
 
 -- a ticket that passes 1 to 8 on its sheet, and the count of its points
 pub record Laid (P : Sheet) (S : Steps) (n : ℕ) : Type 0 where
@@ -33,7 +32,7 @@ pub record Laid (P : Sheet) (S : Steps) (n : ℕ) : Type 0 where
   pub shallow : P .depth ≤ 4
   pub count : n ≡ length (iterations (Sheet.nestOf P .loops))
 
--- of the bytes b: the slices that were lent became l and w
-pub record Receives (b : List ℕ) (r : Intake) (l w : List ℤ) : Type 0 where
-  pub same : decoded (r .status) (ticketOn (sheetOf (r .outline) l w) (r .steps)) ≡ received b
+-- of what was decoded: the slices that were lent became l and w
+pub record Receives (m : Answer Model.Ticket) (r : Intake) (l w : List ℤ) : Type 0 where
+  pub same : decoded (r .status) (ticketOn (sheetOf (r .outline) l w) (r .steps)) ≡ received m
   pub laid : r .status ≡ Fine → Laid (sheetOf (r .outline) l w) (r .steps) (r .count)

@@ -1,6 +1,7 @@
 // From any bytes to a ticket laid out on a sheet, with its points counted; or the first refusal of 1 to 8. Then what the entries answer that give a count.
 ghost use mathlib.Core.Path.{_≡_};
 ghost use Rattle.reading.specs.declared.Status.the-variants.{Refused};
+ghost use Rattle.model.specs.Grammar.{decode};
 ghost use Rattle.ticket.specs.Ticket.{Lent};
 ghost use Rattle.intake.specs.Intake.{Receives};
 use admission::Counted;
@@ -31,7 +32,7 @@ fn refused(r: Refusal, steps: Steps, outline: Outline) -> Intake
 
 pub fn receive(bytes: &[u8], limits: &mut [i16], words: &mut [i16]) -> Intake
     requires { ⌜ Lent (now limits) (now words) ⌝ }
-    ensures { λ r. ⌜ Receives (now (bytes .entry)) r (now (limits .exit)) (now (words .exit)) ⌝ }
+    ensures { λ r. ⌜ Receives (decode (now (bytes .entry))) r (now (limits .exit)) (now (words .exit)) ⌝ }
 {
     let d = ticket::decode(bytes, limits, words);
     let steps = d.steps;

@@ -4,9 +4,10 @@ use mathlib.Core.List.{List}
 use lib.IntN.{ℤ}
 use lib.ListN.{length}
 use Rattle.model.specs.Answer.{accepted, _>>=_}
+use Rattle.model.specs.Grammar.{decode}
 use Rattle.model.specs.Points.{iterations}
 use Rattle.model.specs.Judge.{Judged}
-use Rattle.model.specs.Entries.{judge}
+use Rattle.model.specs.Entries.{judge, judgeOf}
 use Prim.Native.Nat.{ℕ}
 use Rattle.reading.specs.declared.Refusal.{Refusal}
 use Rattle.reading.specs.declared.Status.{Status}
@@ -17,9 +18,9 @@ use Rattle.judgement.specs.Judgement.{judgedAs}
 use Rattle.verdict.specs.declared.Decided.{Decided}
 use Rattle.verdict.specs.Verdicts.{Decides}
 
-module _ (b : List ℕ) (d : Decided) (l w : List ℤ) (h : Decides b d l w) where
+module _ (b : List ℕ) (d : Decided) (l w : List ℤ) (h : Decides (decode b) d l w) where
   whole : (judgedAs (d .status) (record { ticket = h .ticket; new = nestOf (sheetOf (d .outline) l w) }) >>= (λ (j : Judged). accepted (length (iterations (j .ticket .nest .loops))))) ≡ judge b
-  unfolding judge
+  unfolding judgeOf
   whole = ap (_>>= (λ (j : Judged). accepted (length (iterations (j .ticket .nest .loops))))) (h .same)
 
   pub judge-refused : (r : Refusal) → d .status ≡ Refused r → refusal r ≡ judge b

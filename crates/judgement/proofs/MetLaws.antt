@@ -6,6 +6,8 @@ use mathlib.Core.Logic.{⊎-elim}
 use Prim.Native.Nat.{ℕ, suc, _≤_}
 use native.Mathlib.Omega.{arith}
 use lib.IntN.{ℤ}
+use Rattle.model.specs.Answer.{Answer}
+use Rattle.model.specs.Ticket.{Ticket}
 use lib.ListN.{length, set, replicate, length-replicate, length-set}
 use Rattle.integers.specs.Sign.{Sign}
 use Rattle.lists.specs.Membership.{All, SameMembers}
@@ -74,8 +76,8 @@ marks-of d f (v ∷ vs) a =
 
 -- ---- a received ticket
 
-pub received-met : (b : List ℕ) (q : Intake) (l w : List ℤ) → Receives b q l w → q .status ≡ Fine → (s : DirectionSet) × JudgeIn (sheetOf (q .outline) l w) (q .steps) s
-received-met b q l w h e =
+pub received-met : (d : Answer Ticket) (q : Intake) (l w : List ℤ) → Receives d q l w → q .status ≡ Fine → (s : DirectionSet) × JudgeIn (sheetOf (q .outline) l w) (q .steps) s
+received-met d q l w h e =
     let P = sheetOf (q .outline) l w in
     let g = h .laid e in
     let m = marks-of (P .depth) (g .sheet .nest .shallow) (directionsOf (nestOf P)) (λ v i. directions-length (nestOf P) v i ∙ depth-is P) in

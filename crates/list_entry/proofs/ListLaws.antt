@@ -13,9 +13,9 @@ use Rattle.model.specs.Answer as Model
 use Rattle.model.specs.Answer.{accepted, _>>=_}
 use Rattle.model.specs.Ticket.{Nest, Ticket}
 use Rattle.model.specs.Points.{iterations}
-use Rattle.model.specs.Judge.{admit}
+use Rattle.model.specs.Judge.{admit, admitOf}
 use Rattle.model.specs.Listing.{decimal, headText, lineText, linesOf, listing}
-use Rattle.model.specs.Entries.{handOut, list}
+use Rattle.model.specs.Entries.{Outcome, handOut, list, listOf}
 use Rattle.reading.specs.declared.Refusal.{Refusal}
 use Rattle.reading.specs.declared.Refusal.the-variants.{BufferTooShort}
 use Rattle.reading.specs.declared.Status.{Status}
@@ -30,9 +30,9 @@ use Rattle.admission.proofs.AdmissionLaws.{few-points}
 use Rattle.intake.specs.declared.Intake.{Intake}
 use Rattle.intake.specs.declared.Answer.{Answer}
 use Rattle.intake.specs.declared.Answer.the-variants.{Accepted, Refused}
-use Rattle.intake.specs.Intake.{Receives}
+use Rattle.intake.specs.Intake.{Laid, Receives}
 use Rattle.intake.specs.Answers.{Hands}
-use Rattle.intake.proofs.AdmitLaws.{waits, not-admitted, admitted-too}
+use Rattle.intake.proofs.AdmitLaws.{laid-received, admitted-received, waits, not-admitted, admitted-too}
 use Rattle.intake.proofs.AnswerLaws.{refused-before, too-short, written, handed-fits}
 use Rattle.finding.specs.Findings.{Finds}
 use Rattle.list_entry.specs.Listable.{Listable}
@@ -86,24 +86,40 @@ module _ (P : Sheet) (n : ℕ) (marks : List Bool) (h : Listable P n marks) (o e
 abbrev listed : Model.Answer Ticket → Model.Answer (List ℕ)
 listed m = m >>= (λ T. accepted (listing (T .nest)))
 
-pub turned-away : (b : List ℕ) (r : Refusal) → admit b ≡ refusal r → (m : List ℕ) → Hands (list b m) (Refused r) m
-unfolding list _>>=_
-turned-away b r e m = refused-before (listed (admit b)) m r (ap listed (sym e))
+pub turned-away : (b : Model.Answer Ticket) (r : Refusal) → admitOf b ≡ refusal r → (m : List ℕ) → Hands (listOf b m) (Refused r) m
+unfolding listOf _>>=_
+turned-away b r e m = refused-before (listed (admitOf b)) m r (ap listed (sym e))
 
-module _ (b : List ℕ) (q : Intake) (l w : List ℤ) (h : Receives b q l w) (f : q .status ≡ Fine) (s : Status) (marks : List Bool) (g : Finds (sheetOf (q .outline) l w) s marks) where
-  pub found-refused : (r : Refusal) → s ≡ Status.Refused r → (m : List ℕ) → Hands (list b m) (Refused r) m
+module _ (q : Intake) (l w : List ℤ) (k : Laid (sheetOf (q .outline) l w) (q .steps) (q .count)) (f : q .status ≡ Fine) (s : Status) (marks : List Bool) (g : Finds (sheetOf (q .outline) l w) s marks) where
+  -- the ticket as it stands
+  abbrev b : Model.Answer Ticket
+  b = accepted (ticketOn (sheetOf (q .outline) l w) (q .steps))
+
+  h : Receives b q l w
+  h = laid-received q l w f k
+
+  pub found-refused : (r : Refusal) → s ≡ Status.Refused r → (m : List ℕ) → Hands (listOf b m) (Refused r) m
   found-refused r e = turned-away b r (not-admitted b q l w h f s (g .admits) r e)
 
   module _ (e : s ≡ Fine) where
     pub listable : Listable (sheetOf (q .outline) l w) (q .count) marks
     listable = let v = waits b q l w h f in let n = few-points (sheetOf (q .outline) l w) (q .count) v in record { lines = g .lines e; count = v .count; few = omega arith }
 
-    pub handed : (m m′ : List ℕ) (a : Answer) → Hands (handOut (accepted (listing (nestOf (sheetOf (q .outline) l w)))) m) a m′ → Hands (list b m) a m′
-    unfolding list _>>=_ ticketOn
+    pub handed : (m m′ : List ℕ) (a : Answer) → Hands (handOut (accepted (listing (nestOf (sheetOf (q .outline) l w)))) m) a m′ → Hands (listOf b m) a m′
+    unfolding listOf _>>=_ ticketOn
     handed m m′ a = subst (λ (x : Model.Answer (List ℕ)). Hands (handOut x m) a m′) (sym (ap listed (admitted-too b q l w h f s (g .admits) e)))
 
 -- ---- for those who read what was written
 
 pub listed-fits : (b o e : List ℕ) (a : Answer) (n : ℕ) → Hands (list b o) a e → a ≡ Accepted n → n ≤ length o
-unfolding list
+unfolding listOf
 listed-fits b o e a n h z = handed-fits (admit b >>= (λ T. accepted (listing (T .nest)))) o e n (subst (λ (x : Answer). Hands (list b o) x e) z h)
+
+-- what was received is listed as it stands
+pub list-received : (m : Model.Answer Ticket) (q : Intake) (l w : List ℤ) → Receives m q l w → q .status ≡ Fine → (o : List ℕ) → listOf (accepted (ticketOn (sheetOf (q .outline) l w) (q .steps))) o ≡ listOf m o
+unfolding listOf
+list-received m q l w h f o = ap (λ (x : Model.Answer Ticket). handOut (x >>= (λ T. accepted (listing (T .nest)))) o) (admitted-received m q l w h f)
+
+pub handed-received : (m : Model.Answer Ticket) (q : Intake) (l w : List ℤ) → Receives m q l w → q .status ≡ Fine → (o e : List ℕ) (a : Answer)
+    → Hands (listOf (accepted (ticketOn (sheetOf (q .outline) l w) (q .steps))) o) a e → Hands (listOf m o) a e
+handed-received m q l w h f o e a = subst (λ (x : Outcome). Hands x a e) (list-received m q l w h f o)

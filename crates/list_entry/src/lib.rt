@@ -5,7 +5,8 @@ ghost use Rattle.model.specs.Entries as Entries;
 ghost use Rattle.model.specs.Listing.{listing};
 ghost use Rattle.reading.specs.declared.Status.the-variants.{Fine};
 ghost use Rattle.sheet.specs.Sheets.{sheetOf, nestOf};
-ghost use Rattle.intake.specs.Intake.{Receives};
+ghost use Rattle.ticket.specs.Ticket.{ticketOn};
+ghost use Rattle.intake.specs.Intake.{Laid};
 ghost use Rattle.intake.specs.Answers.{Hands};
 ghost use Rattle.finding.specs.Findings.{FindIn, Finds};
 ghost use Rattle.list_entry.specs.Listable.{Listable};
@@ -35,9 +36,8 @@ fn write_marked(
     Answer::Accepted(n)
 }
 
-// The same, where refusal 9 is passed. The ticket's bytes are lent for the contract alone, below too.
+// The same, where refusal 9 is passed.
 fn write_found(
-    ticket: &[u8],
     all: Intake,
     limits: &[i16],
     words: &[i16],
@@ -45,8 +45,8 @@ fn write_found(
     marks: &[bool],
     out: &mut [u8],
 ) -> Answer
-    requires { ⌜ Receives (now ticket) all (now limits) (now words) × (all .status ≡ Fine) × Finds (sheetOf (all .outline) (now limits) (now words)) found (now marks) ⌝ }
-    ensures { λ r. ⌜ Hands (Entries.list (now (ticket .entry)) (now (out .entry))) r (now (out .exit)) ⌝ }
+    requires { ⌜ Laid (sheetOf (all .outline) (now limits) (now words)) (all .steps) (all .count) × (all .status ≡ Fine) × Finds (sheetOf (all .outline) (now limits) (now words)) found (now marks) ⌝ }
+    ensures { λ r. ⌜ Hands (Entries.listOf (accepted (ticketOn (sheetOf (all .outline) (now (limits .entry)) (now (words .entry))) (all .steps))) (now (out .entry))) r (now (out .exit)) ⌝ }
 {
     match found {
         Status::Fine => {}
@@ -58,26 +58,25 @@ fn write_found(
 
 // Refusal 9 of what was received of the ticket, then the listing. Lent are marks, all clear.
 fn list_with(
-    ticket: &[u8],
     all: Intake,
     limits: &[i16],
     words: &[i16],
     marks: &mut [bool],
     out: &mut [u8],
 ) -> Answer
-    requires { ⌜ Receives (now ticket) all (now limits) (now words) × (all .status ≡ Fine) × FindIn (sheetOf (all .outline) (now limits) (now words)) (all .count) (now marks) ⌝ }
-    ensures { λ r. ⌜ Hands (Entries.list (now (ticket .entry)) (now (out .entry))) r (now (out .exit)) ⌝ }
+    requires { ⌜ Laid (sheetOf (all .outline) (now limits) (now words)) (all .steps) (all .count) × (all .status ≡ Fine) × FindIn (sheetOf (all .outline) (now limits) (now words)) (all .count) (now marks) ⌝ }
+    ensures { λ r. ⌜ Hands (Entries.listOf (accepted (ticketOn (sheetOf (all .outline) (now (limits .entry)) (now (words .entry))) (all .steps))) (now (out .entry))) r (now (out .exit)) ⌝ }
 {
     let outline = all.outline;
     if all.count <= 256 {
         let few = finding::find_few(outline, limits, words, all.count, marks);
-        return write_found(ticket, all, limits, words, few, marks, out);
+        return write_found(all, limits, words, few, marks, out);
     }
     if squeeze::mark_lines(outline, limits, words, marks) {
-        return write_found(ticket, all, limits, words, Status::Fine, marks, out);
+        return write_found(all, limits, words, Status::Fine, marks, out);
     }
     let many = finding::find_many(outline, limits, words, marks);
-    write_found(ticket, all, limits, words, many, marks, out)
+    write_found(all, limits, words, many, marks, out)
 }
 
 // Judges 1 to 9, then 14. Few statements have fewer marks to clear. The lines are exactly the dependences of the nest, each once (model, ListingLaws: linesOf-exact, linesOf-ordered).
@@ -95,8 +94,8 @@ pub fn list(ticket: &[u8], out: &mut [u8]) -> Answer
     let outline = all.outline;
     if outline.statements <= 2 {
         let mut few = [false; 8748];
-        return list_with(ticket, all, &limits, &words, &mut few, out);
+        return list_with(all, &limits, &words, &mut few, out);
     }
     let mut marks = [false; 34992];
-    list_with(ticket, all, &limits, &words, &mut marks, out)
+    list_with(all, &limits, &words, &mut marks, out)
 }

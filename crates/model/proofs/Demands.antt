@@ -25,9 +25,11 @@ use Rattle.model.specs.Entries.{judge, write, list, quick, runEntry, all
 use Rattle.model.specs.Cases.{cases, AllHold}
 use Rattle.model.specs.Inside.{Inside, Earlier}
 use Rattle.model.specs.Shape.{Shaped, Runs, Proper, WellFormed}
-use Rattle.model.specs.Ranges.{TicketRanges, ticketWords}
+use Rattle.model.specs.Ranges.{TicketRanges, ticketWords, Explained}
 use Rattle.model.proofs.CaseLaws as CaseLaws
 use Rattle.model.proofs.Grammar.TicketLaws as TicketLaws
+use Rattle.model.proofs.Grammar.GrammarLaws.{decode-sound}
+use Rattle.model.proofs.Grammar.RefusalLaws.{decode-explained}
 use Rattle.model.proofs.Points.PointLaws as PointLaws
 use Rattle.model.proofs.Points.EarlierLaws as EarlierLaws
 use Rattle.model.proofs.Steps.StepLaws as StepLaws
@@ -61,7 +63,7 @@ pub points-inside : (k : ℕ) (N : List Loop) → All Runs N → (y : List ℤ) 
 points-inside = PointLaws.partial-inside
 
 pub iterations-counted : (b : List ℕ) {c : ℕ} → judge b ≡ accepted c → (j : Judged) × (judged b ≡ accepted j) × (c ≡ length (partialPoints (length (j .ticket .nest .loops)) (j .ticket .nest .loops)))
-iterations-counted = PromiseLaws.judge-counts
+iterations-counted b = PromiseLaws.judge-counts (decode b)
 
 -- ---- steps: `undo` maps the new points one to one onto the old
 
@@ -101,29 +103,29 @@ pub ten-trades : (N : Nest) (front : List Step) (t : Step) → All TradeLaws.Tur
     → (k : ℕ) (back : List Step) → (judgeSteps k (front ++ t ∷ back) (directionsOf N) N ≡ refused 10 (k + length front)) ↔ TradeLaws.Trade N front t
 ten-trades = TradeLaws.ten-trades
 
-pub apart-never-meet : (b : List ℕ) (m n : ℕ) → quick b m n ≡ accepted apart → ReasonLaws.NeverMeet b m n
-apart-never-meet = ReasonLaws.apart-never
+pub apart-never-meet : (b : List ℕ) (m n : ℕ) → quick b m n ≡ accepted apart → ReasonLaws.NeverMeet (decode b) m n
+apart-never-meet b = ReasonLaws.apart-never (decode b) (decode-sound b)
 
 -- ---- refusal only on its condition; a refused entry leaves lent memory as it was
 
-pub judge-refuses : (b : List ℕ) {n p : ℕ} → judge b ≡ refused n p → ReasonLaws.Because b n p
-judge-refuses = ReasonLaws.judge-because
+pub judge-refuses : (b : List ℕ) {n p : ℕ} → judge b ≡ refused n p → ReasonLaws.Because (Explained b) (decode b) n p
+judge-refuses b = ReasonLaws.judge-because (Explained b) (decode b) (λ n p e. decode-explained b e)
 
 pub write-refuses : (b buffer : List ℕ) {n p : ℕ} → write b buffer .answer ≡ refused n p
-    → (write b buffer .memory ≡ buffer) × (ReasonLaws.Because b n p ⊎ ((j : Judged) × (judged b ≡ accepted j) × EntryLaws.Short (encode (j .new)) buffer n p))
-write-refuses = ReasonLaws.write-because
+    → (write b buffer .memory ≡ buffer) × (ReasonLaws.Because (Explained b) (decode b) n p ⊎ ((j : Judged) × (judged b ≡ accepted j) × EntryLaws.Short (encode (j .new)) buffer n p))
+write-refuses b = ReasonLaws.write-because (Explained b) (decode b) (λ n p e. decode-explained b e)
 
 pub list-refuses : (b buffer : List ℕ) {n p : ℕ} → list b buffer .answer ≡ refused n p
-    → (list b buffer .memory ≡ buffer) × (ReasonLaws.NotAdmitted b n p ⊎ ((K : Ticket) × (admit b ≡ accepted K) × EntryLaws.Short (listing (K .nest)) buffer n p))
-list-refuses = ReasonLaws.list-because
+    → (list b buffer .memory ≡ buffer) × (ReasonLaws.NotAdmitted (Explained b) (decode b) n p ⊎ ((K : Ticket) × (admit b ≡ accepted K) × EntryLaws.Short (listing (K .nest)) buffer n p))
+list-refuses b = ReasonLaws.list-because (Explained b) (decode b) (λ n p e. decode-explained b e)
 
 pub quick-refuses : (b : List ℕ) (m k : ℕ) {n p : ℕ} → quick b m k ≡ refused n p
-    → ReasonLaws.NotAdmitted b n p ⊎ ((K : Ticket) × (admit b ≡ accepted K) × (EntryLaws.NoAccess (allAccesses (K .nest)) m n p ⊎ EntryLaws.NoAccess (allAccesses (K .nest)) k n p))
-quick-refuses = ReasonLaws.quick-because
+    → ReasonLaws.NotAdmitted (Explained b) (decode b) n p ⊎ ((K : Ticket) × (admit b ≡ accepted K) × (EntryLaws.NoAccess (allAccesses (K .nest)) m n p ⊎ EntryLaws.NoAccess (allAccesses (K .nest)) k n p))
+quick-refuses b = ReasonLaws.quick-because (Explained b) (decode b) (λ n p e. decode-explained b e)
 
 pub run-refuses : (b words : List ℕ) {n p : ℕ} → runEntry b words .answer ≡ refused n p
-    → (runEntry b words .memory ≡ words) × (ReasonLaws.Because b n p ⊎ ((j : Judged) × (judged b ≡ accepted j) × NotRun j words n p))
-run-refuses = ReasonLaws.run-because
+    → (runEntry b words .memory ≡ words) × (ReasonLaws.Because (Explained b) (decode b) n p ⊎ ((j : Judged) × (judged b ≡ accepted j) × NotRun j words n p))
+run-refuses b = ReasonLaws.run-because (Explained b) (decode b) (λ n p e. decode-explained b e)
 
 -- ---- the plain machine
 
@@ -138,20 +140,20 @@ reordering = CommuteLaws.reordering
 -- orders end with equal values in every element, for all starting values and all rules; write's bytes are that nest; run's store is, word for
 -- word, what the old order leaves under the ticket's own rules
 
-pub demand-3 : (b buffer words : List ℕ) → WholeLaws.SomeAccepts b buffer words → (j : Judged) × WholeLaws.Whole b buffer words j
-demand-3 = WholeLaws.accepted-whole
+pub demand-3 : (b buffer words : List ℕ) → WholeLaws.SomeAccepts (decode b) buffer words → (j : Judged) × WholeLaws.Whole (decode b) buffer words j
+demand-3 b = WholeLaws.accepted-whole (decode b) (decode-sound b)
 
 -- its parts
 
 pub orders-agree : (b : List ℕ) {j : Judged} → judged b ≡ accepted j → PromiseLaws.Promise (j .ticket .steps) (j .ticket .nest) (j .new)
-orders-agree = PromiseLaws.judged-promise
+orders-agree b = PromiseLaws.judged-promise (decode b) (decode-sound b)
 
 pub written-nest : (b buffer : List ℕ) {c : ℕ} → write b buffer .answer ≡ accepted c
     → (j : Judged) × (judged b ≡ accepted j) × EntryLaws.HandedOut (encode (j .new)) buffer c (write b buffer .memory) × (decodeNest (encode (j .new)) ≡ accepted (j .new))
-written-nest = PromiseLaws.write-hands
+written-nest b = PromiseLaws.write-hands (decode b) (decode-sound b)
 
 pub listed-text : (b buffer : List ℕ) {c : ℕ} → list b buffer .answer ≡ accepted c → (K : Ticket) × (admit b ≡ accepted K) × EntryLaws.HandedOut (listing (K .nest)) buffer c (list b buffer .memory)
-listed-text = EntryLaws.list-accepted
+listed-text b = EntryLaws.list-accepted (decode b)
 
 pub run-store : (b words : List ℕ) {c : ℕ} → runEntry b words .answer ≡ accepted c → (j : Judged) × (judged b ≡ accepted j) × PromiseLaws.Left (j .ticket .nest) words (runEntry b words .memory)
-run-store = PromiseLaws.run-leaves
+run-store b = PromiseLaws.run-leaves (decode b) (decode-sound b)

@@ -49,9 +49,9 @@ judgeSteps k (t ∷ ts) vs N =
 unfoldable pub directionsOf : Nest → List (List Sign)
 directionsOf N = directions (accesses (N .statements)) (order N)
 
--- 1 to 9
-unfoldable pub admit : List ℕ → Answer Ticket
-admit bytes = decode bytes >>= (λ T. admitted (T .nest) >> accepted T)
+-- 1 to 9 of what was decoded
+unfoldable pub admitOf : Answer Ticket → Answer Ticket
+admitOf d = d >>= (λ T. admitted (T .nest) >> accepted T)
 
 pub record Judged : Type 0 where
   pub ticket : Ticket
@@ -64,5 +64,12 @@ judgeTicket T =
     >>= (λ N. sprawl (N .loops) >> accepted (record { ticket = T; new = N }))
 
 -- 1 to 13
-unfoldable pub judged : List ℕ → Answer Judged
-judged bytes = admit bytes >>= judgeTicket
+unfoldable pub judgedOf : Answer Ticket → Answer Judged
+judgedOf d = admitOf d >>= judgeTicket
+
+-- of a ticket's bytes
+abbrev pub admit : List ℕ → Answer Ticket
+admit bytes = admitOf (decode bytes)
+
+abbrev pub judged : List ℕ → Answer Judged
+judged bytes = judgedOf (decode bytes)

@@ -5,18 +5,23 @@ use mathlib.Core.List.{List}
 use Prim.Native.Nat.{ℕ, zero, suc, _-_, _≤_, _<_}
 use native.Mathlib.Omega.{arith}
 use lib.Dec.{T, leb, leb→le, leb·zero, leb·suc-suc}
+use lib.IntN.{ℤ}
 use lib.ListN.{length, getD}
-use Rattle.model.specs.Answer.{accepted, refused, require, _>>_, _>>=_}
-use Rattle.model.specs.Ticket.{Access}
+use Rattle.model.specs.Answer.{Answer, accepted, refused, require, _>>_, _>>=_}
+use Rattle.model.specs.Ticket.{Access, Ticket}
 use Rattle.model.specs.Quick.{apart, perhaps, isApart, quickTest}
-use Rattle.model.specs.Judge.{admit}
-use Rattle.model.specs.Entries.{allAccesses, accessNumber, quick}
+use Rattle.model.specs.Judge.{admitOf}
+use Rattle.model.specs.Entries.{allAccesses, accessNumber, quickOf}
 use Rattle.reading.specs.declared.Refusal.{Refusal}
 use Rattle.reading.specs.declared.Refusal.the-variants.{WordOutOfRange}
 use Rattle.reading.specs.Refusals.{refusal}
 use Rattle.steps.specs.declared.Steps.{Steps}
 use Rattle.ticket.specs.Ticket.{ticketOn}
-use Rattle.sheet.specs.Sheets.{Sheet, nestOf, SheetIn}
+use Rattle.sheet.specs.Sheets.{Sheet, sheetOf, nestOf, SheetIn}
+use Rattle.reading.specs.declared.Status.the-variants.{Fine}
+use Rattle.intake.specs.declared.Intake.{Intake}
+use Rattle.intake.specs.Intake.{Receives}
+use Rattle.intake.proofs.AdmitLaws.{admitted-received}
 use Rattle.sheet.specs.Stages.{noAccess, accessOf, TestIn}
 use Rattle.sheet.proofs.SheetLaws.{access-count}
 use Rattle.quick_entry.specs.declared.Tested.{Tested}
@@ -103,11 +108,16 @@ module _ (P : Sheet) (h : SheetIn P) (u : ℕ) (s : Bool) (e : s ≡ (leb 1 u &&
 
 -- ---- the entry
 
-module _ (b : List ℕ) (u v : ℕ) where
-  pub refused-by : (r : Refusal) → admit b ≡ refusal r → refusal r ≡ quick b u v
-  unfolding quick tested _>>=_
+module _ (b : Answer Ticket) (u v : ℕ) where
+  pub refused-by : (r : Refusal) → admitOf b ≡ refusal r → refusal r ≡ quickOf b u v
+  unfolding quickOf tested _>>=_
   refused-by r e = ap (_>>= (λ T. tested (T .nest) u v)) (sym e)
 
-  pub answered-by : (P : Sheet) (S : Steps) → admit b ≡ accepted (ticketOn P S) → (a : Tested) → answerOf a ≡ tested (nestOf P) u v → answerOf a ≡ quick b u v
-  unfolding quick tested _>>=_ ticketOn
+  pub answered-by : (P : Sheet) (S : Steps) → admitOf b ≡ accepted (ticketOn P S) → (a : Tested) → answerOf a ≡ tested (nestOf P) u v → answerOf a ≡ quickOf b u v
+  unfolding quickOf tested _>>=_ ticketOn
   answered-by P S e a g = g ∙ ap (_>>= (λ T. tested (T .nest) u v)) (sym e)
+
+  -- what was received is tested as it stands
+  pub quick-received : (q : Intake) (l w : List ℤ) → Receives b q l w → q .status ≡ Fine → quickOf (accepted (ticketOn (sheetOf (q .outline) l w) (q .steps))) u v ≡ quickOf b u v
+  unfolding quickOf tested
+  quick-received q l w h f = ap (_>>= (λ T. tested (T .nest) u v)) (admitted-received b q l w h f)

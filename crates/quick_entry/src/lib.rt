@@ -2,11 +2,13 @@
 ghost use mathlib.Core.Path.{_≡_};
 ghost use mathlib.Core.Bool.{_&&_};
 ghost use lib.Dec.{leb};
+ghost use Rattle.model.specs.Answer.{accepted};
 ghost use Rattle.model.specs.Entries as Entries;
 ghost use Rattle.reading.specs.declared.Status.the-variants.{Fine};
 ghost use Rattle.sheet.specs.Sheets.{sheetOf, nestOf, SheetIn};
 ghost use Rattle.admission.specs.Admission.{Admits};
-ghost use Rattle.intake.specs.Intake.{Receives};
+ghost use Rattle.ticket.specs.Ticket.{ticketOn};
+ghost use Rattle.intake.specs.Intake.{Laid};
 ghost use Rattle.quick_entry.specs.Answers.{answerOf, tested};
 use intake::Intake;
 use reading::Refusal;
@@ -46,9 +48,8 @@ fn test(outline: Outline, limits: &[i16], words: &[i16], first: usize, second: u
     Tested::Perhaps
 }
 
-// The test, where refusal 9 is passed. The ticket's bytes are lent for the contract alone.
+// The test, where refusal 9 is passed.
 fn test_found(
-    ticket: &[u8],
     all: Intake,
     limits: &[i16],
     words: &[i16],
@@ -56,8 +57,8 @@ fn test_found(
     first: usize,
     second: usize,
 ) -> Tested
-    requires { ⌜ Receives (now ticket) all (now limits) (now words) × (all .status ≡ Fine) × Admits (sheetOf (all .outline) (now limits) (now words)) found ⌝ }
-    ensures { λ r. ⌜ answerOf r ≡ Entries.quick (now (ticket .entry)) first second ⌝ }
+    requires { ⌜ Laid (sheetOf (all .outline) (now limits) (now words)) (all .steps) (all .count) × (all .status ≡ Fine) × Admits (sheetOf (all .outline) (now limits) (now words)) found ⌝ }
+    ensures { λ r. ⌜ answerOf r ≡ Entries.quickOf (accepted (ticketOn (sheetOf (all .outline) (now (limits .entry)) (now (words .entry))) (all .steps))) first second ⌝ }
 {
     match found {
         Status::Fine => {}
@@ -82,8 +83,8 @@ pub fn quick(ticket: &[u8], first: usize, second: usize) -> Tested
     let outline = all.outline;
     if all.count <= 256 {
         let few = admission::admit_few(outline, &limits, &words);
-        return test_found(ticket, all, &limits, &words, few, first, second);
+        return test_found(all, &limits, &words, few, first, second);
     }
     let many = admission::admit_many(outline, &limits, &words);
-    test_found(ticket, all, &limits, &words, many, first, second)
+    test_found(all, &limits, &words, many, first, second)
 }

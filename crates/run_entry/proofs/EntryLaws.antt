@@ -8,13 +8,13 @@ use lib.IntN.{ℤ}
 use lib.ListN.{length}
 use Rattle.model.specs.Answer as Model
 use Rattle.model.specs.Answer.{accepted, refused, require, _>>_, _>>=_}
-use Rattle.model.specs.Ticket.{Nest}
+use Rattle.model.specs.Ticket.{Nest, Ticket}
 use Rattle.model.specs.Grammar.{total}
 use Rattle.model.specs.Points.{iterations}
 use Rattle.model.specs.Store.{runNest}
 use Rattle.model.specs.Judge as Judge
-use Rattle.model.specs.Judge.{admit, judged, judgeTicket}
-use Rattle.model.specs.Entries.{Outcome, transparent, runnable, ran, runEntry}
+use Rattle.model.specs.Judge.{admitOf, judgedOf, judgeTicket}
+use Rattle.model.specs.Entries.{Outcome, transparent, runnable, ran, runOf}
 use Rattle.model.proofs.Answers.PassLaws.{bind-pass, bind-stop}
 use Rattle.model.proofs.Verdict.VerdictLaws.{refused-judged, admitted-judged}
 use Rattle.reading.specs.declared.Refusal.{Refusal}
@@ -26,8 +26,8 @@ use Rattle.sheet.specs.Sheets.{Sheet, sheetOf, nestOf, SheetIn}
 use Rattle.intake.specs.declared.Intake.{Intake}
 use Rattle.intake.specs.declared.Answer.{Answer}
 use Rattle.intake.specs.declared.Answer.the-variants.{Refused}
-use Rattle.intake.specs.Intake.{Laid}
-use Rattle.intake.proofs.AdmitLaws.{admitted-too}
+use Rattle.intake.specs.Intake.{Laid, Receives}
+use Rattle.intake.proofs.AdmitLaws.{admitted-too, laid-received, judged-received}
 use Rattle.intake.specs.Answers.{Hands}
 use Rattle.judgement.specs.declared.Judged.{Judged}
 use Rattle.judgement.specs.Judgement.{judgedAs, Judges}
@@ -38,18 +38,18 @@ use Rattle.judged_run.specs.Outcomes.{tested, outcome, RunIn}
 
 -- ---- the model's entry, by its judgement
 
-module _ (b w : List ℕ) where
+module _ (b : Model.Answer Ticket) (w : List ℕ) where
   abbrev checked : Judge.Judged → Model.Answer Judge.Judged
   checked j = transparent 1 (j .ticket .nest .statements) >> require (eqb (length w) (total (j .ticket .nest .arrays))) 16 0 >> accepted j
 
-  judgement-refused : (r : Refusal) → judged b ≡ refusal r → Hands (runEntry b w) (Refused r) w
-  unfolding runEntry runnable ran
+  judgement-refused : (r : Refusal) → judgedOf b ≡ refusal r → Hands (runOf b w) (Refused r) w
+  unfolding runOf runnable ran
   judgement-refused r e = subst (λ (a : Model.Answer Judge.Judged). Hands (ran a w) (Refused r) w) (sym (bind-stop checked e)) (record { answer = refl; memory = refl })
 
   -- by what was found on the ticket's own nest
-  judgement-passes : (j : Judge.Judged) → judged b ≡ accepted j → (k t c : ℕ) → opaqueAt k ≡ transparent 1 (j .ticket .nest .statements) → t ≡ total (j .ticket .nest .arrays) → c ≡ length (iterations (j .ticket .nest .loops))
-      → runEntry b w ≡ outcome (tested k t w) c (j .new) w
-  unfolding runEntry runnable tested ran outcome _>>_ _>>=_
+  judgement-passes : (j : Judge.Judged) → judgedOf b ≡ accepted j → (k t c : ℕ) → opaqueAt k ≡ transparent 1 (j .ticket .nest .statements) → t ≡ total (j .ticket .nest .arrays) → c ≡ length (iterations (j .ticket .nest .loops))
+      → runOf b w ≡ outcome (tested k t w) c (j .new) w
+  unfolding runOf runnable tested ran outcome _>>_ _>>=_
   judgement-passes j e k t c f g i =
       ap (λ (a : Model.Answer Judge.Judged). ran a w) (bind-pass checked e)
       ∙ ap₂ (λ (a : Model.Answer (Unit {0})) (n : ℕ). ran ((a >> require (eqb (length w) n) 16 0) >> accepted j) w) (sym f) (sym g)
@@ -61,16 +61,20 @@ module _ (b w : List ℕ) where
 
 -- ---- the entry
 
-pub turned-away : (b w : List ℕ) (r : Refusal) → admit b ≡ refusal r → Hands (runEntry b w) (Refused r) w
+pub turned-away : (b : Model.Answer Ticket) (w : List ℕ) (r : Refusal) → admitOf b ≡ refusal r → Hands (runOf b w) (Refused r) w
 turned-away b w r e = judgement-refused b w r (refused-judged b e)
 
-module _ (b w : List ℕ) (q : Intake) (l m : List ℤ) (d : List Bool) (h : Judgeable b q l m d) where
+module _ (w : List ℕ) (q : Intake) (l m : List ℤ) (d : List Bool) (h : Judgeable q l m d) where
+  -- the ticket as it stands
+  abbrev b : Model.Answer Ticket
+  b = accepted (ticketOn (sheetOf (q .outline) l m) (q .steps))
+
   -- the ticket's own sheet
   abbrev own : Sheet
   own = sheetOf (q .outline) l m
 
   laid : Laid own (q .steps) (q .count)
-  laid = h .receives .laid (h .fine)
+  laid = h .laid
 
   pub sheet-in : SheetIn own
   sheet-in = laid .sheet
@@ -85,10 +89,10 @@ module _ (b w : List ℕ) (q : Intake) (l m : List ℤ) (d : List Bool) (h : Jud
     judge-is : (s : Status) → r .status ≡ s → judgeTicket (ticketOn own (q .steps)) ≡ judgedAs s whole
     judge-is s y = sym (g .same) ∙ ap (λ (x : Status). judgedAs x whole) y
 
-    judged-is : judged b ≡ judgeTicket (ticketOn own (q .steps))
-    judged-is = admitted-judged b (admitted-too b q l m (h .receives) (h .fine) Status.Fine (sym (h .admitted-is)) refl)
+    judged-is : judgedOf b ≡ judgeTicket (ticketOn own (q .steps))
+    judged-is = admitted-judged b (admitted-too b q l m (laid-received q l m (h .fine) (h .laid)) (h .fine) Status.Fine (sym (h .admitted-is)) refl)
 
-    pub not-judged : (x : Refusal) → r .status ≡ Status.Refused x → Hands (runEntry b w) (Refused x) w
+    pub not-judged : (x : Refusal) → r .status ≡ Status.Refused x → Hands (runOf b w) (Refused x) w
     not-judged x y = judgement-refused b w x (judged-is ∙ judge-is (Status.Refused x) y)
 
     module _ (y : r .status ≡ Status.Fine) where
@@ -101,6 +105,15 @@ module _ (b w : List ℕ) (q : Intake) (l m : List ℤ) (d : List Bool) (h : Jud
         counted = laid .count ∙ sym (new-count (ticketOn own (q .steps)) (laid .ranges) (laid .formed) (h .admitted-is) whole (judge-is Status.Fine y));
       }
 
-      pub handed : (k t : ℕ) → opaqueAt k ≡ transparent 1 (nestOf own .statements) → t ≡ total (nestOf own .arrays) → (a : Answer) (v : List ℕ) → Hands (outcome (tested k t w) (q .count) new w) a v → Hands (runEntry b w) a v
+      pub handed : (k t : ℕ) → opaqueAt k ≡ transparent 1 (nestOf own .statements) → t ≡ total (nestOf own .arrays) → (a : Answer) (v : List ℕ) → Hands (outcome (tested k t w) (q .count) new w) a v → Hands (runOf b w) a v
       unfolding ticketOn
       handed k t f i a v = subst (λ (x : Outcome). Hands x a v) (sym (judgement-passes b w whole (judged-is ∙ judge-is Status.Fine y) k t (q .count) f i (laid .count)))
+
+-- what was received runs as it stands
+pub run-received : (m : Model.Answer Ticket) (q : Intake) (l w : List ℤ) → Receives m q l w → q .status ≡ Status.Fine → (o : List ℕ) → runOf (accepted (ticketOn (sheetOf (q .outline) l w) (q .steps))) o ≡ runOf m o
+unfolding runOf runnable
+run-received m q l w h f o = ap (λ (x : Model.Answer Judge.Judged). ran (x >>= (λ j. transparent 1 (j .ticket .nest .statements) >> require (eqb (length o) (total (j .ticket .nest .arrays))) 16 0 >> accepted j)) o) (judged-received m q l w h f)
+
+pub handed-received : (m : Model.Answer Ticket) (q : Intake) (l w : List ℤ) → Receives m q l w → q .status ≡ Status.Fine → (o e : List ℕ) (a : Answer)
+    → Hands (runOf (accepted (ticketOn (sheetOf (q .outline) l w) (q .steps))) o) a e → Hands (runOf m o) a e
+handed-received m q l w h f o e a = subst (λ (x : Outcome). Hands x a e) (run-received m q l w h f o)

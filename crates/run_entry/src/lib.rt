@@ -1,9 +1,11 @@
 // The entry `run`: the nest of a ticket in its new order, on a store.
 ghost use mathlib.Core.Path.{_≡_};
+ghost use Rattle.model.specs.Answer.{accepted};
 ghost use Rattle.model.specs.Entries as Entries;
 ghost use Rattle.reading.specs.declared.Status.the-variants.{Fine};
 ghost use Rattle.sheet.specs.Sheets.{sheetOf};
-ghost use Rattle.intake.specs.Intake.{Receives};
+ghost use Rattle.ticket.specs.Ticket.{ticketOn};
+ghost use Rattle.intake.specs.Intake.{Laid};
 ghost use Rattle.intake.specs.Answers.{Hands};
 ghost use Rattle.finding.specs.Findings.{Directs};
 ghost use Rattle.verdict.specs.Verdicts.{Judgeable};
@@ -12,17 +14,16 @@ use intake::Answer;
 use intake::Intake;
 use reading::Status;
 
-// Refusals 10 to 16 of an admitted ticket, with the directions of its nest, and the run. The ticket's bytes are lent for the contract alone, below too.
+// Refusals 10 to 16 of an admitted ticket, with the directions of its nest, and the run.
 fn run_with(
-    ticket: &[u8],
     all: Intake,
     limits: &mut [i16],
     words: &mut [i16],
     marks: [bool; 729],
     store: &mut [u32],
 ) -> Answer
-    requires { ⌜ Judgeable (now ticket) all (now limits) (now words) marks ⌝ }
-    ensures { λ r. ⌜ Hands (Entries.runEntry (now (ticket .entry)) (now (store .entry))) r (now (store .exit)) ⌝ }
+    requires { ⌜ Judgeable all (now limits) (now words) marks ⌝ }
+    ensures { λ r. ⌜ Hands (Entries.runOf (accepted (ticketOn (sheetOf (all .outline) (now (limits .entry)) (now (words .entry))) (all .steps))) (now (store .entry))) r (now (store .exit)) ⌝ }
 {
     let outline = all.outline;
     let steps = all.steps;
@@ -44,7 +45,6 @@ fn run_with(
 
 // The same, where refusal 9 is passed.
 fn run_found(
-    ticket: &[u8],
     all: Intake,
     limits: &mut [i16],
     words: &mut [i16],
@@ -52,14 +52,14 @@ fn run_found(
     marks: [bool; 729],
     store: &mut [u32],
 ) -> Answer
-    requires { ⌜ Receives (now ticket) all (now limits) (now words) × (all .status ≡ Fine) × Directs (sheetOf (all .outline) (now limits) (now words)) found marks ⌝ }
-    ensures { λ r. ⌜ Hands (Entries.runEntry (now (ticket .entry)) (now (store .entry))) r (now (store .exit)) ⌝ }
+    requires { ⌜ Laid (sheetOf (all .outline) (now limits) (now words)) (all .steps) (all .count) × (all .status ≡ Fine) × Directs (sheetOf (all .outline) (now limits) (now words)) found marks ⌝ }
+    ensures { λ r. ⌜ Hands (Entries.runOf (accepted (ticketOn (sheetOf (all .outline) (now (limits .entry)) (now (words .entry))) (all .steps))) (now (store .entry))) r (now (store .exit)) ⌝ }
 {
     match found {
         Status::Fine => {}
         Status::Refused(r) => return Answer::Refused(r),
     }
-    run_with(ticket, all, limits, words, marks, store)
+    run_with(all, limits, words, marks, store)
 }
 
 // Judges 1 to 13, then 15 and 16. An accepted run leaves the store that the old order leaves (model, Demands: demand-3, run-store).
@@ -77,5 +77,5 @@ pub fn run(ticket: &[u8], store: &mut [u32]) -> Answer
     let outline = all.outline;
     let mut marks = [false; 729];
     let found = finding::find_directions(outline, &limits, &words, all.count, &mut marks);
-    run_found(ticket, all, &mut limits, &mut words, found, marks, store)
+    run_found(all, &mut limits, &mut words, found, marks, store)
 }

@@ -144,7 +144,7 @@ module _ (b : List ℕ) (l w : List ℤ) (lent : Lent l w) (O : Outline) (l′ w
     sheet-fine = sheet-in P w (lent .words-length) (lent .words-small) (a .arrays) (c .statements) B nest-ok (a .count ∙ sym arrays-is) few-arrays (a .laid) (c .laid body-fine) statements-is accesses-is few-accesses
         (decode-ranges b decoded-there .nest) (decode-formed b decoded-there)
 
-  pub decodes : length (P .sizes) ≡ 4 → length (P .rules) ≡ 4 → length (P .constants) ≡ 4 → length (P .owners) ≡ 20 → Decodes b (record { status = u; steps = S .steps; outline = O }) l′ w′
+  pub decodes : length (P .sizes) ≡ 4 → length (P .rules) ≡ 4 → length (P .constants) ≡ 4 → length (P .owners) ≡ 20 → Decodes (Grammar.decode b) (record { status = u; steps = S .steps; outline = O }) l′ w′
   decodes i j k o = record {
     same = same-answer u (ticketOn P (S .steps)) T ticket-same ∙ ticket-read;
     sheet = λ v. sheet-fine v i j k o;

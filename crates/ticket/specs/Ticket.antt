@@ -50,9 +50,9 @@ abbrev pub decoded : Status → Model.Ticket → Answer Model.Ticket
 decoded Status.Fine t = accepted t
 decoded (Status.Refused r) t = refusal r
 
--- the lent slices became limits and words
-pub record Decodes (b : List ℕ) (r : Decoded) (limits words : List ℤ) : Type 0 where
-  pub same : decoded (r .status) (ticketOn (sheetOf (r .outline) limits words) (r .steps)) ≡ Grammar.decode b
+-- m is the model's answer; the lent slices became limits and words
+pub record Decodes (m : Answer Model.Ticket) (r : Decoded) (limits words : List ℤ) : Type 0 where
+  pub same : decoded (r .status) (ticketOn (sheetOf (r .outline) limits words) (r .steps)) ≡ m
   pub sheet : r .status ≡ Status.Fine → SheetIn (sheetOf (r .outline) limits words)
   pub shallow : r .status ≡ Status.Fine → r .outline .depth ≤ 4
   pub steps : StepsIn (r .steps)

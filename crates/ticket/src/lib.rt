@@ -2,6 +2,7 @@
 ghost use mathlib.Core.Path.{_≡_};
 ghost use lib.ListN.{length};
 ghost use Rattle.reading.specs.Refusals.{Reached};
+ghost use Rattle.model.specs.Grammar as Grammar;
 ghost use Rattle.ticket.specs.Ticket.{endOf, Lent, Decodes};
 use reading::Refusal;
 use reading::Status;
@@ -35,7 +36,7 @@ fn end_of(status: Status, next: usize, bytes: &[u8]) -> Status
 // The four sections and nothing after them. A later section is read from where one before it was refused, and not looked at.
 pub fn decode(bytes: &[u8], limits: &mut [i16], words: &mut [i16]) -> Decoded
     requires { ⌜ Lent (now limits) (now words) ⌝ }
-    ensures { λ r. ⌜ Decodes (now (bytes .entry)) r (now (limits .exit)) (now (words .exit)) ⌝ }
+    ensures { λ r. ⌜ Decodes (Grammar.decode (now (bytes .entry))) r (now (limits .exit)) (now (words .exit)) ⌝ }
 {
     let mut counts = [0usize; 12];
     let first = nest::read_nest(bytes, 1, limits, &mut counts);

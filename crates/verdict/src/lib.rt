@@ -1,9 +1,11 @@
 // From any bytes to a verdict: refusals 1 to 13, and the new nest.
 ghost use mathlib.Core.Path.{_≡_};
 ghost use Rattle.reading.specs.declared.Status.the-variants.{Fine, Refused};
-ghost use Rattle.ticket.specs.Ticket.{Lent};
+ghost use Rattle.model.specs.Answer.{accepted};
+ghost use Rattle.model.specs.Grammar.{decode};
+ghost use Rattle.ticket.specs.Ticket.{Lent, ticketOn};
 ghost use Rattle.sheet.specs.Sheets.{sheetOf};
-ghost use Rattle.intake.specs.Intake.{Receives};
+ghost use Rattle.intake.specs.Intake.{Laid};
 ghost use Rattle.finding.specs.Findings.{Directs};
 ghost use Rattle.verdict.specs.Verdicts.{Judgeable, Decides};
 use directions::DirectionSet;
@@ -30,16 +32,10 @@ fn refused(r: Refusal, outline: Outline) -> Decided
     }
 }
 
-// Refusals 10 to 13 of an admitted ticket, with the directions of its nest. The bytes are lent for the contract alone, below too.
-fn decide_with(
-    bytes: &[u8],
-    all: Intake,
-    limits: &mut [i16],
-    words: &mut [i16],
-    marks: [bool; 729],
-) -> Decided
-    requires { ⌜ Judgeable (now bytes) all (now limits) (now words) marks ⌝ }
-    ensures { λ r. ⌜ Decides (now (bytes .entry)) r (now (limits .exit)) (now (words .exit)) ⌝ }
+// Refusals 10 to 13 of an admitted ticket, with the directions of its nest.
+fn decide_with(all: Intake, limits: &mut [i16], words: &mut [i16], marks: [bool; 729]) -> Decided
+    requires { ⌜ Judgeable all (now limits) (now words) marks ⌝ }
+    ensures { λ r. ⌜ Decides (accepted (ticketOn (sheetOf (all .outline) (now (limits .entry)) (now (words .entry))) (all .steps))) r (now (limits .exit)) (now (words .exit)) ⌝ }
 {
     let outline = all.outline;
     let steps = all.steps;
@@ -59,28 +55,27 @@ fn decide_with(
 
 // The same, where refusal 9 is passed.
 fn decide_found(
-    bytes: &[u8],
     all: Intake,
     limits: &mut [i16],
     words: &mut [i16],
     found: Status,
     marks: [bool; 729],
 ) -> Decided
-    requires { ⌜ Receives (now bytes) all (now limits) (now words) × (all .status ≡ Fine) × Directs (sheetOf (all .outline) (now limits) (now words)) found marks ⌝ }
-    ensures { λ r. ⌜ Decides (now (bytes .entry)) r (now (limits .exit)) (now (words .exit)) ⌝ }
+    requires { ⌜ Laid (sheetOf (all .outline) (now limits) (now words)) (all .steps) (all .count) × (all .status ≡ Fine) × Directs (sheetOf (all .outline) (now limits) (now words)) found marks ⌝ }
+    ensures { λ r. ⌜ Decides (accepted (ticketOn (sheetOf (all .outline) (now (limits .entry)) (now (words .entry))) (all .steps))) r (now (limits .exit)) (now (words .exit)) ⌝ }
 {
     let outline = all.outline;
     match found {
         Status::Fine => {}
         Status::Refused(r) => return refused(r, outline),
     }
-    decide_with(bytes, all, limits, words, marks)
+    decide_with(all, limits, words, marks)
 }
 
 // Of any bytes.
 pub fn decide(bytes: &[u8], limits: &mut [i16], words: &mut [i16]) -> Decided
     requires { ⌜ Lent (now limits) (now words) ⌝ }
-    ensures { λ r. ⌜ Decides (now (bytes .entry)) r (now (limits .exit)) (now (words .exit)) ⌝ }
+    ensures { λ r. ⌜ Decides (decode (now (bytes .entry))) r (now (limits .exit)) (now (words .exit)) ⌝ }
 {
     let all = intake::receive(bytes, limits, words);
     let outline = all.outline;
@@ -91,5 +86,5 @@ pub fn decide(bytes: &[u8], limits: &mut [i16], words: &mut [i16]) -> Decided
     }
     let mut marks = [false; 729];
     let found = finding::find_directions(outline, limits, words, all.count, &mut marks);
-    decide_found(bytes, all, limits, words, found, marks)
+    decide_found(all, limits, words, found, marks)
 }

@@ -7,8 +7,9 @@ use Rattle.lists.proofs.PartLaws.{put-all}
 use Rattle.model.specs.Answer.{Answer, accepted, _>>=_}
 use Rattle.model.specs.Ticket.{Nest}
 use Rattle.model.specs.Judge.{Judged}
+use Rattle.model.specs.Grammar.{decode}
 use Rattle.model.specs.Encode.{encode}
-use Rattle.model.specs.Entries.{Outcome, handOut, write}
+use Rattle.model.specs.Entries.{Outcome, handOut, write, writeOf}
 use Rattle.reading.specs.declared.Refusal.{Refusal}
 use Rattle.reading.specs.declared.Refusal.the-variants.{BufferTooShort}
 use Rattle.reading.specs.declared.Status.{Status}
@@ -26,7 +27,7 @@ use Rattle.intake.proofs.AnswerLaws.{refused-before, too-short, written}
 use Rattle.verdict.specs.declared.Decided.{Decided}
 use Rattle.verdict.specs.Verdicts.{Decides}
 
-module _ (b : List ℕ) (d : Decided) (l w : List ℤ) (h : Decides b d l w) (o : List ℕ) where
+module _ (b : List ℕ) (d : Decided) (l w : List ℤ) (h : Decides (decode b) d l w) (o : List ℕ) where
   abbrev new : Nest
   new = nestOf (sheetOf (d .outline) l w)
 
@@ -34,7 +35,7 @@ module _ (b : List ℕ) (d : Decided) (l w : List ℤ) (h : Decides b d l w) (o 
   bytes s = judgedAs s (record { ticket = h .ticket; new = new }) >>= (λ (j : Judged). accepted (encode (j .new)))
 
   whole : handOut (bytes (d .status)) o ≡ write b o
-  unfolding write
+  unfolding writeOf
   whole = ap (λ x. handOut (x >>= (λ (j : Judged). accepted (encode (j .new)))) o) (h .same)
 
   pub write-refused : (r : Refusal) → d .status ≡ Status.Refused r → Hands (write b o) (Refused r) o

@@ -1,4 +1,5 @@
 -- `receive`: the grammar, then refusals 7 and 8.
+use Rattle.model.proofs.Grammar.GrammarLaws.{decode-sound}
 use Rattle.intake.proofs.IntakeLaws.{decode-refused, space-refused, received-out}
 use borrow.Author.Needs.{needs}
 use Rattle.intake.proofs.receive.Statement.{statement}
@@ -44,7 +45,7 @@ same-length-4 : tie.Need-same-length-4
 same-length-4 c = search needs
 
 returns-2 : tie.Need-returns-2
-returns-2 c = let d = c .before .before .before .before .before .before .before .before .before .before .before .before .decode in let n = c .before .before .before .count-points in received-out _ (d .result) _ _ (d .ensures) (c .before .before .before .before .before .before .enum-told .given .1) (n .result) (n .ensures) _ (c .before .n .given .1)
+returns-2 c = let d = c .before .before .before .before .before .before .before .before .before .before .before .before .decode in let n = c .before .before .before .count-points in received-out _ (d .result) _ _ (d .ensures) (c .before .before .before .before .before .before .enum-told .given .1) (n .result) (n .ensures) _ (c .before .n .given .1) (decode-sound _)
 
 same-length-5 : tie.Need-same-length-5
 same-length-5 c = search needs

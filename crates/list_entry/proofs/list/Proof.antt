@@ -3,7 +3,7 @@ use mathlib.Core.Path.{refl}
 use Rattle.ticket.proofs.DecodeLaws.{zeros-lent}
 use Rattle.intake.proofs.AdmitLaws.{not-received, waits}
 use Rattle.finding.proofs.FindingLaws.{find-in}
-use Rattle.list_entry.proofs.ListLaws.{turned-away}
+use Rattle.list_entry.proofs.ListLaws.{turned-away, handed-received}
 use borrow.Author.Needs.{needs}
 use Rattle.list_entry.proofs.list.Statement.{statement}
 use Rattle.list_entry.proofs.list.Tie as tie
@@ -36,13 +36,13 @@ slice-aggregate-list-with-3 : tie.Need-slice-aggregate-list-with-3
 slice-aggregate-list-with-3 c = search needs
 
 list-with-requires : tie.Need-list-with-requires
-list-with-requires c κs = let r = c .before .before .before .before .before .before .before .before .before .before .before .receive in let f = c .before .before .before .before .before .before .before .enum-told .given .1 in (r .ensures, f, find-in _ (r .result .count) (waits _ (r .result) _ _ (r .ensures) f) 2 (c .before .before .before .before .if1 .taken) 8748 refl)
+list-with-requires c κs = let r = c .before .before .before .before .before .before .before .before .before .before .before .receive in let f = c .before .before .before .before .before .before .before .enum-told .given .1 in (r .ensures .laid f, f, find-in _ (r .result .count) (waits _ (r .result) _ _ (r .ensures) f) 2 (c .before .before .before .before .if1 .taken) 8748 refl)
 
 same-length : tie.Need-same-length
 same-length c = search needs
 
 returns-2 : tie.Need-returns-2
-returns-2 c = search needs
+returns-2 c = let r = c .before .before .before .before .before .before .before .before .before .before .before .before .before .before .before .receive in let f = c .before .before .before .before .before .before .before .before .before .before .before .enum-told .given .1 in let g = c .before .before .before .list-with in handed-received _ (r .result) _ _ (r .ensures) f _ _ (g .result) (g .ensures)
 
 slice-aggregate-list-with-4 : tie.Need-slice-aggregate-list-with-4
 slice-aggregate-list-with-4 c = search needs
@@ -54,13 +54,13 @@ slice-aggregate-list-with-6 : tie.Need-slice-aggregate-list-with-6
 slice-aggregate-list-with-6 c = search needs
 
 list-with-requires-2 : tie.Need-list-with-requires-2
-list-with-requires-2 c κs = let r = c .before .before .before .before .before .before .before .before .before .before .before .receive in let f = c .before .before .before .before .before .before .before .enum-told .given .1 in let v = waits _ (r .result) _ _ (r .ensures) f in (r .ensures, f, find-in _ (r .result .count) v 4 (v .nest .sheet .few-statements) 34992 refl)
+list-with-requires-2 c κs = let r = c .before .before .before .before .before .before .before .before .before .before .before .receive in let f = c .before .before .before .before .before .before .before .enum-told .given .1 in let v = waits _ (r .result) _ _ (r .ensures) f in (r .ensures .laid f, f, find-in _ (r .result .count) v 4 (v .nest .sheet .few-statements) 34992 refl)
 
 same-length-2 : tie.Need-same-length-2
 same-length-2 c = search needs
 
 returns-3 : tie.Need-returns-3
-returns-3 c = search needs
+returns-3 c = let r = c .before .before .before .before .before .before .before .before .before .before .before .before .before .before .before .receive in let f = c .before .before .before .before .before .before .before .before .before .before .before .enum-told .given .1 in let g = c .before .before .before .list-with2 in handed-received _ (r .result) _ _ (r .ensures) f _ _ (g .result) (g .ensures)
 
 pub list-spec : {M : Type 1} → statement M
 list-spec =

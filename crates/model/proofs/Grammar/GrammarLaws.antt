@@ -9,7 +9,7 @@ use lib.IntN.{ℤ}
 use lib.ListN.{length, length-append}
 use Rattle.lists.specs.Membership.{All}
 use Rattle.lists.proofs.MembershipLaws.{all-nil, all-cons}
-use Rattle.model.specs.Answer.{accepted}
+use Rattle.model.specs.Answer.{Answer, accepted}
 use Rattle.model.specs.Ticket.{Loop, Step, exchange, reversal, skew, section, Nest, Ticket}
 use Rattle.model.specs.Grammar.{Reader, _>>=_, _>>_, nest, end, ticket, decode}
 use Rattle.model.specs.Encode.{counted, loopWords, arrayWords, statementWords}
@@ -140,6 +140,11 @@ decode-leads b = leads-bind (Met (TicketRead b) b 1) (Explained b) (Decoded b) (
 
 -- ---- accepted tickets
 
+-- what every reader of tickets gives: an accepted one is in its ranges and well formed
+pub record Sound (d : Answer Ticket) : Type 0 where
+  pub ranges : {T : Ticket} → d ≡ accepted T → TicketRanges T
+  pub formed : {T : Ticket} → d ≡ accepted T → WellFormed (T .nest)
+
 module _ (b : List ℕ) {T : Ticket} (e : decode b ≡ accepted T) where
   pub decoded : Decoded b T
   decoded = leads-accepted (Decoded b) (Explained b) (decode-leads b) e
@@ -152,3 +157,10 @@ module _ (b : List ℕ) {T : Ticket} (e : decode b ≡ accepted T) where
 
   pub decode-proper : All Proper (T .steps)
   decode-proper = steps-proper (T .steps) (length (T .nest .loops)) (decoded .ranges .steps)
+
+module _ (d : Answer Ticket) (sound : Sound d) {T : Ticket} (e : d ≡ accepted T) where
+  pub sound-proper : All Proper (T .steps)
+  sound-proper = steps-proper (T .steps) (length (T .nest .loops)) (sound .ranges e .steps)
+
+pub decode-sound : (b : List ℕ) → Sound (decode b)
+decode-sound b = record { ranges = decode-ranges b; formed = decode-formed b }

@@ -1,4 +1,4 @@
--- Demand 3 on the definitions: from steps that pass on a well-formed nest to equal iterations and equal values; then for the bytes of a ticket;
+-- Demand 3 on the definitions: from steps that pass on a well-formed nest to equal iterations and equal values; then for a ticket, however it was read;
 -- then what write hands out and the store that run leaves.
 use mathlib.Core.Path.{_≡_, refl, sym, ap, _∙_, subst}
 use mathlib.Core.List.{List, [], map}
@@ -8,19 +8,19 @@ use lib.IntN.{pos}
 use lib.ListN.{length, getD}
 use Rattle.lists.specs.Membership.{All, Distinct, SameMembers}
 use Rattle.lists.proofs.TestLaws.{false-not-T}
-use Rattle.model.specs.Answer.{accepted}
-use Rattle.model.specs.Ticket.{Step, Nest}
-use Rattle.model.specs.Grammar.{decode, decodeNest, total}
+use Rattle.model.specs.Answer.{Answer, accepted}
+use Rattle.model.specs.Ticket.{Step, Nest, Ticket}
+use Rattle.model.specs.Grammar.{decodeNest, total}
 use Rattle.model.specs.Points.{iterations, partialPoints}
 use Rattle.model.specs.Machine.{Element, State, Rules, accesses, instances, order, exec, originally, run}
 use Rattle.model.specs.Steps.{forwardAll, undoAll}
 use Rattle.model.specs.Limits.{nestAfterAll}
-use Rattle.model.specs.Judge.{Judged, directionsOf, judged}
+use Rattle.model.specs.Judge.{Judged, directionsOf, judgedOf}
 use Rattle.model.specs.Store.{placeOf, performOn, runNest, ownRules}
 use Rattle.model.specs.Encode.{encode}
-use Rattle.model.specs.Entries.{judge, write, runEntry}
+use Rattle.model.specs.Entries.{judgeOf, writeOf, runOf}
 use Rattle.model.specs.Shape.{Proper, WellFormed}
-use Rattle.model.proofs.Grammar.GrammarLaws.{decode-formed, decode-proper}
+use Rattle.model.proofs.Grammar.GrammarLaws.{Sound, sound-proper}
 use Rattle.model.proofs.Points.PointLaws.{iterations-rise, iterations-full}
 use Rattle.model.proofs.Points.ArrayLaws.{arrays-inside}
 use Rattle.model.proofs.Steps.KeepLaws.{all-steps-keep-points, each-once, taken-back, same-count}
@@ -96,48 +96,48 @@ module _ (ts : List Step) (proper : All Proper ts) (N : Nest) (formed : WellForm
       (instances-in-store (N .arrays) (length (N .loops)) (N .statements) (iterations (N .loops)) (formed .fits) stay)
       alike (all-steps-keep-points ts proper N formed) (rules-kept ts N) (constants-kept ts N) (equal (ownRules (N .statements))) w l)
 
--- ---- the bytes of a ticket
+-- ---- a ticket, however it was read
 
 -- what acceptance of a ticket gives
-pub record Accepted (bytes : List ℕ) (j : Judged) : Type 0 where
-  pub decoded : decode bytes ≡ accepted (j .ticket)
+pub record Accepted (d : Answer Ticket) (j : Judged) : Type 0 where
+  pub decoded : d ≡ accepted (j .ticket)
   pub formed : WellFormed (j .ticket .nest)
   pub proper : All Proper (j .ticket .steps)
   pub pass : StepsPass (j .ticket .steps) (directionsOf (j .ticket .nest)) (j .ticket .nest)
   pub stay : All (NoneStrays (j .ticket .nest .arrays) (iterations (j .ticket .nest .loops))) (j .ticket .nest .statements)
   pub new : j .new ≡ nestAfterAll (j .ticket .steps) (j .ticket .nest)
 
-pub judged-gives : (bytes : List ℕ) {j : Judged} → judged bytes ≡ accepted j → Accepted bytes j
-judged-gives bytes {j} e =
-    let r = judged-accepted bytes e in
+pub judged-gives : (d : Answer Ticket) → Sound d → {j : Judged} → judgedOf d ≡ accepted j → Accepted d j
+judged-gives d sound {j} e =
+    let r = judged-accepted d e in
     let T = r .0 in
-    let a = admit-accepted bytes (r .1) in
+    let a = admit-accepted d (r .1) in
     let b = admitted-accepted (T .nest) (a .1) in
     let v = judgeTicket-accepted T (r .2) in
-    subst (Accepted bytes) (sym (v .0)) (record {
+    subst (Accepted d) (sym (v .0)) (record {
       decoded = a .0;
-      formed = decode-formed bytes (a .0);
-      proper = decode-proper bytes (a .0);
+      formed = sound .formed (a .0);
+      proper = sound-proper d sound (a .0);
       pass = v .1 .0;
       stay = λ s m p i c k t. false-not-T _ (arrays-inside (T .nest .arrays) (iterations (T .nest .loops)) 1 (T .nest .statements) (b .1) s m p i c k) t;
       new = refl;
     })
 
-pub judged-promise : (bytes : List ℕ) {j : Judged} → judged bytes ≡ accepted j → Promise (j .ticket .steps) (j .ticket .nest) (j .new)
-judged-promise bytes {j} e = let a = judged-gives bytes e in
+pub judged-promise : (d : Answer Ticket) → Sound d → {j : Judged} → judgedOf d ≡ accepted j → Promise (j .ticket .steps) (j .ticket .nest) (j .new)
+judged-promise d sound {j} e = let a = judged-gives d sound e in
     subst (Promise (j .ticket .steps) (j .ticket .nest)) (sym (a .new)) (promise (j .ticket .steps) (a .proper) (j .ticket .nest) (a .formed) (a .pass))
 
 -- ---- the count that judge answers
 
-pub judge-counts : (bytes : List ℕ) {c : ℕ} → judge bytes ≡ accepted c
-    → (j : Judged) × (judged bytes ≡ accepted j) × (c ≡ length (partialPoints (length (j .ticket .nest .loops)) (j .ticket .nest .loops)))
-judge-counts bytes e = let r = judge-accepted bytes e in (r .0, r .1, r .2 ∙ ap length (iterations-full (r .0 .ticket .nest .loops)))
+pub judge-counts : (d : Answer Ticket) {c : ℕ} → judgeOf d ≡ accepted c
+    → (j : Judged) × (judgedOf d ≡ accepted j) × (c ≡ length (partialPoints (length (j .ticket .nest .loops)) (j .ticket .nest .loops)))
+judge-counts d e = let r = judge-accepted d e in (r .0, r .1, r .2 ∙ ap length (iterations-full (r .0 .ticket .nest .loops)))
 
 -- ---- what write hands out
 
-pub write-hands : (bytes buffer : List ℕ) {c : ℕ} → write bytes buffer .answer ≡ accepted c
-    → (j : Judged) × (judged bytes ≡ accepted j) × HandedOut (encode (j .new)) buffer c (write bytes buffer .memory) × (decodeNest (encode (j .new)) ≡ accepted (j .new))
-write-hands bytes buffer e = let r = write-accepted bytes buffer e in (r .0, r .1, r .2, judged-written bytes (r .1))
+pub write-hands : (d : Answer Ticket) → Sound d → (buffer : List ℕ) {c : ℕ} → writeOf d buffer .answer ≡ accepted c
+    → (j : Judged) × (judgedOf d ≡ accepted j) × HandedOut (encode (j .new)) buffer c (writeOf d buffer .memory) × (decodeNest (encode (j .new)) ≡ accepted (j .new))
+write-hands d sound buffer e = let r = write-accepted d buffer e in (r .0, r .1, r .2, judged-written d sound (r .1))
 
 -- ---- the store that run leaves
 
@@ -149,15 +149,15 @@ pub record Left (N : Nest) (words memory : List ℕ) : Type 0 where
   pub as-plain : (e : Element) → Valid (N .arrays) e → exec (accesses (N .statements)) (ownRules (N .statements)) (order N) (stateOf (N .arrays) words) e ≡ pos (getD memory (placeOf (N .arrays) e) 0)
   pub size : length memory ≡ length words
 
-pub run-leaves : (bytes words : List ℕ) {c : ℕ} → runEntry bytes words .answer ≡ accepted c
-    → (j : Judged) × (judged bytes ≡ accepted j) × Left (j .ticket .nest) words (runEntry bytes words .memory)
+pub run-leaves : (d : Answer Ticket) → Sound d → (words : List ℕ) {c : ℕ} → runOf d words .answer ≡ accepted c
+    → (j : Judged) × (judgedOf d ≡ accepted j) × Left (j .ticket .nest) words (runOf d words .memory)
 unfolding runNest
-run-leaves bytes words e =
-    let r = run-accepted bytes words e in
+run-leaves d sound words e =
+    let r = run-accepted d words e in
     let j = r .0 in
     let N = j .ticket .nest in
-    let a = judged-gives bytes (r .1 .verdict) in
-    let old : runEntry bytes words .memory ≡ runNest N words = r .3 ∙ ap (λ M. runNest M words) (a .new) ∙ same-store (j .ticket .steps) (a .proper) N (a .formed) (a .pass) (a .stay) words (r .1 .right) in
+    let a = judged-gives d sound (r .1 .verdict) in
+    let old : runOf d words .memory ≡ runNest N words = r .3 ∙ ap (λ M. runNest M words) (a .new) ∙ same-store (j .ticket .steps) (a .proper) N (a .formed) (a .pass) (a .stay) words (r .1 .right) in
     let s = run-shows (N .arrays) (N .statements) (order N) words (stateOf (N .arrays) words)
     (instances-in-store (N .arrays) (length (N .loops)) (N .statements) (iterations (N .loops)) (a .formed .fits) (a .stay)) (stateOf-shown (N .arrays) words (r .1 .right)) in (
       j,

@@ -1,5 +1,5 @@
 -- The nest that accepted steps make can be written, and what is written reads as that nest. In order: the counts that a written nest may have, after
--- steps; its limits and subscripts, where the numbers are small; the new nest of a ticket, and of a ticket's bytes.
+-- steps; its limits and subscripts, where the numbers are small; the new nest of a ticket, however it was read.
 use mathlib.Core.Path.{_≡_, refl, sym, _∙_, subst}
 use mathlib.Core.List.{List, [], _∷_, flatMap, List·Memᴰ·head, List·Memᴰ·tail, Memᴰ·append-left, Memᴰ·append-right}
 use Prim.Native.Nat.{ℕ, _≤_, _<_}
@@ -9,7 +9,7 @@ use Rattle.integers.specs.Sign.{Sign}
 use Rattle.lists.specs.Membership.{All}
 use Rattle.lists.proofs.MembershipLaws.{map-all}
 use Rattle.lists.proofs.FlatMapLaws.{mem-flatMap}
-use Rattle.model.specs.Answer.{accepted}
+use Rattle.model.specs.Answer.{Answer, accepted}
 use Rattle.model.specs.Ticket.{Limit, Loop, Access, Statement, Step, exchange, reversal, skew, section, Nest, Ticket}
 use Rattle.model.specs.Grammar.{total, mostStatements, decodeNest}
 use Rattle.model.specs.Bounds.{accessesOf}
@@ -17,11 +17,11 @@ use Rattle.model.specs.Limits.{accessAfter, statementAfter, nestAfter, n
 use Rattle.model.specs.Encode.{encode}
 use Rattle.model.specs.Shape.{Runs, WellFormed}
 use Rattle.model.specs.Ranges.{InRange, Small, LimitRanges, LoopRanges, ArrayRanges, SubscriptRanges, AccessRanges, StatementRanges, NestRanges, StepThere, StepsThere, TicketRanges}
-use Rattle.model.specs.Judge.{Judged, judged}
+use Rattle.model.specs.Judge.{Judged, judgedOf}
 use Rattle.model.proofs.Steps.LengthLaws.{There, depth-after}
 use Rattle.model.proofs.Steps.WellFormedLaws.{well-formed-after-all}
 use Rattle.model.proofs.Grammar.StepReading.{depth-there}
-use Rattle.model.proofs.Grammar.GrammarLaws.{ranges-wider, steps-proper, decode-ranges, decode-formed}
+use Rattle.model.proofs.Grammar.GrammarLaws.{Sound, ranges-wider, steps-proper}
 use Rattle.model.proofs.Grammar.RoundTripLaws.{encode-decodes}
 use Rattle.model.proofs.Verdict.SmallLaws.{limitNumbers, loopNumbers, subscriptNumbers, accessNumbers, statementNumbers, nestNumbers}
 use Rattle.model.proofs.Verdict.JudgeStepLaws.{Few}
@@ -168,10 +168,10 @@ module _ (T : Ticket) (r : TicketRanges T) (w : WellFormed (T .nest)) where
   pub new-written : (vs : List (List Sign)) → StepsPass (T .steps) vs (T .nest) → decodeNest (encode (nestAfterAll (T .steps) (T .nest))) ≡ accepted (nestAfterAll (T .steps) (T .nest))
   new-written vs h = encode-decodes (nestAfterAll (T .steps) (T .nest)) new-formed (new-ranges vs h)
 
--- of the bytes of an accepted ticket
-pub judged-written : (bytes : List ℕ) {j : Judged} → judged bytes ≡ accepted j → decodeNest (encode (j .new)) ≡ accepted (j .new)
-judged-written bytes e =
-    let r = judged-accepted bytes e in
-    let d = admit-accepted bytes (r .1) .0 in
+-- of an accepted ticket, however it was read
+pub judged-written : (d : Answer Ticket) → Sound d → {j : Judged} → judgedOf d ≡ accepted j → decodeNest (encode (j .new)) ≡ accepted (j .new)
+judged-written d sound e =
+    let r = judged-accepted d e in
+    let t = admit-accepted d (r .1) .0 in
     let q = judgeTicket-accepted (r .0) (r .2) in
-    rw (q .0) (new-written (r .0) (decode-ranges bytes d) (decode-formed bytes d) _ (q .1 .0))
+    rw (q .0) (new-written (r .0) (sound .ranges t) (sound .formed t) _ (q .1 .0))

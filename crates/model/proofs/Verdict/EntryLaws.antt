@@ -1,5 +1,5 @@
 -- The entries but `run`: where each answer comes from, and what the lent memory holds in the end. In order: `judge`; text handed out (14), then
--- `write` and `list`; access numbers, then `quick`. `run` is in `RunLaws`; what `admit` and `judged` refuse is in `VerdictLaws`.
+-- `write` and `list`; access numbers, then `quick`. `run` is in `RunLaws`; what `admitOf` and `judgedOf` refuse is in `VerdictLaws`.
 use mathlib.Core.Path.{_≡_, refl, sym, subst}
 use mathlib.Core.Logic.{_⊎_, inl, inr, ⊎-elim}
 use mathlib.Core.List.{List, [], _++_, Memᴰ·cast}
@@ -15,22 +15,22 @@ use Rattle.lists.proofs.TestLaws.{cond-cases}
 use Rattle.model.specs.Answer.{Answer, accepted, refused, require, _>>=_, _>>_}
 use Rattle.model.specs.Ticket.{Access, Ticket}
 use Rattle.model.specs.Points.{iterations}
-use Rattle.model.specs.Judge.{admit, judged, Judged}
+use Rattle.model.specs.Judge.{admitOf, judgedOf, Judged}
 use Rattle.model.specs.Encode.{encode}
 use Rattle.model.specs.Listing.{listing}
 use Rattle.model.specs.Quick.{Independence, quickTest}
-use Rattle.model.specs.Entries.{Outcome, judge, handOut, write, list, allAccesses, accessNumber, quick}
+use Rattle.model.specs.Entries.{Outcome, judgeOf, handOut, writeOf, listOf, allAccesses, accessNumber, quickOf}
 use Rattle.model.proofs.Answers.AnswerLaws.{not-both, accepted-same, bind-accepted, bind-refused, then-accepted, then-refused, require-accepted, require-refused}
 
 -- ---- judge: the count of iterations, or the verdict
 
-pub judge-accepted : (bytes : List ℕ) {c : ℕ} → judge bytes ≡ accepted c → (j : Judged) × (judged bytes ≡ accepted j) × (c ≡ length (iterations (j .ticket .nest .loops)))
-unfolding judge
-judge-accepted bytes e = let r = bind-accepted (judged bytes) (λ j. accepted (length (iterations (j .ticket .nest .loops)))) e in (r .value, r .first, sym (accepted-same (r .rest)))
+pub judge-accepted : (d : Answer Ticket) {c : ℕ} → judgeOf d ≡ accepted c → (j : Judged) × (judgedOf d ≡ accepted j) × (c ≡ length (iterations (j .ticket .nest .loops)))
+unfolding judgeOf
+judge-accepted d e = let r = bind-accepted (judgedOf d) (λ j. accepted (length (iterations (j .ticket .nest .loops)))) e in (r .value, r .first, sym (accepted-same (r .rest)))
 
-pub judge-refused : (bytes : List ℕ) {n p : ℕ} → judge bytes ≡ refused n p → judged bytes ≡ refused n p
-unfolding judge
-judge-refused bytes e = ⊎-elim (λ f. f) (λ r. not-both (r .rest)) (bind-refused (judged bytes) (λ j. accepted (length (iterations (j .ticket .nest .loops)))) e)
+pub judge-refused : (d : Answer Ticket) {n p : ℕ} → judgeOf d ≡ refused n p → judgedOf d ≡ refused n p
+unfolding judgeOf
+judge-refused d e = ⊎-elim (λ f. f) (λ r. not-both (r .rest)) (bind-refused (judgedOf d) (λ j. accepted (length (iterations (j .ticket .nest .loops)))) e)
 
 -- ---- text handed out
 
@@ -107,28 +107,28 @@ module _ {A : Type 0} (m : Answer A) (text : A → List ℕ) (buffer : List ℕ)
       let q = bind-accepted m (λ a. accepted (text a)) (r .1) in
       (q .value, q .first, subst (λ t. HandedOut t buffer c (handed .memory)) (sym (accepted-same (q .rest))) (r .2))
 
-module _ (bytes buffer : List ℕ) where
+module _ (d : Answer Ticket) (buffer : List ℕ) where
   -- write: 1 to 13, then 14
-  pub write-refused : {n p : ℕ} → write bytes buffer .answer ≡ refused n p
-      → (write bytes buffer .memory ≡ buffer) × ((judged bytes ≡ refused n p) ⊎ ((j : Judged) × (judged bytes ≡ accepted j) × Short (encode (j .new)) buffer n p))
-  unfolding write
-  write-refused e = withheld (judged bytes) (λ j. encode (j .new)) buffer e
+  pub write-refused : {n p : ℕ} → writeOf d buffer .answer ≡ refused n p
+      → (writeOf d buffer .memory ≡ buffer) × ((judgedOf d ≡ refused n p) ⊎ ((j : Judged) × (judgedOf d ≡ accepted j) × Short (encode (j .new)) buffer n p))
+  unfolding writeOf
+  write-refused e = withheld (judgedOf d) (λ j. encode (j .new)) buffer e
 
-  pub write-accepted : {c : ℕ} → write bytes buffer .answer ≡ accepted c
-      → (j : Judged) × (judged bytes ≡ accepted j) × HandedOut (encode (j .new)) buffer c (write bytes buffer .memory)
-  unfolding write
-  write-accepted e = handed-over (judged bytes) (λ j. encode (j .new)) buffer e
+  pub write-accepted : {c : ℕ} → writeOf d buffer .answer ≡ accepted c
+      → (j : Judged) × (judgedOf d ≡ accepted j) × HandedOut (encode (j .new)) buffer c (writeOf d buffer .memory)
+  unfolding writeOf
+  write-accepted e = handed-over (judgedOf d) (λ j. encode (j .new)) buffer e
 
   -- list: 1 to 9, then 14
-  pub list-refused : {n p : ℕ} → list bytes buffer .answer ≡ refused n p
-      → (list bytes buffer .memory ≡ buffer) × ((admit bytes ≡ refused n p) ⊎ ((T : Ticket) × (admit bytes ≡ accepted T) × Short (listing (T .nest)) buffer n p))
-  unfolding list
-  list-refused e = withheld (admit bytes) (λ T. listing (T .nest)) buffer e
+  pub list-refused : {n p : ℕ} → listOf d buffer .answer ≡ refused n p
+      → (listOf d buffer .memory ≡ buffer) × ((admitOf d ≡ refused n p) ⊎ ((T : Ticket) × (admitOf d ≡ accepted T) × Short (listing (T .nest)) buffer n p))
+  unfolding listOf
+  list-refused e = withheld (admitOf d) (λ T. listing (T .nest)) buffer e
 
-  pub list-accepted : {c : ℕ} → list bytes buffer .answer ≡ accepted c
-      → (T : Ticket) × (admit bytes ≡ accepted T) × HandedOut (listing (T .nest)) buffer c (list bytes buffer .memory)
-  unfolding list
-  list-accepted e = handed-over (admit bytes) (λ T. listing (T .nest)) buffer e
+  pub list-accepted : {c : ℕ} → listOf d buffer .answer ≡ accepted c
+      → (T : Ticket) × (admitOf d ≡ accepted T) × HandedOut (listing (T .nest)) buffer c (listOf d buffer .memory)
+  unfolding listOf
+  list-accepted e = handed-over (admitOf d) (λ T. listing (T .nest)) buffer e
 
 -- ---- quick: 1 to 9, then the access numbers
 
@@ -161,28 +161,28 @@ module _ (l : List Access) (a : ℕ) where
       (λ f. not-both (f .rest))
       (then-refused (require (leb 1 a) 4 0 >> require (leb a (length l)) 4 0) (accepted (getD l (a - 1) blank)) e)
 
-module _ (bytes : List ℕ) (a b : ℕ) where
+module _ (d : Answer Ticket) (a b : ℕ) where
   abbrev second : Ticket → Access → Answer Independence
   second T u = accessNumber (allAccesses (T .nest)) b >>= (λ v. accepted (quickTest (T .nest .loops) u v))
 
   abbrev asked : Ticket → Answer Independence
   asked T = accessNumber (allAccesses (T .nest)) a >>= second T
 
-  pub quick-accepted : {i : Independence} → quick bytes a b ≡ accepted i
-      → (T : Ticket) × (u : Access) × (v : Access) × (admit bytes ≡ accepted T) × (accessNumber (allAccesses (T .nest)) a ≡ accepted u)
+  pub quick-accepted : {i : Independence} → quickOf d a b ≡ accepted i
+      → (T : Ticket) × (u : Access) × (v : Access) × (admitOf d ≡ accepted T) × (accessNumber (allAccesses (T .nest)) a ≡ accepted u)
       × (accessNumber (allAccesses (T .nest)) b ≡ accepted v) × (i ≡ quickTest (T .nest .loops) u v)
-  unfolding quick
+  unfolding quickOf
   quick-accepted e =
-      let r = bind-accepted (admit bytes) asked e in
+      let r = bind-accepted (admitOf d) asked e in
       let q = bind-accepted (accessNumber (allAccesses (r .value .nest)) a) (second (r .value)) (r .rest) in
       let s = bind-accepted (accessNumber (allAccesses (r .value .nest)) b) (λ v. accepted (quickTest (r .value .nest .loops) (q .value) v)) (q .rest) in
       (r .value, q .value, s .value, r .first, q .first, s .first, sym (accepted-same (s .rest)))
 
-  pub quick-refused : {n p : ℕ} → quick bytes a b ≡ refused n p
-      → (admit bytes ≡ refused n p)
-      ⊎ ((T : Ticket) × (admit bytes ≡ accepted T) × (NoAccess (allAccesses (T .nest)) a n p ⊎ NoAccess (allAccesses (T .nest)) b n p))
-  unfolding quick
-  quick-refused {n} {p} e = ⊎-elim inl (λ r. inr (r .value, r .first, numbers (r .value) (r .rest))) (bind-refused (admit bytes) asked e)
+  pub quick-refused : {n p : ℕ} → quickOf d a b ≡ refused n p
+      → (admitOf d ≡ refused n p)
+      ⊎ ((T : Ticket) × (admitOf d ≡ accepted T) × (NoAccess (allAccesses (T .nest)) a n p ⊎ NoAccess (allAccesses (T .nest)) b n p))
+  unfolding quickOf
+  quick-refused {n} {p} e = ⊎-elim inl (λ r. inr (r .value, r .first, numbers (r .value) (r .rest))) (bind-refused (admitOf d) asked e)
     where
       last : (T : Ticket) (u : Access) → second T u ≡ refused n p → NoAccess (allAccesses (T .nest)) b n p
       last T u f = ⊎-elim (λ g. accessNumber-refused (allAccesses (T .nest)) b g) (λ g. not-both (g .rest))

@@ -9,12 +9,12 @@ use lib.Dec.{T, eqb, eqb→eq, eqb-refl}
 use lib.ListN.{length}
 use Rattle.lists.specs.Membership.{All}
 use Rattle.model.specs.Answer.{Answer, accepted, refused, require, _>>_}
-use Rattle.model.specs.Ticket.{Statement, Nest}
+use Rattle.model.specs.Ticket.{Statement, Nest, Ticket}
 use Rattle.model.specs.Grammar.{total}
 use Rattle.model.specs.Points.{iterations}
-use Rattle.model.specs.Judge.{judged, Judged}
+use Rattle.model.specs.Judge.{judgedOf, Judged}
 use Rattle.model.specs.Store.{runNest}
-use Rattle.model.specs.Entries.{transparent, runnable, ran, runEntry}
+use Rattle.model.specs.Entries.{transparent, runnable, ran, runOf}
 use Rattle.model.proofs.Answers.AnswerLaws.{not-both, accepted-same, bind-accepted, bind-refused, then-accepted, then-refused, require-accepted, require-refused}
 use Rattle.model.proofs.Answers.CheckLaws.{FirstBad, firstBad-map, checks-accepted, checks-refused}
 
@@ -57,8 +57,8 @@ pub record WrongStore (N : Nest) (words : List ℕ) (n p : ℕ) : Type 0 where
   pub wrong : length words ≡ total (N .arrays) → ⊥
 
 -- what may run: accepted, with no opaque statement and a store of the right size
-pub record MayRun (bytes words : List ℕ) (j : Judged) : Type 0 where
-  pub verdict : judged bytes ≡ accepted j
+pub record MayRun (d : Answer Ticket) (words : List ℕ) (j : Judged) : Type 0 where
+  pub verdict : judgedOf d ≡ accepted j
   pub clear : All Clear (j .ticket .nest .statements)
   pub right : length words ≡ total (j .ticket .nest .arrays)
 
@@ -68,7 +68,7 @@ NotRun j words n p =
     ((n ≡ 15) × FirstBad Opaque Clear 1 (j .ticket .nest .statements) p)
     ⊎ (All Clear (j .ticket .nest .statements) × WrongStore (j .ticket .nest) words n p)
 
-module _ (bytes words : List ℕ) where
+module _ (d : Answer Ticket) (words : List ℕ) where
   abbrev clearly : Judged → Answer (Unit {0})
   clearly j = transparent 1 (j .ticket .nest .statements)
 
@@ -78,22 +78,22 @@ module _ (bytes words : List ℕ) where
   abbrev checked : Judged → Answer Judged
   checked j = clearly j >> require (rightSize j) 16 0 >> accepted j
 
-  pub runnable-accepted : {j : Judged} → runnable bytes words ≡ accepted j → MayRun bytes words j
+  pub runnable-accepted : {j : Judged} → runnable d words ≡ accepted j → MayRun d words j
   unfolding runnable
   runnable-accepted e =
-      let r = bind-accepted (judged bytes) checked e in
+      let r = bind-accepted (judgedOf d) checked e in
       let j = r .value in
       let q = then-accepted (clearly j >> require (rightSize j) 16 0) (accepted j) (r .rest) in
       let s = then-accepted (clearly j) (require (rightSize j) 16 0) (q .first) in
-      subst (MayRun bytes words) (accepted-same (q .rest)) (record {
+      subst (MayRun d words) (accepted-same (q .rest)) (record {
         verdict = r .first;
         clear = transparent-accepted 1 (j .ticket .nest .statements) (s .first);
         right = eqb→eq (length words) (total (j .ticket .nest .arrays)) (require-accepted (rightSize j) 16 0 (s .rest));
       })
 
-  pub runnable-refused : {n p : ℕ} → runnable bytes words ≡ refused n p → (judged bytes ≡ refused n p) ⊎ ((j : Judged) × (judged bytes ≡ accepted j) × NotRun j words n p)
+  pub runnable-refused : {n p : ℕ} → runnable d words ≡ refused n p → (judgedOf d ≡ refused n p) ⊎ ((j : Judged) × (judgedOf d ≡ accepted j) × NotRun j words n p)
   unfolding runnable
-  runnable-refused {n} {p} e = ⊎-elim inl (λ r. inr (r .value, r .first, why (r .value) (r .rest))) (bind-refused (judged bytes) checked e)
+  runnable-refused {n} {p} e = ⊎-elim inl (λ r. inr (r .value, r .first, why (r .value) (r .rest))) (bind-refused (judgedOf d) checked e)
     where
       why : (j : Judged) → checked j ≡ refused n p → NotRun j words n p
       why j f = ⊎-elim
@@ -119,14 +119,14 @@ unfolding ran
 ran-accepted (refused m q) words e = not-both (sym e)
 ran-accepted (accepted j) words e = (j, refl, sym (accepted-same e), refl)
 
-module _ (bytes words : List ℕ) where
+module _ (d : Answer Ticket) (words : List ℕ) where
   -- a refused run leaves the store as it was
-  pub run-refused : {n p : ℕ} → runEntry bytes words .answer ≡ refused n p
-      → (runEntry bytes words .memory ≡ words) × ((judged bytes ≡ refused n p) ⊎ ((j : Judged) × (judged bytes ≡ accepted j) × NotRun j words n p))
-  unfolding runEntry
-  run-refused e = let r = ran-refused (runnable bytes words) words e in (r .0, runnable-refused bytes words (r .1))
+  pub run-refused : {n p : ℕ} → runOf d words .answer ≡ refused n p
+      → (runOf d words .memory ≡ words) × ((judgedOf d ≡ refused n p) ⊎ ((j : Judged) × (judgedOf d ≡ accepted j) × NotRun j words n p))
+  unfolding runOf
+  run-refused e = let r = ran-refused (runnable d words) words e in (r .0, runnable-refused d words (r .1))
 
-  pub run-accepted : {c : ℕ} → runEntry bytes words .answer ≡ accepted c
-      → (j : Judged) × MayRun bytes words j × (c ≡ length (iterations (j .ticket .nest .loops))) × (runEntry bytes words .memory ≡ runNest (j .new) words)
-  unfolding runEntry
-  run-accepted e = let r = ran-accepted (runnable bytes words) words e in (r .0, runnable-accepted bytes words (r .1), r .2, r .3)
+  pub run-accepted : {c : ℕ} → runOf d words .answer ≡ accepted c
+      → (j : Judged) × MayRun d words j × (c ≡ length (iterations (j .ticket .nest .loops))) × (runOf d words .memory ≡ runNest (j .new) words)
+  unfolding runOf
+  run-accepted e = let r = ran-accepted (runnable d words) words e in (r .0, runnable-accepted d words (r .1), r .2, r .3)

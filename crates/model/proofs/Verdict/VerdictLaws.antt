@@ -8,11 +8,10 @@ use native.Mathlib.Omega.{arith}
 use lib.ListN.{length}
 use Rattle.model.specs.Answer.{Answer, accepted, refused, _>>_}
 use Rattle.model.specs.Ticket.{Nest, Ticket}
-use Rattle.model.specs.Grammar.{decode}
 use Rattle.model.specs.Points.{iterations}
 use Rattle.model.specs.Bounds.{space, sprawl, inArrays, admitted}
 use Rattle.model.specs.Limits.{nestAfterAll}
-use Rattle.model.specs.Judge.{judgeSteps, directionsOf, admit, Judged, judgeTicket, judged}
+use Rattle.model.specs.Judge.{judgeSteps, directionsOf, admitOf, Judged, judgeTicket, judgedOf}
 use Rattle.model.proofs.Answers.AnswerLaws.{not-both, accepted-same, bind-accepted, bind-refused, then-accepted, then-refused}
 use Rattle.model.proofs.Answers.PassLaws.{bind-pass, bind-stop, then-pass}
 use Rattle.model.proofs.Points.BoundLaws.{Overrun, space-refused, sprawl-refused}
@@ -44,24 +43,24 @@ module _ (N : Nest) where
 
 -- ---- 1 to 9
 
-module _ (bytes : List ℕ) where
-  pub admit-accepted : {T : Ticket} → admit bytes ≡ accepted T → (decode bytes ≡ accepted T) × (admitted (T .nest) ≡ accepted tt)
-  unfolding admit
+module _ (d : Answer Ticket) where
+  pub admit-accepted : {T : Ticket} → admitOf d ≡ accepted T → (d ≡ accepted T) × (admitted (T .nest) ≡ accepted tt)
+  unfolding admitOf
   admit-accepted {T} e =
-      let r = bind-accepted (decode bytes) (λ T. admitted (T .nest) >> accepted T) e in
+      let r = bind-accepted d (λ T. admitted (T .nest) >> accepted T) e in
       let q = then-accepted (admitted (r .value .nest)) (accepted (r .value)) (r .rest) in
       let s : r .value ≡ T = accepted-same (q .rest) in
-      (subst (λ T. decode bytes ≡ accepted T) s (r .first), subst (λ T. admitted (T .nest) ≡ accepted tt) s (q .first))
+      (subst (λ T. d ≡ accepted T) s (r .first), subst (λ T. admitted (T .nest) ≡ accepted tt) s (q .first))
 
-  pub accepted-admit : {T : Ticket} → decode bytes ≡ accepted T → admitted (T .nest) ≡ accepted tt → admit bytes ≡ accepted T
-  unfolding admit
+  pub accepted-admit : {T : Ticket} → d ≡ accepted T → admitted (T .nest) ≡ accepted tt → admitOf d ≡ accepted T
+  unfolding admitOf
   accepted-admit {T} e f = bind-pass (λ T. admitted (T .nest) >> accepted T) e ∙ then-pass (accepted T) f
 
-  pub admit-refused : {n p : ℕ} → admit bytes ≡ refused n p → (decode bytes ≡ refused n p) ⊎ ((T : Ticket) × (decode bytes ≡ accepted T) × (admitted (T .nest) ≡ refused n p))
-  unfolding admit
+  pub admit-refused : {n p : ℕ} → admitOf d ≡ refused n p → (d ≡ refused n p) ⊎ ((T : Ticket) × (d ≡ accepted T) × (admitted (T .nest) ≡ refused n p))
+  unfolding admitOf
   admit-refused e = ⊎-elim inl
       (λ r. ⊎-elim (λ f. inr (r .value, r .first, f)) (λ f. not-both (f .rest)) (then-refused (admitted (r .value .nest)) (accepted (r .value)) (r .rest)))
-      (bind-refused (decode bytes) (λ T. admitted (T .nest) >> accepted T) e)
+      (bind-refused d (λ T. admitted (T .nest) >> accepted T) e)
 
 -- ---- 10 to 13
 
@@ -106,19 +105,19 @@ module _ (T : Ticket) where
 
 -- ---- 1 to 13
 
-module _ (bytes : List ℕ) where
-  pub judged-accepted : {j : Judged} → judged bytes ≡ accepted j → (T : Ticket) × (admit bytes ≡ accepted T) × (judgeTicket T ≡ accepted j)
-  unfolding judged
-  judged-accepted e = let r = bind-accepted (admit bytes) judgeTicket e in (r .value, r .first, r .rest)
+module _ (d : Answer Ticket) where
+  pub judged-accepted : {j : Judged} → judgedOf d ≡ accepted j → (T : Ticket) × (admitOf d ≡ accepted T) × (judgeTicket T ≡ accepted j)
+  unfolding judgedOf
+  judged-accepted e = let r = bind-accepted (admitOf d) judgeTicket e in (r .value, r .first, r .rest)
 
-  pub judged-refused : {n p : ℕ} → judged bytes ≡ refused n p → (admit bytes ≡ refused n p) ⊎ ((T : Ticket) × (admit bytes ≡ accepted T) × (judgeTicket T ≡ refused n p))
-  unfolding judged
-  judged-refused e = ⊎-elim inl (λ r. inr (r .value, r .first, r .rest)) (bind-refused (admit bytes) judgeTicket e)
+  pub judged-refused : {n p : ℕ} → judgedOf d ≡ refused n p → (admitOf d ≡ refused n p) ⊎ ((T : Ticket) × (admitOf d ≡ accepted T) × (judgeTicket T ≡ refused n p))
+  unfolding judgedOf
+  judged-refused e = ⊎-elim inl (λ r. inr (r .value, r .first, r .rest)) (bind-refused (admitOf d) judgeTicket e)
 
-  pub refused-judged : {n p : ℕ} → admit bytes ≡ refused n p → judged bytes ≡ refused n p
-  unfolding judged
+  pub refused-judged : {n p : ℕ} → admitOf d ≡ refused n p → judgedOf d ≡ refused n p
+  unfolding judgedOf
   refused-judged e = bind-stop judgeTicket e
 
-  pub admitted-judged : {T : Ticket} → admit bytes ≡ accepted T → judged bytes ≡ judgeTicket T
-  unfolding judged
+  pub admitted-judged : {T : Ticket} → admitOf d ≡ accepted T → judgedOf d ≡ judgeTicket T
+  unfolding judgedOf
   admitted-judged e = bind-pass judgeTicket e

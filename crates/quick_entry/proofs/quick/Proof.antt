@@ -1,9 +1,10 @@
 -- `quick`: 1 to 8, then few points or many.
+use mathlib.Core.Path.{_∙_}
 use native.Mathlib.Omega.{arith}
 use Rattle.ticket.proofs.DecodeLaws.{zeros-lent}
 use Rattle.admission.proofs.AdmissionLaws.{enumerate-in, enumerate-many}
 use Rattle.intake.proofs.AdmitLaws.{not-received, waits}
-use Rattle.quick_entry.proofs.TestLaws.{refused-by}
+use Rattle.quick_entry.proofs.TestLaws.{refused-by, quick-received}
 use borrow.Author.Needs.{needs}
 use Rattle.quick_entry.proofs.quick.Statement.{statement}
 use Rattle.quick_entry.proofs.quick.Tie as tie
@@ -42,10 +43,10 @@ slice-aggregate-test-found-2 : tie.Need-slice-aggregate-test-found-2
 slice-aggregate-test-found-2 c = search needs
 
 test-found-requires : tie.Need-test-found-requires
-test-found-requires c κs = search needs
+test-found-requires c κs = let r = c .before .before .before .before .before .before .before .before .before .before .before .before .receive in let f = c .before .before .before .before .before .before .before .before .enum-told .given .1 in (r .ensures .laid f, f, search needs)
 
 returns-2 : tie.Need-returns-2
-returns-2 c = search needs
+returns-2 c = let r = c .before .before .before .before .before .before .before .before .before .before .before .before .before .receive in let f = c .before .before .before .before .before .before .before .before .before .enum-told .given .1 in c .test-found .ensures ∙ quick-received _ _ _ (r .result) _ _ (r .ensures) f
 
 slice-aggregate-admit-many : tie.Need-slice-aggregate-admit-many
 slice-aggregate-admit-many c = search needs
@@ -63,10 +64,10 @@ slice-aggregate-test-found-4 : tie.Need-slice-aggregate-test-found-4
 slice-aggregate-test-found-4 c = search needs
 
 test-found-requires-2 : tie.Need-test-found-requires-2
-test-found-requires-2 c κs = search needs
+test-found-requires-2 c κs = let r = c .before .before .before .before .before .before .before .before .before .before .before .before .receive in let f = c .before .before .before .before .before .before .before .before .enum-told .given .1 in (r .ensures .laid f, f, search needs)
 
 returns-3 : tie.Need-returns-3
-returns-3 c = search needs
+returns-3 c = let r = c .before .before .before .before .before .before .before .before .before .before .before .before .before .receive in let f = c .before .before .before .before .before .before .before .before .before .enum-told .given .1 in c .test-found2 .ensures ∙ quick-received _ _ _ (r .result) _ _ (r .ensures) f
 
 pub quick-spec : {M : Type 1} → statement M
 quick-spec =

@@ -2,7 +2,7 @@
 use mathlib.Core.Path.{refl}
 use Rattle.ticket.proofs.DecodeLaws.{zeros-lent}
 use Rattle.intake.proofs.AdmitLaws.{not-received, waits}
-use Rattle.run_entry.proofs.EntryLaws.{turned-away}
+use Rattle.run_entry.proofs.EntryLaws.{turned-away, handed-received}
 use borrow.Author.Needs.{needs}
 use Rattle.run_entry.proofs.run.Statement.{statement}
 use Rattle.run_entry.proofs.run.Tie as tie
@@ -44,13 +44,13 @@ slice-aggregate-run-found-2 : tie.Need-slice-aggregate-run-found-2
 slice-aggregate-run-found-2 c = search needs
 
 run-found-requires : tie.Need-run-found-requires
-run-found-requires c κs = search needs
+run-found-requires c κs = let r = c .before .before .before .before .before .before .before .before .before .before .before .before .before .receive in let f = c .before .before .before .before .before .before .before .before .before .enum-told .given .1 in (r .ensures .laid f, f, c .before .before .before .before .find-directions .ensures)
 
 same-length : tie.Need-same-length
 same-length c = search needs
 
 returns-2 : tie.Need-returns-2
-returns-2 c = search needs
+returns-2 c = let r = c .before .before .before .before .before .before .before .before .before .before .before .before .before .before .before .before .before .before .receive in let f = c .before .before .before .before .before .before .before .before .before .before .before .before .before .before .enum-told .given .1 in let g = c .before .before .before .before .run-found in handed-received _ (r .result) _ _ (r .ensures) f _ _ (g .result) (g .ensures)
 
 pub run-spec : {M : Type 1} → statement M
 run-spec =

@@ -12,10 +12,10 @@ enum-known-found : tie.Need-enum-known-found
 enum-known-found c = search needs
 
 returns : tie.Need-returns
-returns c = let s = c .before .before .before .before .before in turned-away (s .args .ticket .now) (s .args .store .now) (c .before .found .given .0 .0) (found-refused (s .args .ticket .now) (s .args .all) (s .args .limits .now) (s .args .words .now) (s .pre .0) (s .pre .1) (s .args .found) (s .args .marks) (s .pre .2) (c .before .found .given .0 .0) (c .before .found .given .1))
+returns c = let s = c .before .before .before .before in turned-away _ (s .args .store .now) (c .before .found .given .0 .0) (found-refused (s .args .all) (s .args .limits .now) (s .args .words .now) (s .pre .0) (s .pre .1) (s .args .found) (s .args .marks) (s .pre .2) (c .before .found .given .0 .0) (c .before .found .given .1))
 
 run-with-requires : tie.Need-run-with-requires
-run-with-requires c κs = let s = c .before .before .before .before .before .before .before in judgeable (s .args .ticket .now) (s .args .all) (s .args .limits .now) (s .args .words .now) (s .pre .0) (s .pre .1) (s .args .found) (s .args .marks) (s .pre .2) (c .before .before .before .enum-told .given .1)
+run-with-requires c κs = let s = c .before .before .before .before .before .before in judgeable (s .args .all) (s .args .limits .now) (s .args .words .now) (s .pre .0) (s .pre .1) (s .args .found) (s .args .marks) (s .pre .2) (c .before .before .before .enum-told .given .1)
 
 same-length : tie.Need-same-length
 same-length c = search needs

@@ -1,7 +1,7 @@
 -- `decide`: 1 to 8, then the directions.
 use mathlib.Core.Path.{refl}
 use Rattle.intake.proofs.AdmitLaws.{not-received, waits}
-use Rattle.verdict.proofs.VerdictLaws.{turned-away}
+use Rattle.verdict.proofs.VerdictLaws.{turned-away, decided-of}
 use borrow.Author.Needs.{needs}
 use Rattle.verdict.proofs.decide.Statement.{statement}
 use Rattle.verdict.proofs.decide.Tie as tie
@@ -34,7 +34,7 @@ find-directions-requires : tie.Need-find-directions-requires
 find-directions-requires c κs = let r = c .before .before .before .before .before .before .before .before .receive in (waits _ (r .result) _ _ (r .ensures) (c .before .before .before .enum-told .given .1), refl)
 
 decide-found-requires : tie.Need-decide-found-requires
-decide-found-requires c κs = search needs
+decide-found-requires c κs = let r = c .before .before .before .before .before .before .before .before .before .before .before .before .receive in let f = c .before .before .before .before .before .before .before .enum-told .given .1 in (r .ensures .laid f, f, c .before .before .before .find-directions .ensures)
 
 same-length-3 : tie.Need-same-length-3
 same-length-3 c = search needs
@@ -43,7 +43,7 @@ same-length-4 : tie.Need-same-length-4
 same-length-4 c = search needs
 
 returns-2 : tie.Need-returns-2
-returns-2 c = search needs
+returns-2 c = let r = c .before .before .before .before .before .before .before .before .before .before .before .before .before .before .before .receive in let f = c .before .before .before .before .before .before .before .before .before .before .enum-told .given .1 in let g = c .before .before .decide-found in decided-of _ (r .result) _ _ (r .ensures) f (g .result) _ _ (g .ensures)
 
 pub decide-spec : {M : Type 1} → statement M
 decide-spec =

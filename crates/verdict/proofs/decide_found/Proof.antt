@@ -14,10 +14,10 @@ refused-requires : tie.Need-refused-requires
 refused-requires c κs = search needs
 
 returns : tie.Need-returns
-returns c = let s = c .before .before .before .before .before .before in turned-away (s .args .bytes .now) (s .args .all) (s .args .limits .now) (s .args .words .now) _ (found-refused (s .args .bytes .now) (s .args .all) (s .args .limits .now) (s .args .words .now) (s .pre .0) (s .pre .1) (s .args .found) (s .args .marks) (s .pre .2) (c .before .before .found .given .0 .0) (c .before .before .found .given .1)) (c .refused .result) (c .refused .ensures)
+returns c = let s = c .before .before .before .before .before in turned-away _ (s .args .all) (s .args .limits .now) (s .args .words .now) _ (found-refused (s .args .all) (s .args .limits .now) (s .args .words .now) (s .pre .0) (s .pre .1) (s .args .found) (s .args .marks) (s .pre .2) (c .before .before .found .given .0 .0) (c .before .before .found .given .1)) (c .refused .result) (c .refused .ensures)
 
 decide-with-requires : tie.Need-decide-with-requires
-decide-with-requires c κs = let s = c .before .before .before .before .before .before in judgeable (s .args .bytes .now) (s .args .all) (s .args .limits .now) (s .args .words .now) (s .pre .0) (s .pre .1) (s .args .found) (s .args .marks) (s .pre .2) (c .before .before .enum-told .given .1)
+decide-with-requires c κs = let s = c .before .before .before .before .before in judgeable (s .args .all) (s .args .limits .now) (s .args .words .now) (s .pre .0) (s .pre .1) (s .args .found) (s .args .marks) (s .pre .2) (c .before .before .enum-told .given .1)
 
 same-length : tie.Need-same-length
 same-length c = search needs
