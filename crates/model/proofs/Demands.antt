@@ -134,7 +134,7 @@ commute = CommuteLaws.commute
 
 pub reordering : (A : Accesses) (rules : Rules) (xs ys : List Instance) → Distinct xs → Distinct ys → SameMembers xs ys
     → ((i j : Instance) → Precedes xs i j → T (conflict A i j) → Precedes ys i j) → (s : State) → run (perform A rules) xs s ≡ run (perform A rules) ys s
-reordering = CommuteLaws.reordering
+reordering A rules = CommuteLaws.reordering A rules (CommuteLaws.commute A rules)
 
 -- ---- demand 3, undivided: wherever judge, write or run gives 0, the original iterations of the new order are those of the old, each once; both
 -- orders end with equal values in every element, for all starting values and all rules; write's bytes are that nest; run's store is, word for

@@ -126,8 +126,9 @@ Spells b k (w ∷ ws) = (wordAt b k ≡ accepted w) × Spells b (suc k) ws
 
 -- the ranges of counts
 pub data CountRange : ℕ → ℕ → Type 0 where
-  -- loops, limits of a side, arrays, statements, and reads under rule 3
+  -- loops, limits of a side, arrays, and reads under rule 3
   toFour : CountRange 1 4
+  statements : CountRange 1 mostStatements
   dimensions : CountRange 1 3
   reads : CountRange 0 4
   steps : CountRange 0 8

@@ -3,9 +3,11 @@ use mathlib.Core.Bool.{cond}
 use mathlib.Core.List.{List, [], _∷_, map}
 use Prim.Native.Nat.{ℕ, zero, suc, _+_, _*_, _%_, _^_}
 use lib.Dec.{eqb, ltb}
-use lib.IntN.{ℤ, pos, natAbs}
+use lib.IntN.{ℤ, pos, natAbs, _+ℤ_, _-ℤ_, _*ℤ_}
 use lib.ListN.{getD, set}
+use Rattle.integers.specs.Division.{floorDiv}
 use Rattle.model.specs.Ticket.{Statement, Nest}
+use Rattle.model.specs.Points.{largest}
 use Rattle.model.specs.Grammar.{elements, extents}
 use Rattle.model.specs.Machine.{Element, Instance, Rules, accesses, bodyAt, order, run}
 
@@ -42,6 +44,23 @@ firstOf (v ∷ vs) = v
 unfoldable pub make : ℕ → ℕ → List ℕ → ℕ
 make r c vs = cond (eqb r 1) ((c + sum vs) % 2 ^ 32) (cond (eqb r 2) (most c vs) (cond (eqb r 3) (firstOf vs) 0))
 
+-- ---- the same of whole numbers, as the plain machine is fed them
+
+unfoldable pub sumWhole : List ℤ → ℤ
+sumWhole [] = pos 0
+sumWhole (v ∷ vs) = v +ℤ sumWhole vs
+
+unfoldable pub firstWhole : List ℤ → ℤ
+firstWhole [] = pos 0
+firstWhole (v ∷ vs) = v
+
+-- the remainder modulo 2^32, from 0 on
+unfoldable pub wrapped : ℤ → ℤ
+wrapped z = z -ℤ pos 4294967296 *ℤ floorDiv z (pos 4294967296)
+
+unfoldable pub makeWhole : ℕ → ℕ → List ℤ → ℤ
+makeWhole r c vs = cond (eqb r 1) (wrapped (pos c +ℤ sumWhole vs)) (cond (eqb r 2) (largest (pos c ∷ vs)) (cond (eqb r 3) (firstWhole vs) (pos 0)))
+
 -- ---- runs
 
 unfoldable pub storeWords : List (List ℕ) → ℕ → List Element → List ℕ → List ℕ
@@ -62,4 +81,4 @@ runNest N w = run (performOn (N .arrays) (N .statements)) (order N) w
 
 -- the ticket's own rules, as the plain machine is fed them
 unfoldable pub ownRules : List Statement → Rules
-ownRules ss = λ s k vs it. pos (make (bodyAt ss s .rule) (bodyAt ss s .constant) (map natAbs vs))
+ownRules ss = λ s k vs it. makeWhole (bodyAt ss s .rule) (bodyAt ss s .constant) vs

@@ -84,4 +84,4 @@ module _ (depth : ℕ) (as′ : List (List ℕ)) (few : InRange 1 4 (length as�
 
   pub statements-meets : Meets (statements depth as′) (As (Few 1 mostStatements (All StatementRead)) (counted statementWords))
   unfolding statements
-  statements-meets = counted-meets statementWords CountRange.toFour (λ n _. times-meets n statement-meets)
+  statements-meets = counted-meets statementWords CountRange.statements (λ n _. times-meets n statement-meets)

@@ -1,5 +1,5 @@
 -- Instances that do not conflict commute on the plain machine. In order: what one instance leaves alone and what it depends on;
--- `commute`; then `reordering`: two orders that keep every conflicting pair end with equal values.
+-- `commute`; then `reordering`, wherever instances without a conflict commute: two orders that keep every conflicting pair end with equal values.
 use mathlib.Core.Path.{_≡_, refl, sym, ap, _∙_, fun-ext}
 use mathlib.Core.Bool.{cond}
 use mathlib.Core.Logic.{_⊎_, inl, inr}
@@ -59,29 +59,50 @@ module _ (A : Accesses) (rules : Rules) where
   perform-depends i s s′ x r h = storeAll-depends _ 0 (A .writes i) s s′ x h
       ∙ ap (λ vs. storeAll (λ k. rules (i .statement) k vs (i .iteration)) 0 (A .writes i) s′ x) (map-same s s′ (A .reads i) r)
 
-  -- ---- two instances without a conflict
+-- ---- two instances of which neither writes what the other reads or writes: Bernstein's conditions
 
-  module _ (i j : Instance) (free : T (conflict A i j) → ⊥) (s : State) where
-    i-sees : (x : Element) → Mem x (A .reads i) → perform A rules j s x ≡ s x
-    i-sees x m = perform-keeps j s x (λ w. free (kind-conflict A i j anti (shared-conflictOf A i j anti m w)))
+pub record Apart (A : Accesses) (i j : Instance) : Type 0 where
+  pub anti-free : (x : Element) → Mem x (A .reads i) → Mem x (A .writes j) → ⊥
+  pub flow-free : (x : Element) → Mem x (A .writes i) → Mem x (A .reads j) → ⊥
+  pub output-free : (x : Element) → Mem x (A .writes i) → Mem x (A .writes j) → ⊥
 
-    j-sees : (x : Element) → Mem x (A .reads j) → perform A rules i s x ≡ s x
-    j-sees x m = perform-keeps i s x (λ w. free (kind-conflict A i j flow (shared-conflictOf A i j flow w m)))
+module _ (A : Accesses) (rules : Rules) (i j : Instance) (free : Apart A i j) (s : State) where
+  i-sees : (x : Element) → Mem x (A .reads i) → perform A rules j s x ≡ s x
+  i-sees x m = perform-keeps A rules j s x (free .anti-free x m)
 
-    commute-at : (x : Element) → Mem x (A .writes i) ⊎ (Mem x (A .writes i) → ⊥) → Mem x (A .writes j) ⊎ (Mem x (A .writes j) → ⊥)
-        → perform A rules i (perform A rules j s) x ≡ perform A rules j (perform A rules i s) x
-    commute-at x (inl w) d = perform-depends i (perform A rules j s) s x i-sees (inl w)
-        ∙ sym (perform-keeps j (perform A rules i s) x (λ v. free (kind-conflict A i j output (shared-conflictOf A i j output w v))))
-    commute-at x (inr f) (inl w) = perform-keeps i (perform A rules j s) x f ∙ sym (perform-depends j (perform A rules i s) s x j-sees (inl w))
-    commute-at x (inr f) (inr g) = perform-keeps i (perform A rules j s) x f ∙ perform-keeps j s x g ∙ sym (perform-keeps j (perform A rules i s) x g ∙ perform-keeps i s x f)
+  j-sees : (x : Element) → Mem x (A .reads j) → perform A rules i s x ≡ s x
+  j-sees x m = perform-keeps A rules i s x (λ w. free .flow-free x w m)
 
-    pub commute : perform A rules i (perform A rules j s) ≡ perform A rules j (perform A rules i s)
-    commute = fun-ext λ x. commute-at x (mem-cases same same-decides x (A .writes i)) (mem-cases same same-decides x (A .writes j))
+  commute-at : (x : Element) → Mem x (A .writes i) ⊎ (Mem x (A .writes i) → ⊥) → Mem x (A .writes j) ⊎ (Mem x (A .writes j) → ⊥)
+      → perform A rules i (perform A rules j s) x ≡ perform A rules j (perform A rules i s) x
+  commute-at x (inl w) d = perform-depends A rules i (perform A rules j s) s x i-sees (inl w) ∙ sym (perform-keeps A rules j (perform A rules i s) x (free .output-free x w))
+  commute-at x (inr f) (inl w) = perform-keeps A rules i (perform A rules j s) x f ∙ sym (perform-depends A rules j (perform A rules i s) s x j-sees (inl w))
+  commute-at x (inr f) (inr g) =
+      perform-keeps A rules i (perform A rules j s) x f ∙ perform-keeps A rules j s x g ∙ sym (perform-keeps A rules j (perform A rules i s) x g ∙ perform-keeps A rules i s x f)
+
+  pub apart-commute : perform A rules i (perform A rules j s) ≡ perform A rules j (perform A rules i s)
+  apart-commute = fun-ext λ x. commute-at x (mem-cases same same-decides x (A .writes i)) (mem-cases same same-decides x (A .writes j))
+
+-- ---- two instances without a conflict
+
+free-apart : (A : Accesses) (i j : Instance) → (T (conflict A i j) → ⊥) → Apart A i j
+free-apart A i j free = record {
+  anti-free = λ x m w. free (kind-conflict A i j anti (shared-conflictOf A i j anti m w));
+  flow-free = λ x w m. free (kind-conflict A i j flow (shared-conflictOf A i j flow w m));
+  output-free = λ x w v. free (kind-conflict A i j output (shared-conflictOf A i j output w v));
+}
+
+-- instances that do not conflict commute
+abbrev pub Commutes : Accesses → Rules → Type 0
+Commutes A rules = (i j : Instance) → (T (conflict A i j) → ⊥) → (s : State) → perform A rules i (perform A rules j s) ≡ perform A rules j (perform A rules i s)
+
+pub commute : (A : Accesses) (rules : Rules) → Commutes A rules
+commute A rules i j free = apart-commute A rules i j (free-apart A i j free)
 
 -- ---- two orders of the same instances
 
-pub reordering : (A : Accesses) (rules : Rules) (xs ys : List Instance) → Distinct xs → Distinct ys → SameMembers xs ys
+pub reordering : (A : Accesses) (rules : Rules) → Commutes A rules → (xs ys : List Instance) → Distinct xs → Distinct ys → SameMembers xs ys
     → ((a b : Instance) → Precedes xs a b → T (conflict A a b) → Precedes ys a b)
     → (s : State) → run (perform A rules) xs s ≡ run (perform A rules) ys s
-reordering A rules xs ys d d′ e keep = run-reordered (perform A rules) (λ i j. T (conflict A i j)) (commute A rules) (Precedes xs) (Precedes ys)
+reordering A rules commutes xs ys d d′ e keep = run-reordered (perform A rules) (λ i j. T (conflict A i j)) commutes (Precedes xs) (Precedes ys)
     (precedes-irrefl xs d) (precedes-irrefl ys d′) xs ys (precedes-ordered xs) (precedes-ordered ys) e (λ a b _ _ p q c. precedes-asym ys d′ a b (keep a b p c) q)

@@ -14,7 +14,7 @@ use Rattle.model.specs.Machine.{Element, Instance, Accesses, State, Rule
 use Rattle.model.specs.Directions.{signs, backwards, conflict}
 use Rattle.model.proofs.Points.EarlierLaws.{earlier-irreflexive, backwards-earlier}
 use Rattle.model.proofs.Machine.InstanceLaws.{Rises, rises-irreflexive, rises-transitive, Before, whole, instances-ordered, instances-members}
-use Rattle.model.proofs.Machine.CommuteLaws.{reordering}
+use Rattle.model.proofs.Machine.CommuteLaws.{Commutes, reordering}
 use Rattle.model.proofs.Machine.SameRunLaws.{NamesAlike, run-same}
 
 before-irreflexive : (key : List ℤ → List ℤ) (i : Instance) → Before key i i → ⊥
@@ -29,12 +29,12 @@ rises-not-before i j h (inr l) = rises-irreflexive i (rises-transitive i j i l h
 abbrev pub NoneBackwards : Accesses → (List ℤ → List ℤ) → List Instance → Type 0
 NoneBackwards A fwd xs = (a b : Instance) → Precedes xs a b → T (conflict A a b) → T (backwards (signs (fwd (a .iteration)) (fwd (b .iteration)))) → ⊥
 
-module _ (A : Accesses) (rules : Rules) (n : ℕ) (fwd back : List ℤ → List ℤ) (ps qs : List (List ℤ)) where
+module _ (A : Accesses) (rules : Rules) (commutes : Commutes A rules) (n : ℕ) (fwd back : List ℤ → List ℤ) (ps qs : List (List ℤ)) where
   pub ordered-run : Ordered Earlier ps → Ordered Earlier qs → SameMembers ps (map back qs) → ((q : List ℤ) → Mem q qs → fwd (back q) ≡ q)
       → NoneBackwards A fwd (instances n ps)
       → (s : State) (x : Element) → exec A rules (instances n ps) s x ≡ exec A rules (instances n (map back qs)) s x
   ordered-run o o′ e inverse none s x = ap (λ (t : State). t x)
-      (reordering A rules xs ys (ordered-distinct (Before whole) (before-irreflexive whole) xs old) (ordered-distinct (Before fwd) (before-irreflexive fwd) ys new) same kept s)
+      (reordering A rules commutes xs ys (ordered-distinct (Before whole) (before-irreflexive whole) xs old) (ordered-distinct (Before fwd) (before-irreflexive fwd) ys new) same kept s)
     where
       xs : List Instance
       xs = instances n ps

@@ -27,6 +27,7 @@ use Rattle.model.proofs.Steps.KeepLaws.{all-steps-keep-points, each-onc
 use Rattle.model.proofs.Steps.AccessLaws.{accesses-undone}
 use Rattle.model.proofs.Machine.SameRunLaws.{NamesAlike}
 use Rattle.model.proofs.Machine.DirectionLaws.{directions-mem}
+use Rattle.model.proofs.Machine.CommuteLaws.{commute}
 use Rattle.model.proofs.Machine.OrderedRunLaws.{NoneBackwards, new-run}
 use Rattle.model.proofs.Store.PlaceLaws.{Valid}
 use Rattle.model.proofs.Store.StoreLaws.{stateOf, stateOf-shown, run-shows}
@@ -70,7 +71,7 @@ module _ (ts : List Step) (proper : All Proper ts) (N : Nest) (formed : WellForm
       → exec (accesses (N .statements)) rules (order N) s x ≡ exec (accesses (M .statements)) (originally (undoAll ts) rules) (instances n (iterations (M .loops))) s x
   unfolding M n
   equal rules s x =
-      new-run (accesses (N .statements)) rules n (forwardAll ts) (undoAll ts) (iterations (N .loops)) (iterations (M .loops)) (accesses (M .statements)) alike
+      new-run (accesses (N .statements)) rules (commute (accesses (N .statements)) rules) n (forwardAll ts) (undoAll ts) (iterations (N .loops)) (iterations (M .loops)) (accesses (M .statements)) alike
       (iterations-rise (N .loops)) (iterations-rise (M .loops)) (all-steps-keep-points ts proper N formed) (taken-back ts proper N formed) none-backwards s x
 
   order-new : instances n (iterations (M .loops)) ≡ order M

@@ -4,7 +4,7 @@ use mathlib.Core.Path.{_≡_, sym, ap₂, subst, fun-ext}
 use mathlib.Core.List.{List, map, Memᴰ·append-left, Memᴰ·append-right, Memᴰ·map, Memᴰ·of-map}
 use Prim.Native.Nat.{ℕ}
 use lib.Dec.{T}
-use lib.IntN.{ℤ, pos, natAbs}
+use lib.IntN.{ℤ}
 use lib.ListN.{length}
 use Rattle.lists.specs.Membership.{Mem, All, SameMembers}
 use Rattle.lists.proofs.MembershipLaws.{all-getD}
@@ -13,7 +13,7 @@ use Rattle.model.specs.Grammar.{total}
 use Rattle.model.specs.Bounds.{strays, accessesOf}
 use Rattle.model.specs.Machine.{Element, element, State, Rules, accesses, bodyAt, instances, run, exec, originally}
 use Rattle.model.specs.Shape.{Fits, FitsAll}
-use Rattle.model.specs.Store.{make, performOn, ownRules}
+use Rattle.model.specs.Store.{makeWhole, performOn, ownRules}
 use Rattle.model.proofs.Machine.InstanceLaws.{instances-mem, mem-instances}
 use Rattle.model.proofs.Machine.SameRunLaws.{instanceAt, NamesAlike}
 use Rattle.model.proofs.Store.PlaceLaws.{Valid, element-valid}
@@ -54,7 +54,7 @@ module _ (as′ : List (List ℕ)) (ss ss′ : List Statement) (n : ℕ) (back :
   -- a rule of the ticket does not use the iteration
   own-rules-same : ((j : ℕ) → bodyAt ss′ j .rule ≡ bodyAt ss j .rule) → ((j : ℕ) → bodyAt ss′ j .constant ≡ bodyAt ss j .constant) → ownRules ss′ ≡ originally back (ownRules ss)
   unfolding ownRules originally
-  own-rules-same r c = fun-ext λ j. fun-ext λ k. fun-ext λ vs. fun-ext λ it. ap₂ (λ rule constant. pos (make rule constant (map natAbs vs))) (r j) (c j)
+  own-rules-same r c = fun-ext λ j. fun-ext λ k. fun-ext λ vs. fun-ext λ it. ap₂ (λ rule constant. makeWhole rule constant vs) (r j) (c j)
 
   pub new-store : All (InStore as′ ss) (instances n ps) → All (NamesAlike (accesses ss) (accesses ss′) back) qs → SameMembers ps (map back qs)
       → ((j : ℕ) → bodyAt ss′ j .rule ≡ bodyAt ss j .rule) → ((j : ℕ) → bodyAt ss′ j .constant ≡ bodyAt ss j .constant)

@@ -5,7 +5,7 @@ use mathlib.Core.Logic.{_⊎_, inl, inr}
 use mathlib.Core.List.{List, [], _∷_, map, List·Memᴰ·head, List·Memᴰ·tail}
 use Prim.Native.Nat.{ℕ, suc, _<_}
 use lib.Dec.{T}
-use lib.IntN.{pos, natAbs}
+use lib.IntN.{ℤ, pos, natAbs}
 use lib.ListN.{length, getD, set, length-set}
 use lib.Seq.{getD-set-same, getD-set-other, ext-getD}
 use Rattle.lists.specs.Membership.{All}
@@ -13,9 +13,10 @@ use Rattle.lists.proofs.TestLaws.{T-cases}
 use Rattle.model.specs.Ticket.{Statement}
 use Rattle.model.specs.Grammar.{total}
 use Rattle.model.specs.Machine.{Element, same, Instance, State, accesses, bodyAt, store, storeAll, perform, run, exec}
-use Rattle.model.specs.Store.{placeOf, make, storeWords, performOn, ownRules}
+use Rattle.model.specs.Store.{placeOf, make, makeWhole, storeWords, performOn, ownRules}
 use Rattle.model.proofs.Machine.ElementLaws.{same-decides}
 use Rattle.model.proofs.Machine.CommuteLaws.{store-same, store-other}
+use Rattle.model.proofs.Store.WholeRuleLaws.{words-alike}
 use Rattle.model.proofs.Store.PlaceLaws.{Valid, place-below, place-injective, place-onto}
 
 -- the words have a place for every element, and hold its value there
@@ -58,9 +59,9 @@ module _ (as′ : List (List ℕ)) where
             let d : f ≡ e → ⊥ = λ q. t (subst (λ g. T (same f g)) q (same-decides .itself f)) in
             store-other e (pos v) s f d ∙ h .shown f a ∙ ap pos (sym (getD-set-other w (placeOf as′ e) (placeOf as′ f) v 0 (λ p. d (place-injective as′ f e a u p))))
 
-    fetched : (es : List Element) → All (Valid as′) es → map natAbs (map s es) ≡ map (λ e. getD w (placeOf as′ e) 0) es
+    fetched : (es : List Element) → All (Valid as′) es → map s es ≡ map pos (map (λ e. getD w (placeOf as′ e) 0) es)
     fetched [] a = refl
-    fetched (e ∷ es) a = ap₂ _∷_ (ap natAbs (h .shown e (a e (List·Memᴰ·head refl)))) (fetched es (λ f m. a f (List·Memᴰ·tail m)))
+    fetched (e ∷ es) a = ap₂ _∷_ (h .shown e (a e (List·Memᴰ·head refl))) (fetched es (λ f m. a f (List·Memᴰ·tail m)))
 
   storeAll-shows : (v k : ℕ) (es : List Element) (w : List ℕ) (s : State) → All (Valid as′) es → Shows as′ w s
       → Shows as′ (storeWords as′ v es w) (storeAll (λ _. pos v) k es s)
@@ -75,12 +76,14 @@ module _ (as′ : List (List ℕ)) where
     pub perform-shows : (i : Instance) (w : List ℕ) (s : State) → InStore as′ ss i → Shows as′ w s → Shows as′ (performOn as′ ss i w) (perform (accesses ss) (ownRules ss) i s)
     unfolding performOn perform ownRules
     perform-shows i w s b h =
-        let making : List ℕ → ℕ = λ vs. make (bodyAt ss (i .statement) .rule) (bodyAt ss (i .statement) .constant) vs in
+        let rule = bodyAt ss (i .statement) .rule in
+        let constant = bodyAt ss (i .statement) .constant in
         let reads = accesses ss .reads i in
         let writes = accesses ss .writes i in
-        subst (λ vs. Shows as′ (storeWords as′ (making (map (λ e. getD w (placeOf as′ e) 0) reads)) writes w) (storeAll (λ _. pos (making vs)) 0 writes s))
-        (sym (fetched w s h reads (b .reads)))
-        (storeAll-shows (making (map (λ e. getD w (placeOf as′ e) 0) reads)) 0 writes w s (b .writes) h)
+        let value = make rule constant (map (λ e. getD w (placeOf as′ e) 0) reads) in
+        subst (λ (v : ℤ). Shows as′ (storeWords as′ value writes w) (storeAll (λ _. v) 0 writes s))
+        (sym (ap (makeWhole rule constant) (fetched w s h reads (b .reads)) ∙ words-alike rule constant (map (λ e. getD w (placeOf as′ e) 0) reads)))
+        (storeAll-shows value 0 writes w s (b .writes) h)
 
     pub run-shows : (xs : List Instance) (w : List ℕ) (s : State) → All (InStore as′ ss) xs → Shows as′ w s
         → Shows as′ (run (performOn as′ ss) xs w) (exec (accesses ss) (ownRules ss) xs s)
