@@ -16,7 +16,7 @@ use Rattle.model.specs.Grammar.{decode, decodeNest}
 use Rattle.model.specs.Points.{partialPoints, iterations}
 use Rattle.model.specs.Machine.{Instance, Accesses, State, Rules, perform, run}
 use Rattle.model.specs.Directions.{signs, backwards, earlier, conflict, Line}
-use Rattle.model.specs.Steps.{forward, vectors, vectorsAfter, somePointsBack}
+use Rattle.model.specs.Steps.{forward, vectors, vectorsAfter, vectorsAfterAll, somePointsBack}
 use Rattle.model.specs.Judge.{Judged, judged, admit, judgeSteps, directionsOf}
 use Rattle.model.specs.Encode.{encode}
 use Rattle.model.specs.Listing.{linesOf, listing}
@@ -95,7 +95,7 @@ kinds-merged = ListingLaws.linesOf-merged
 
 -- a reached step is refused with 10 exactly if a vector of the set then points backwards
 pub ten-exact : (k : ℕ) (front : List Step) (t : Step) (back : List Step) (vs : List (List Sign)) (N : Nest) → JudgeLaws.StepsPass front vs N
-    → (judgeSteps k (front ++ t ∷ back) vs N ≡ refused 10 (k + length front)) ↔ T (somePointsBack (vectorsAfter t (JudgeLaws.vectorsAfterAll front vs)))
+    → (judgeSteps k (front ++ t ∷ back) vs N ≡ refused 10 (k + length front)) ↔ T (somePointsBack (vectorsAfter t (vectorsAfterAll front vs)))
 ten-exact = JudgeLaws.ten-exact
 
 -- while all steps so far exchange or reverse, exactly if some conflicting pair of instances trades places at it

@@ -105,5 +105,10 @@ vectors (section a w) v = underEach a splitSigns v
 unfoldable pub vectorsAfter : Step → List (List Sign) → List (List Sign)
 vectorsAfter t vs = flatMap (vectors t) vs
 
+-- and after all steps
+unfoldable pub vectorsAfterAll : List Step → List (List Sign) → List (List Sign)
+vectorsAfterAll [] vs = vs
+vectorsAfterAll (t ∷ ts) vs = vectorsAfterAll ts (vectorsAfter t vs)
+
 unfoldable pub somePointsBack : List (List Sign) → Bool
 somePointsBack vs = any backwards vs

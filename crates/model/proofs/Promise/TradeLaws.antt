@@ -17,7 +17,7 @@ use Rattle.model.specs.Ticket.{Step, exchange, reversal, skew, section, 
 use Rattle.model.specs.Points.{iterations}
 use Rattle.model.specs.Machine.{Instance, accesses, order}
 use Rattle.model.specs.Directions.{signs, backwards, conflict}
-use Rattle.model.specs.Steps.{forward, forwardAll, vectors, vectorsAfter, somePointsBack}
+use Rattle.model.specs.Steps.{forward, forwardAll, vectors, vectorsAfter, vectorsAfterAll, somePointsBack}
 use Rattle.model.specs.Judge.{judgeSteps, directionsOf}
 use Rattle.model.specs.Inside.{Earlier}
 use Rattle.model.specs.Shape.{Proper}
@@ -28,7 +28,7 @@ use Rattle.model.proofs.Steps.VectorLaws.{vectors-after, exchange-signs
 use Rattle.model.proofs.Machine.InstanceLaws.{Before, whole, instances-mem, instances-ordered}
 use Rattle.model.proofs.Machine.DirectionLaws.{directions-mem, mem-directions}
 use Rattle.model.proofs.Verdict.JudgeStepLaws.{points-back, back-points}
-use Rattle.model.proofs.Verdict.JudgeLaws.{vectorsAfterAll, StepsPass, ten-exact}
+use Rattle.model.proofs.Verdict.JudgeLaws.{StepsPass, ten-exact}
 
 -- ---- a pair of points through steps
 

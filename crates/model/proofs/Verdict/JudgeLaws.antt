@@ -12,17 +12,13 @@ use lib.ListN.{length}
 use Rattle.integers.specs.Sign.{Sign}
 use Rattle.model.specs.Answer.{accepted, refused, _>>_}
 use Rattle.model.specs.Ticket.{Step, Nest}
-use Rattle.model.specs.Steps.{vectorsAfter, somePointsBack}
+use Rattle.model.specs.Steps.{vectorsAfter, vectorsAfterAll, somePointsBack}
 use Rattle.model.specs.Limits.{nestAfter, nestAfterAll}
 use Rattle.model.specs.Judge.{judgeSteps}
 use Rattle.model.proofs.Answers.AnswerLaws.{not-both, then-accepted, then-refused}
 use Rattle.model.proofs.Answers.PassLaws.{then-pass, then-stop}
 use Rattle.model.proofs.Verdict.SmallLaws.{Small}
 use Rattle.model.proofs.Verdict.JudgeStepLaws.{Backwards, Few, StepPasses, Reason, points-back, back-points, ten, eleven, twelve, step-accepted, accepted-step, step-refused, refused-step}
-
-unfoldable pub vectorsAfterAll : List Step → List (List Sign) → List (List Sign)
-vectorsAfterAll [] vs = vs
-vectorsAfterAll (t ∷ ts) vs = vectorsAfterAll ts (vectorsAfter t vs)
 
 -- every step passes when it is taken
 abbrev pub StepsPass : List Step → List (List Sign) → Nest → Type 0

@@ -10,6 +10,7 @@ use Rattle.model.specs.Answer.{Answer, accepted, refused, _>>_}
 use Rattle.model.specs.Ticket.{Nest, Ticket}
 use Rattle.model.specs.Points.{iterations}
 use Rattle.model.specs.Bounds.{space, sprawl, inArrays, admitted}
+use Rattle.model.specs.Steps.{vectorsAfterAll}
 use Rattle.model.specs.Limits.{nestAfterAll}
 use Rattle.model.specs.Judge.{judgeSteps, directionsOf, admitOf, Judged, judgeTicket, judgedOf}
 use Rattle.model.proofs.Answers.AnswerLaws.{not-both, accepted-same, bind-accepted, bind-refused, then-accepted, then-refused}
@@ -18,7 +19,7 @@ use Rattle.model.proofs.Points.BoundLaws.{Overrun, space-refused, spraw
 use Rattle.model.proofs.Answers.CheckLaws.{FirstBad}
 use Rattle.model.proofs.Points.ArrayLaws.{Strays, Stays, arrays-refused}
 use Rattle.model.proofs.Verdict.JudgeStepLaws.{reason-number}
-use Rattle.model.proofs.Verdict.JudgeLaws.{Rejected, vectorsAfterAll, StepsPass, judgeSteps-accepted, accepted-judgeSteps, judgeSteps-refused}
+use Rattle.model.proofs.Verdict.JudgeLaws.{Rejected, StepsPass, judgeSteps-accepted, accepted-judgeSteps, judgeSteps-refused}
 
 -- ---- 7, 8 and 9
 
