@@ -1,5 +1,4 @@
 -- Laws that the crate's contracts need; then that every accepted ticket can be run.
-pub mod ClearLaws
 pub mod PartLaws
 pub mod ExecutionLaws
 pub mod AcceptedLaws

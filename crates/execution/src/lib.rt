@@ -1,32 +1,14 @@
-// The run of an accepted nest on its sheet, and the test of its rules before it: refusal 15.
+// The run of an accepted nest on its sheet.
 ghost use mathlib.Core.Path.{_≡_};
 ghost use Prim.Native.Nat.{_*_, _≤_};
 ghost use lib.ListN.{length};
 ghost use Rattle.lists.specs.Parts.{rows};
 ghost use Rattle.model.specs.Store.{runNest};
-ghost use Rattle.model.specs.Entries.{transparent};
-ghost use Rattle.sheet.specs.Sheets.{sheetOf, nestOf, SheetIn};
+ghost use Rattle.sheet.specs.Sheets.{sheetOf, nestOf};
 ghost use Rattle.sheet.specs.Stages.{PointsAre};
 ghost use Rattle.store.specs.Runs.{runAt};
-ghost use Rattle.execution.specs.Execution.{opaqueAt, ExecuteIn, PartIn};
+ghost use Rattle.execution.specs.Execution.{ExecuteIn, PartIn};
 use sheet::Outline;
-
-// The number of the first statement with rule 0, or 0.
-pub fn first_opaque(outline: Outline, limits: &[i16], words: &[i16]) -> usize
-    requires { ⌜ SheetIn (sheetOf outline (now limits) (now words)) ⌝ }
-    ensures { λ r. ⌜ opaqueAt r ≡ transparent 1 (nestOf (sheetOf outline (now (limits .entry)) (now (words .entry))) .statements) ⌝ }
-{
-    let statements = outline.statements;
-    let rules = outline.rules;
-    let mut s = 0;
-    while s < statements {
-        if rules[s] == 0 {
-            return s + 1;
-        }
-        s += 1;
-    }
-    0
-}
 
 // Runs the statements at the points of a part of the nest. Lent is room for a number of each access at each point.
 fn run_part(

@@ -1,69 +1,40 @@
--- The grammar, then refusals 7 and 8 on the sheet, are `received`. What the grammar gives of an accepted ticket is what the sheet asks.
-use mathlib.Core.Path.{_≡_, sym, _∙_, ap, subst}
+-- The grammar's answer, then refusals 7 and 8 on the sheet.
+use mathlib.Core.Path.{_≡_, refl, sym, _∙_, ap}
 use mathlib.Core.List.{List}
 use Prim.Native.Nat.{ℕ}
+use native.Mathlib.Omega.{arith}
 use lib.IntN.{ℤ}
-use Rattle.model.specs.Answer.{Answer, accepted, _>>_, _>>=_}
-use Rattle.model.specs.Ticket as Model
+use Rattle.model.specs.Answer.{_>>=_}
 use Rattle.model.specs.Bounds.{space}
-use Rattle.model.proofs.Grammar.GrammarLaws.{Sound}
 use Rattle.reading.specs.declared.Refusal.{Refusal}
 use Rattle.reading.specs.declared.Status.{Status}
 use Rattle.reading.specs.declared.Status.the-variants.{Fine, Refused}
-use Rattle.reading.specs.Refusals.{refusal}
-use Rattle.reading.proofs.ReaderLaws.{not-fine}
-use Rattle.ticket.specs.declared.Decoded.{Decoded}
-use Rattle.ticket.specs.Ticket.{ticketOn, decoded, Decodes}
 use Rattle.sheet.specs.Sheets.{sheetOf}
-use Rattle.admission.specs.Admission.{answerOf, Counts}
+use Rattle.ticket.specs.declared.Decoded.{Decoded}
+use Rattle.ticket.specs.Ticket.{ticketOn, decoded, DecodedIn}
+use Rattle.admission.specs.Admission as Admission
+use Rattle.admission.specs.Admission.{answerOf}
 use Rattle.admission.specs.declared.Counted.{Counted}
 use Rattle.admission.specs.declared.Counted.the-variants as Counted
-use Rattle.intake.specs.declared.Intake.{Intake}
-use Rattle.intake.specs.Intake.{received, Receives}
+use Rattle.intake.specs.Intake.{Counts}
 
--- a refusal, whatever stands beside it
-refuse : (m : Answer Model.Ticket) (r : Refusal) (q : Intake) (l w : List ℤ) → q .status ≡ Refused r → refusal r ≡ received m → Receives m q l w
-refuse m r q l w s h = record {
-  same = ap (λ (x : Status). decoded x (ticketOn (sheetOf (q .outline) l w) (q .steps))) s ∙ h;
-  laid = λ f. not-fine (q .status) s f;
-}
+-- a refusal has no points
+no-points : {A : Type 0} (c : Counted) {r : Refusal} {n : ℕ} → c ≡ Counted.Refused r → c ≡ Counted.Points n → A
+no-points c e f = let z : _≡_ {A = ℕ} 0 1 = cc in absurd (omega arith)
 
-module _ (m : Answer Model.Ticket) (d : Decoded) (l w : List ℤ) (h : Decodes m d l w) where
-  abbrev T : Model.Ticket
-  T = ticketOn (sheetOf (d .outline) l w) (d .steps)
+module _ (d : Decoded) (l w : List ℤ) (h : DecodedIn d l w) where
+  pub decode-refused : (r : Refusal) → d .status ≡ Refused r → Counts d l w (Counted.Refused r)
+  unfolding _>>=_
+  decode-refused r e = record {
+    same = sym (ap (λ (x : Status). decoded x (ticketOn (sheetOf (d .outline) l w) (d .steps)) >>= (λ T. space (T .nest .loops))) e);
+    fine = λ n z. no-points (Counted.Refused r) refl z;
+    laid = λ n z. no-points (Counted.Refused r) refl z;
+  }
 
-  pub decode-refused : (r : Refusal) (q : Intake) → d .status ≡ Refused r → q .status ≡ Refused r → Receives m q l w
-  unfolding received _>>=_
-  decode-refused r q s z = refuse m r q l w z (ap (_>>= (λ T. space (T .nest .loops) >> accepted T)) (sym (ap (λ (x : Status). decoded x T) s) ∙ h .same))
-
-  module _ (s : d .status ≡ Fine) where
-    is-ticket : m ≡ accepted T
-    is-ticket = sym (h .same) ∙ ap (λ (x : Status). decoded x T) s
-
-    receives : received m ≡ (space (T .nest .loops) >> accepted T)
-    unfolding received _>>=_
-    receives = ap (_>>= (λ T. space (T .nest .loops) >> accepted T)) is-ticket
-
-    module _ (a : Counted) (g : Counts (sheetOf (d .outline) l w) a) where
-      same-answer : answerOf a ≡ space (T .nest .loops)
-      unfolding ticketOn
-      same-answer = g .same
-
-      pub space-refused : (r : Refusal) (q : Intake) → a ≡ Counted.Refused r → q .status ≡ Refused r → Receives m q l w
-      unfolding _>>_ _>>=_
-      space-refused r q s z = refuse m r q l w z (ap (_>> accepted T) (sym (ap answerOf s) ∙ same-answer) ∙ sym receives)
-
-      pub received-out : (n : ℕ) → a ≡ Counted.Points n → Sound m → Receives m (record { status = Fine; steps = d .steps; outline = d .outline; count = n }) l w
-      unfolding _>>_ _>>=_ ticketOn
-      received-out n y sound = record {
-        same = sym (ap (_>> accepted T) (sym same-answer ∙ ap answerOf y)) ∙ sym receives;
-        laid = λ _. record {
-          steps = h .steps;
-          ranges = sound .ranges is-ticket;
-          formed = sound .formed is-ticket;
-          spacious = sym same-answer ∙ ap answerOf y;
-          sheet = h .sheet s;
-          shallow = h .shallow s;
-          count = g .count n y;
-        };
-      }
+  pub counted : d .status ≡ Fine → (a : Counted) → Admission.Counts (sheetOf (d .outline) l w) a → Counts d l w a
+  unfolding _>>=_ ticketOn
+  counted e a g = record {
+    same = g .same ∙ sym (ap (λ (x : Status). decoded x (ticketOn (sheetOf (d .outline) l w) (d .steps)) >>= (λ T. space (T .nest .loops))) e);
+    fine = λ n z. e;
+    laid = λ n z. record { ticket = h .ticket e; spacious = sym (g .same) ∙ ap answerOf z; count = g .count n z };
+  }

@@ -29,5 +29,5 @@ module _ (b : List ℕ) (d : Decided) (l w : List ℤ) (h : Decides (decode b) d
 
   pub judge-accepted : d .status ≡ Fine → accepted (d .count) ≡ judge b
   unfolding _>>=_
-  judge-accepted s = ap accepted (h .count s)
+  judge-accepted s = ap accepted (h .known s .count)
       ∙ sym (ap (λ (x : Status). judgedAs x (record { ticket = h .ticket; new = nestOf (sheetOf (d .outline) l w) }) >>= (λ (j : Judged). accepted (length (iterations (j .ticket .nest .loops))))) s) ∙ whole

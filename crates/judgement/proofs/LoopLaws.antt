@@ -7,13 +7,16 @@ use native.Mathlib.Omega.{arith}
 use native.Mathlib.Numerals.{add-one}
 use lib.IntN.{ℤ}
 use lib.ListN.{length, getD, take, drop, length-append, take-append-drop}
+use Rattle.integers.specs.Sign.{Sign}
+use Rattle.lists.specs.Membership.{SameMembers}
+use Rattle.lists.proofs.MembershipLaws.{members-refl, members-trans}
 use Rattle.model.specs.Answer.{accepted}
 use Rattle.model.specs.Ticket as Model
 use Rattle.model.specs.Grammar.{depthAfter}
 use Rattle.model.specs.Ranges.{StepThere, StepsThere}
-use Rattle.model.specs.Steps.{somePointsBack}
+use Rattle.model.specs.Steps.{vectorsAfterAll, somePointsBack}
 use Rattle.model.specs.Judge.{judgeSteps, directionsOf}
-use Rattle.model.proofs.Verdict.SameVectorsLaws.{judgeSteps-same}
+use Rattle.model.proofs.Verdict.SameVectorsLaws.{vectorsAfter-same, judgeSteps-same}
 use Rattle.reading.proofs.ReaderLaws.{not-fine}
 use Rattle.reading.specs.declared.Refusal.{Refusal}
 use Rattle.reading.specs.declared.Refusal.the-variants.{DependenceReversed}
@@ -64,7 +67,14 @@ pub record SoFar (S : Steps) (P : Sheet) (s₀ : DirectionSet) (Q : Sheet) (s : 
   pub so : judgeSteps 1 (stepsOf S) (vectorsOf s₀) (nestOf P) ≡ judgeSteps (suc k) (drop k (stepsOf S)) (vectorsOf s) (nestOf Q)
   pub sheet : SheetIn Q
   pub level : s .depth ≡ Q .depth
+  pub vectors : SameMembers (vectorsAfterAll (drop k (stepsOf S)) (vectorsOf s)) (vectorsAfterAll (stepsOf S) (vectorsOf s₀))
   pub there : StepsThere (Q .depth) (drop k (stepsOf S))
+
+-- the vectors after further steps go by those before them
+carried-same : (ts : List Model.Step) {vs ws : List (List Sign)} → SameMembers vs ws → SameMembers (vectorsAfterAll ts vs) (vectorsAfterAll ts ws)
+unfolding vectorsAfterAll
+carried-same [] h = h
+carried-same (t ∷ ts) h = carried-same ts (vectorsAfter-same t h)
 
 module _ (S : Steps) (j : StepsIn S) (P : Sheet) (s₀ : DirectionSet) (Q : Sheet) (s : DirectionSet) (k : ℕ) (v : SoFar S P s₀ Q s k) (d : Numbered) (h : k < S .count) where
   abbrev x : Numbered
@@ -87,6 +97,11 @@ module _ (S : Steps) (j : StepsIn S) (P : Sheet) (s₀ : DirectionSet) (Q : Shee
   so-next = v .so ∙ ap₂ (λ n ts. judgeSteps n ts (vectorsOf s) (nestOf Q)) (sym number-is) next-is
 
   module _ (q : DirectionSet) (a : After (stepOf (x .step)) s q) (b : Bool) (p : b ≡ somePointsBack (vectorsOf q)) where
+    vectors-next : SameMembers (vectorsAfterAll (drop (suc k) (stepsOf S)) (vectorsOf q)) (vectorsAfterAll (stepsOf S) (vectorsOf s₀))
+    unfolding vectorsAfterAll
+    vectors-next = members-trans (carried-same (drop (suc k) (stepsOf S)) (a .vectors))
+        (subst (λ ts. SameMembers (vectorsAfterAll ts (vectorsOf s)) (vectorsAfterAll (stepsOf S) (vectorsOf s₀))) next-is (v .vectors))
+
     pub stops-back : b ≡ true → (z : Status) → z ≡ Refused (DependenceReversed (x .number)) → (M : Model.Nest) → judgedAs z M ≡ judgeSteps 1 (stepsOf S) (vectorsOf s₀) (nestOf P)
     stops-back e z y M =
         ap (λ (u : Status). judgedAs u M) y
@@ -115,16 +130,22 @@ module _ (S : Steps) (j : StepsIn S) (P : Sheet) (s₀ : DirectionSet) (Q : Shee
         so = goes-on ∙ ap (λ (t : Status). unless t (judgeSteps (suc (suc k)) (drop (suc k) (stepsOf S)) (vectorsOf q) (nestOf (R depth)))) f;
         sheet = sheet-goes-on Q (v .sheet) s (v .level) (x .step) step-there q a b p (x .number) (drop (suc k) (stepsOf S)) e z l c w g f;
         level = level-goes-on Q (v .sheet) s (v .level) (x .step) step-there q a;
+        vectors = vectors-next;
         there = next-there .1;
       }))
 
-all-judged : (S : Steps) (P : Sheet) (s₀ : DirectionSet) (Q : Sheet) (s : DirectionSet) (k : ℕ) → SoFar S P s₀ Q s k → S .count ≤ k
-    → judgeSteps 1 (stepsOf S) (vectorsOf s₀) (nestOf P) ≡ accepted (nestOf Q)
-unfolding judgeSteps stepsOf
-all-judged S P s₀ Q s k v h =
-    let z : k ≡ S .count = let f = v .few in omega arith in
-    let e : drop k (stepsOf S) ≡ [] = ap (λ n. drop n (stepsOf S)) z ∙ steps-end (S .count) (S .steps) in
-    v .so ∙ ap (λ ts. judgeSteps (suc k) ts (vectorsOf s) (nestOf Q)) e
+module _ (S : Steps) (P : Sheet) (s₀ : DirectionSet) (Q : Sheet) (s : DirectionSet) (k : ℕ) (v : SoFar S P s₀ Q s k) (h : S .count ≤ k) where
+  none-left : drop k (stepsOf S) ≡ []
+  unfolding stepsOf
+  none-left = let z : k ≡ S .count = let f = v .few in omega arith in ap (λ n. drop n (stepsOf S)) z ∙ steps-end (S .count) (S .steps)
+
+  all-judged : judgeSteps 1 (stepsOf S) (vectorsOf s₀) (nestOf P) ≡ accepted (nestOf Q)
+  unfolding judgeSteps
+  all-judged = v .so ∙ ap (λ ts. judgeSteps (suc k) ts (vectorsOf s) (nestOf Q)) none-left
+
+  all-carried : SameMembers (vectorsOf s) (vectorsAfterAll (stepsOf S) (vectorsOf s₀))
+  unfolding vectorsAfterAll
+  all-carried = subst (λ ts. SameMembers (vectorsAfterAll ts (vectorsOf s)) (vectorsAfterAll (stepsOf S) (vectorsOf s₀))) none-left (v .vectors)
 
 -- ---- of a ticket
 
@@ -136,6 +157,7 @@ module _ (P : Sheet) (S : Steps) (s₀ : DirectionSet) (i : JudgeIn P S s₀) wh
     so = refl;
     sheet = i .sheet;
     level = i .level;
+    vectors = members-refl _;
     there = subst (λ m. StepsThere m (stepsOf S)) (depth-is P) (i .ranges .steps);
   }
 
@@ -143,7 +165,15 @@ module _ (P : Sheet) (S : Steps) (s₀ : DirectionSet) (i : JudgeIn P S s₀) wh
   by-directions = judgeSteps-same 1 (stepsOf S) (nestOf P) (i .vectors)
 
   pub steps-stop : (r : Judged) (l w : List ℤ) (y : Refusal) → r .status ≡ Refused y → judgedAs (r .status) (nestOf (sheetOf (r .outline) l w)) ≡ judgeSteps 1 (stepsOf S) (vectorsOf s₀) (nestOf P) → JudgesSteps P S r l w
-  steps-stop r l w y e h = record { same = h ∙ by-directions; sheet = λ f. not-fine (r .status) e f }
+  steps-stop r l w y e h = record { same = h ∙ by-directions; sheet = λ f. not-fine (r .status) e f; directions = λ f. not-fine (r .status) e f }
 
-  pub steps-pass : (O : Outline) (l w : List ℤ) (s : DirectionSet) (k : ℕ) → SoFar S P s₀ (sheetOf O l w) s k → S .count ≤ k → JudgesSteps P S (record { status = Fine; outline = O }) l w
-  steps-pass O l w s k v h = record { same = sym (all-judged S P s₀ (sheetOf O l w) s k v h) ∙ by-directions; sheet = λ _. v .sheet }
+  pub steps-pass : (O : Outline) (l w : List ℤ) (s : DirectionSet) (k : ℕ) → SoFar S P s₀ (sheetOf O l w) s k → S .count ≤ k
+      → JudgesSteps P S (record { status = Fine; outline = O; directions = s }) l w
+  steps-pass O l w s k v h = record {
+    same = sym (all-judged S P s₀ (sheetOf O l w) s k v h) ∙ by-directions;
+    sheet = λ _. v .sheet;
+    directions = λ _. record {
+      level = v .level;
+      vectors = members-trans (all-carried S P s₀ (sheetOf O l w) s k v h) (carried-same (stepsOf S) (i .vectors));
+    };
+  }

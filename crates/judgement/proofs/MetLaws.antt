@@ -1,4 +1,4 @@
--- Every received ticket meets `JudgeIn`, with a set of marks that stands for its directions.
+-- Every ticket that is read meets `JudgeIn`, with a set of marks that stands for its directions.
 use mathlib.Core.Path.{_≡_, refl, sym, _∙_, ap, subst}
 use mathlib.Core.Bool.{Bool, true, false}
 use mathlib.Core.List.{List, [], _∷_, List·Memᴰ·head, List·Memᴰ·tail, List·Memᴰ·cases-cons}
@@ -6,8 +6,6 @@ use mathlib.Core.Logic.{⊎-elim}
 use Prim.Native.Nat.{ℕ, suc, _≤_}
 use native.Mathlib.Omega.{arith}
 use lib.IntN.{ℤ}
-use Rattle.model.specs.Answer.{Answer}
-use Rattle.model.specs.Ticket.{Ticket}
 use lib.ListN.{length, set, replicate, length-replicate, length-set}
 use Rattle.integers.specs.Sign.{Sign}
 use Rattle.lists.specs.Membership.{All, SameMembers}
@@ -22,11 +20,10 @@ use Rattle.model.proofs.Machine.DirectionLaws.{mem-directions}
 use Rattle.model.proofs.Machine.InstanceLaws.{instances-mem}
 use Rattle.model.proofs.Points.PointLaws.{iterations-length}
 use Rattle.model.proofs.Promise.TradeLaws.{pair-lengths}
-use Rattle.reading.specs.declared.Status.the-variants.{Fine}
-use Rattle.sheet.specs.Sheets.{sheetOf, nestOf}
+use Rattle.steps.specs.declared.Steps.{Steps}
+use Rattle.sheet.specs.Sheets.{Sheet, nestOf}
 use Rattle.sheet.proofs.StageLaws.{depth-is}
-use Rattle.intake.specs.declared.Intake.{Intake}
-use Rattle.intake.specs.Intake.{Receives}
+use Rattle.ticket.specs.Ticket.{TicketIn}
 use Rattle.preimages.specs.Numbers.{number}
 use Rattle.directions.specs.Sets.{vectorsIn}
 use Rattle.directions.specs.declared.DirectionSet.{DirectionSet}
@@ -74,11 +71,11 @@ marks-of d f (v ∷ vs) a =
       from = λ u i. ⊎-elim List·Memᴰ·head (λ j. List·Memᴰ·tail (s .from u j)) (List·Memᴰ·cases-cons i);
     }
 
--- ---- a received ticket
+-- ---- a ticket that was read
 
-pub received-met : (d : Answer Ticket) (q : Intake) (l w : List ℤ) → Receives d q l w → q .status ≡ Fine → (s : DirectionSet) × JudgeIn (sheetOf (q .outline) l w) (q .steps) s
-received-met d q l w h e =
-    let P = sheetOf (q .outline) l w in
-    let g = h .laid e in
-    let m = marks-of (P .depth) (g .sheet .nest .shallow) (directionsOf (nestOf P)) (λ v i. directions-length (nestOf P) v i ∙ depth-is P) in
-    (record { marks = m .marks; depth = P .depth }, record { sheet = g .sheet; steps = g .steps; ranges = g .ranges; formed = g .formed; level = refl; vectors = m .stand })
+pub ticket-met : (P : Sheet) (S : Steps) → TicketIn P S → (s : DirectionSet) × JudgeIn P S s
+ticket-met P S h =
+    let m = marks-of (P .depth) (h .sheet .nest .shallow) (directionsOf (nestOf P)) (λ v i. directions-length (nestOf P) v i ∙ depth-is P) in (
+      record { marks = m .marks; depth = P .depth },
+      record { sheet = h .sheet; steps = h .steps; ranges = h .ranges; formed = h .formed; level = refl; vectors = m .stand },
+    )

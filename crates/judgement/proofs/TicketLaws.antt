@@ -67,6 +67,7 @@ module _ (P : Sheet) (S : Steps) (s : DirectionSet) (i : JudgeIn P S s) (r : Jud
   steps-refused x q e f = record {
     same = ap (λ (z : Status). judgedAs z (record { ticket = ticketOn P S; new = nestOf (sheetOf (q .outline) l w) })) f ∙ sym (bind-stop verdict (sym (g .same) ∙ ap (λ (z : Status). judgedAs z new) e));
     fine = λ h. not-fine (q .status) f h;
+    directions = λ h. not-fine (q .status) f h;
   }
 
   module _ (e : r .status ≡ Fine) where
@@ -84,7 +85,8 @@ module _ (P : Sheet) (S : Steps) (s : DirectionSet) (i : JudgeIn P S s) (r : Jud
     unfolding ticketOn
     formed = subst WellFormed (sym (made .0)) (new-formed (ticketOn P S) (i .ranges) (i .formed))
 
-    pub ticket-judged : (z : Status) → SurveyedNew (sheetOf (r .outline) l w) z → Judges P S (record { status = z; outline = r .outline }) l w
+    pub ticket-judged : (z : Status) → SurveyedNew (sheetOf (r .outline) l w) z
+        → Judges P S (record { status = z; outline = r .outline; directions = r .directions }) l w
     unfolding judgeTicket ticketOn
     ticket-judged z h = record {
       same = passed-with z (sprawl (new .loops)) (record { ticket = ticketOn P S; new = new }) h ∙ sym (bind-pass verdict steps-accepted);
@@ -94,4 +96,5 @@ module _ (P : Sheet) (S : Steps) (s : DirectionSet) (i : JudgeIn P S s) (r : Jud
         formed = formed;
         sprawls = sym h ∙ ap (λ (x : Status). judgedAs x tt) f;
       };
+      directions = λ _. g .directions e;
     }

@@ -9,6 +9,7 @@ use Rattle.model.specs.Answer.{Answer, accepted}
 use Rattle.model.specs.Bounds.{sprawl}
 use Rattle.model.specs.Ranges.{StepThere, NestRanges, TicketRanges}
 use Rattle.model.specs.Shape.{WellFormed}
+use Rattle.model.specs.Steps.{vectorsAfterAll}
 use Rattle.model.specs.Judge.{judgeSteps, directionsOf, judgeTicket}
 use Rattle.reading.specs.Refusals.{refusal}
 use Rattle.reading.specs.declared.Refusal.the-variants.{TooManyLimits, NumberOutOfRange}
@@ -63,10 +64,16 @@ pub record JudgeIn (P : Sheet) (S : Steps) (s : DirectionSet) : Type 0 where
   pub level : s .depth ≡ P .depth
   pub vectors : SameMembers (vectorsOf s) (directionsOf (nestOf P))
 
+-- s has the vectors of the directions of P, carried through all steps, and as many signs as the new nest P′ has loops
+pub record DirectionsAfter (P : Sheet) (S : Steps) (P′ : Sheet) (s : DirectionSet) : Type 0 where
+  pub level : s .depth ≡ P′ .depth
+  pub vectors : SameMembers (vectorsOf s) (vectorsAfterAll (stepsOf S) (directionsOf (nestOf P)))
+
 -- 10 to 12 of all steps; the limits and words of P became l and w
 pub record JudgesSteps (P : Sheet) (S : Steps) (r : Judged) (l w : List ℤ) : Type 0 where
   pub same : judgedAs (r .status) (nestOf (sheetOf (r .outline) l w)) ≡ judgeSteps 1 (stepsOf S) (directionsOf (nestOf P)) (nestOf P)
   pub sheet : r .status ≡ Fine → SheetIn (sheetOf (r .outline) l w)
+  pub directions : r .status ≡ Fine → DirectionsAfter P S (sheetOf (r .outline) l w) (r .directions)
 
 -- 13
 abbrev pub SurveyedNew : Sheet → Status → Type 0
@@ -83,3 +90,4 @@ pub record New (P : Sheet) : Type 0 where
 pub record Judges (P : Sheet) (S : Steps) (r : Judged) (l w : List ℤ) : Type 0 where
   pub same : judgedAs (r .status) (record { ticket = ticketOn P S; new = nestOf (sheetOf (r .outline) l w) }) ≡ judgeTicket (ticketOn P S)
   pub fine : r .status ≡ Fine → New (sheetOf (r .outline) l w)
+  pub directions : r .status ≡ Fine → DirectionsAfter P S (sheetOf (r .outline) l w) (r .directions)

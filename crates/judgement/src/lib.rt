@@ -16,18 +16,20 @@ use space::Verdict;
 use steps::Step;
 use steps::Steps;
 
-// The new nest where the status is Fine; its limits and the words of its accesses stand where the old ones stood.
+// The new nest and its directions where the status is Fine; its limits and the words of its accesses stand where the old ones stood.
 pub struct Judged {
     pub status: Status,
     pub outline: Outline,
+    pub directions: DirectionSet,
 }
 
-fn refused(r: Refusal, outline: Outline) -> Judged
+fn refused(r: Refusal, outline: Outline, set: DirectionSet) -> Judged
     ensures { λ q. ⌜ q .status ≡ Refused r ⌝ }
 {
     Judged {
         status: Status::Refused(r),
         outline: outline,
+        directions: set,
     }
 }
 
@@ -130,7 +132,7 @@ fn judge_steps(
         let step = numbered.step;
         let after = direction_after(vectors, step);
         if directions::points_back(after) {
-            return refused(Refusal::DependenceReversed(number), outline);
+            return refused(Refusal::DependenceReversed(number), outline, set);
         }
         let status = take(
             limits,
@@ -144,7 +146,7 @@ fn judge_steps(
         );
         match status {
             Status::Fine => {}
-            Status::Refused(r) => return refused(r, outline),
+            Status::Refused(r) => return refused(r, outline, set),
         }
         depth = steps::depth_after(step, depth);
         vectors = after;
@@ -167,6 +169,7 @@ fn judge_steps(
             accesses,
             owners,
         },
+        directions: vectors,
     }
 }
 
@@ -200,14 +203,16 @@ pub fn judge_ticket(
 {
     let stepped = judge_steps(outline, limits, words, steps, set);
     let new = stepped.outline;
+    let directions = stepped.directions;
     let status = stepped.status;
     match status {
         Status::Fine => {}
-        Status::Refused(r) => return refused(r, new),
+        Status::Refused(r) => return refused(r, new, directions),
     }
     let verdict = survey_new(new, limits, words);
     Judged {
         status: verdict,
         outline: new,
+        directions: directions,
     }
 }

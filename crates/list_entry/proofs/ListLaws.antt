@@ -1,4 +1,4 @@
--- The listing of an admitted nest handed out, then the model's `list`.
+-- The listing of an admitted nest handed out; of any nest, refusal 9 found or passed; of a decoded ticket: the model's `listOf`.
 use mathlib.Core.Path.{_≡_, refl, sym, _∙_, ap, subst}
 use mathlib.Core.Bool.{Bool, true, false, cond}
 use mathlib.Core.List.{List, [], _∷_, _++_, flatMap}
@@ -10,9 +10,10 @@ use lib.ListN.{length, length-append}
 use borrow.Author.Tests.{leb-true, leb-false}
 use Rattle.lists.specs.Parts.{put}
 use Rattle.model.specs.Answer as Model
-use Rattle.model.specs.Answer.{accepted, _>>=_}
+use Rattle.model.specs.Answer.{accepted, refused, _>>_, _>>=_}
 use Rattle.model.specs.Ticket.{Nest, Ticket}
 use Rattle.model.specs.Points.{iterations}
+use Rattle.model.specs.Bounds.{admitted}
 use Rattle.model.specs.Judge.{admit, admitOf}
 use Rattle.model.specs.Listing.{decimal, headText, lineText, linesOf, listing}
 use Rattle.model.specs.Entries.{Outcome, handOut, list, listOf}
@@ -22,20 +23,23 @@ use Rattle.reading.specs.declared.Status.{Status}
 use Rattle.reading.specs.declared.Status.the-variants as Status
 use Rattle.reading.specs.declared.Status.the-variants.{Fine}
 use Rattle.reading.specs.Refusals.{refusal}
-use Rattle.ticket.specs.Ticket.{ticketOn}
+use Rattle.steps.specs.declared.Steps.{Steps}
+use Rattle.ticket.specs.declared.Decoded.{Decoded}
+use Rattle.ticket.specs.Ticket.{ticketOn, ticketOf, Decodes}
 use Rattle.sheet.specs.Sheets.{Sheet, sheetOf, nestOf}
 use Rattle.listing_text.specs.Text.{text, Written}
 use Rattle.lines.proofs.MarkLaws.{listing-is}
+use Rattle.admission.specs.Admission.{passed}
+use Rattle.admission.specs.declared.Counted.{Counted}
+use Rattle.admission.specs.declared.Counted.the-variants as Counted
 use Rattle.admission.proofs.AdmissionLaws.{few-points}
-use Rattle.intake.specs.declared.Intake.{Intake}
 use Rattle.intake.specs.declared.Answer.{Answer}
 use Rattle.intake.specs.declared.Answer.the-variants.{Accepted, Refused}
-use Rattle.intake.specs.Intake.{Laid, Receives}
+use Rattle.intake.specs.Intake.{Counts}
 use Rattle.intake.specs.Answers.{Hands}
-use Rattle.intake.proofs.AdmitLaws.{laid-received, admitted-received, waits, not-admitted, admitted-too}
+use Rattle.intake.proofs.AdmitLaws.{not-counted, ticket-there}
 use Rattle.intake.proofs.AnswerLaws.{refused-before, too-short, written, handed-fits}
-use Rattle.finding.specs.Findings.{Finds}
-use Rattle.list_entry.specs.Listable.{Listable}
+use Rattle.list_entry.specs.Listable.{Listable, FoundIn, listNest}
 
 -- ---- a text that is not empty: no bytes are written where the buffer is short, and only there
 
@@ -81,45 +85,55 @@ module _ (P : Sheet) (n : ℕ) (marks : List Bool) (h : Listable P n marks) (o e
   pub all-written : (k ≡ 0 → ⊥) → Hands (handOut (accepted (listing (nestOf P))) o) (Accepted k) e
   all-written = some-bytes (listing (nestOf P)) o e k whole (never-empty (nestOf P))
 
--- ---- the entry
+-- ---- a nest of which refusal 9 was found, or passed
 
-abbrev listed : Model.Answer Ticket → Model.Answer (List ℕ)
-listed m = m >>= (λ T. accepted (listing (T .nest)))
+module _ (P : Sheet) (n : ℕ) (s : Status) (marks : List Bool) (h : FoundIn P n s marks) where
+  abbrev listed : Model.Answer (Unit {0}) → Model.Answer (List ℕ)
+  listed m = m >> accepted (listing (nestOf P))
 
-pub turned-away : (b : Model.Answer Ticket) (r : Refusal) → admitOf b ≡ refusal r → (m : List ℕ) → Hands (listOf b m) (Refused r) m
-unfolding listOf _>>=_
-turned-away b r e m = refused-before (listed (admitOf b)) m r (ap listed (sym e))
-
-module _ (q : Intake) (l w : List ℤ) (k : Laid (sheetOf (q .outline) l w) (q .steps) (q .count)) (f : q .status ≡ Fine) (s : Status) (marks : List Bool) (g : Finds (sheetOf (q .outline) l w) s marks) where
-  -- the ticket as it stands
-  abbrev b : Model.Answer Ticket
-  b = accepted (ticketOn (sheetOf (q .outline) l w) (q .steps))
-
-  h : Receives b q l w
-  h = laid-received q l w f k
-
-  pub found-refused : (r : Refusal) → s ≡ Status.Refused r → (m : List ℕ) → Hands (listOf b m) (Refused r) m
-  found-refused r e = turned-away b r (not-admitted b q l w h f s (g .admits) r e)
+  pub found-refused : (r : Refusal) → s ≡ Status.Refused r → (o : List ℕ) → Hands (listNest (nestOf P) o) (Refused r) o
+  unfolding listNest _>>_ _>>=_
+  found-refused r e o = refused-before (listed (admitted (nestOf P))) o r (ap listed (sym (ap passed e) ∙ h .finds .admits))
 
   module _ (e : s ≡ Fine) where
-    pub listable : Listable (sheetOf (q .outline) l w) (q .count) marks
-    listable = let v = waits b q l w h f in let n = few-points (sheetOf (q .outline) l w) (q .count) v in record { lines = g .lines e; count = v .count; few = omega arith }
+    pub listable : Listable P n marks
+    listable = let k = few-points P n (h .waits) in record { lines = h .finds .lines e; count = h .waits .count; few = omega arith }
 
-    pub handed : (m m′ : List ℕ) (a : Answer) → Hands (handOut (accepted (listing (nestOf (sheetOf (q .outline) l w)))) m) a m′ → Hands (listOf b m) a m′
-    unfolding listOf _>>=_ ticketOn
-    handed m m′ a = subst (λ (x : Model.Answer (List ℕ)). Hands (handOut x m) a m′) (sym (ap listed (admitted-too b q l w h f s (g .admits) e)))
+    pub handed : (o o′ : List ℕ) (a : Answer) → Hands (handOut (accepted (listing (nestOf P))) o) a o′ → Hands (listNest (nestOf P) o) a o′
+    unfolding listNest _>>_ _>>=_
+    handed o o′ a = subst (λ (x : Model.Answer (List ℕ)). Hands (handOut x o) a o′) (ap listed (sym (ap passed e) ∙ h .finds .admits))
+
+-- ---- a decoded ticket
+
+-- a ticket's listing is that of its nest
+of-nest : (P : Sheet) (S : Steps) (o : List ℕ) → listNest (nestOf P) o ≡ listOf (accepted (ticketOn P S)) o
+unfolding listNest listOf admitOf ticketOn _>>_ _>>=_
+of-nest P S o = ap (λ (x : Model.Answer (List ℕ)). handOut x o) (go (admitted (nestOf P)))
+  where
+    go : (m : Model.Answer (Unit {0}))
+        → (m >> accepted (listing (nestOf P))) ≡ ((m >> accepted (ticketOn P S)) >>= (λ T. accepted (listing (T .nest))))
+    go (accepted u) = refl
+    go (refused n p) = refl
+
+module _ (d : Decoded) (l w : List ℤ) (c : Counted) (h : Counts d l w c) (o : List ℕ) where
+  pub not-listed : (r : Refusal) → c ≡ Counted.Refused r → Hands (listOf (ticketOf d l w) o) (Refused r) o
+  unfolding listOf _>>=_
+  not-listed r e =
+      refused-before (admitOf (ticketOf d l w) >>= (λ T. accepted (listing (T .nest)))) o r
+      (ap (_>>= (λ (T : Ticket). accepted (listing (T .nest)))) (sym (not-counted d l w c h r e)))
+
+  pub listed-whole : (n : ℕ) → c ≡ Counted.Points n → (o′ : List ℕ) (a : Answer)
+      → Hands (listNest (nestOf (sheetOf (d .outline) l w)) o) a o′ → Hands (listOf (ticketOf d l w) o) a o′
+  listed-whole n e o′ a = subst (λ (x : Outcome). Hands x a o′)
+      (of-nest (sheetOf (d .outline) l w) (d .steps) o ∙ ap (λ (x : Model.Answer Ticket). listOf x o) (sym (ticket-there d l w (h .fine n e))))
+
+-- of the bytes that were decoded
+pub of-bytes : (m : Model.Answer Ticket) (d : Decoded) (l w : List ℤ) → Decodes m d l w → (o o′ : List ℕ) (a : Answer)
+    → Hands (listOf (ticketOf d l w) o) a o′ → Hands (listOf m o) a o′
+of-bytes m d l w h o o′ a = subst (λ (x : Model.Answer Ticket). Hands (listOf x o) a o′) (h .same)
 
 -- ---- for those who read what was written
 
 pub listed-fits : (b o e : List ℕ) (a : Answer) (n : ℕ) → Hands (list b o) a e → a ≡ Accepted n → n ≤ length o
 unfolding listOf
 listed-fits b o e a n h z = handed-fits (admit b >>= (λ T. accepted (listing (T .nest)))) o e n (subst (λ (x : Answer). Hands (list b o) x e) z h)
-
--- what was received is listed as it stands
-pub list-received : (m : Model.Answer Ticket) (q : Intake) (l w : List ℤ) → Receives m q l w → q .status ≡ Fine → (o : List ℕ) → listOf (accepted (ticketOn (sheetOf (q .outline) l w) (q .steps))) o ≡ listOf m o
-unfolding listOf
-list-received m q l w h f o = ap (λ (x : Model.Answer Ticket). handOut (x >>= (λ T. accepted (listing (T .nest)))) o) (admitted-received m q l w h f)
-
-pub handed-received : (m : Model.Answer Ticket) (q : Intake) (l w : List ℤ) → Receives m q l w → q .status ≡ Fine → (o e : List ℕ) (a : Answer)
-    → Hands (listOf (accepted (ticketOn (sheetOf (q .outline) l w) (q .steps))) o) a e → Hands (listOf m o) a e
-handed-received m q l w h f o e a = subst (λ (x : Outcome). Hands x a e) (list-received m q l w h f o)

@@ -1,4 +1,4 @@
--- The access numbers and the test, in the order of the model's `quick`.
+-- The access numbers and the test, in the order of the model's `quick`; of any nest, refusal 9 found or passed; of a decoded ticket.
 use mathlib.Core.Path.{_≡_, refl, sym, _∙_, ap, subst}
 use mathlib.Core.Bool.{Bool, true, false, not, cond, _&&_}
 use mathlib.Core.List.{List}
@@ -9,6 +9,7 @@ use lib.IntN.{ℤ}
 use lib.ListN.{length, getD}
 use Rattle.model.specs.Answer.{Answer, accepted, refused, require, _>>_, _>>=_}
 use Rattle.model.specs.Ticket.{Access, Ticket}
+use Rattle.model.specs.Bounds.{admitted}
 use Rattle.model.specs.Quick.{apart, perhaps, isApart, quickTest}
 use Rattle.model.specs.Judge.{admitOf}
 use Rattle.model.specs.Entries.{allAccesses, accessNumber, quickOf}
@@ -16,16 +17,20 @@ use Rattle.reading.specs.declared.Refusal.{Refusal}
 use Rattle.reading.specs.declared.Refusal.the-variants.{WordOutOfRange}
 use Rattle.reading.specs.Refusals.{refusal}
 use Rattle.steps.specs.declared.Steps.{Steps}
-use Rattle.ticket.specs.Ticket.{ticketOn}
+use Rattle.ticket.specs.declared.Decoded.{Decoded}
+use Rattle.ticket.specs.Ticket.{ticketOn, ticketOf, Decodes}
 use Rattle.sheet.specs.Sheets.{Sheet, sheetOf, nestOf, SheetIn}
-use Rattle.reading.specs.declared.Status.the-variants.{Fine}
-use Rattle.intake.specs.declared.Intake.{Intake}
-use Rattle.intake.specs.Intake.{Receives}
-use Rattle.intake.proofs.AdmitLaws.{admitted-received}
+use Rattle.reading.specs.declared.Status.{Status}
+use Rattle.reading.specs.declared.Status.the-variants.{Fine, Refused}
+use Rattle.admission.specs.Admission.{passed}
+use Rattle.admission.specs.declared.Counted.{Counted}
+use Rattle.admission.specs.declared.Counted.the-variants as Counted
+use Rattle.intake.specs.Intake.{Counts}
+use Rattle.intake.proofs.AdmitLaws.{not-counted, ticket-there}
 use Rattle.sheet.specs.Stages.{noAccess, accessOf, TestIn}
 use Rattle.sheet.proofs.SheetLaws.{access-count}
 use Rattle.quick_entry.specs.declared.Tested.{Tested}
-use Rattle.quick_entry.specs.Answers.{answerOf, tested}
+use Rattle.quick_entry.specs.Answers.{answerOf, tested, FoundIn, testNest}
 
 both : (a b : Bool) → (a && b) ≡ true → (a ≡ true) × (b ≡ true)
 both true b e = (refl, e)
@@ -106,18 +111,40 @@ module _ (P : Sheet) (h : SheetIn P) (u : ℕ) (s : Bool) (e : s ≡ (leb 1 u &&
         pub says-perhaps : r ≡ false → accepted perhaps ≡ tested (nestOf P) u v
         says-perhaps q = sym (both-pass ∙ ap (λ (x : Bool). accepted (cond x apart perhaps)) q)
 
--- ---- the entry
+-- ---- a nest of which refusal 9 was found, or passed
 
-module _ (b : Answer Ticket) (u v : ℕ) where
-  pub refused-by : (r : Refusal) → admitOf b ≡ refusal r → refusal r ≡ quickOf b u v
+module _ (P : Sheet) (s : Status) (h : FoundIn P s) (u v : ℕ) where
+  pub found-refused : (r : Refusal) → s ≡ Refused r → refusal r ≡ testNest (nestOf P) u v
+  unfolding testNest _>>_ _>>=_
+  found-refused r e = ap (_>> tested (nestOf P) u v) (sym (ap passed e) ∙ h .admits)
+
+  pub found-passed : s ≡ Fine → (a : Tested) → answerOf a ≡ tested (nestOf P) u v → answerOf a ≡ testNest (nestOf P) u v
+  unfolding testNest _>>_ _>>=_
+  found-passed e a g = g ∙ ap (_>> tested (nestOf P) u v) (sym (ap passed e) ∙ h .admits)
+
+-- ---- a decoded ticket
+
+-- a ticket's test is that of its nest
+of-nest : (P : Sheet) (S : Steps) (u v : ℕ) → testNest (nestOf P) u v ≡ quickOf (accepted (ticketOn P S)) u v
+unfolding testNest quickOf tested admitOf ticketOn _>>_ _>>=_
+of-nest P S u v = go (admitted (nestOf P))
+  where
+    go : (m : Answer (Unit {0})) → (m >> tested (nestOf P) u v) ≡ ((m >> accepted (ticketOn P S)) >>= (λ T. tested (T .nest) u v))
+    go (accepted x) = refl
+    go (refused n p) = refl
+
+module _ (d : Decoded) (l w : List ℤ) (c : Counted) (h : Counts d l w c) (u v : ℕ) where
+  pub not-tested : (r : Refusal) → c ≡ Counted.Refused r → refusal r ≡ quickOf (ticketOf d l w) u v
   unfolding quickOf tested _>>=_
-  refused-by r e = ap (_>>= (λ T. tested (T .nest) u v)) (sym e)
+  not-tested r e = ap (_>>= (λ T. tested (T .nest) u v)) (sym (not-counted d l w c h r e))
 
-  pub answered-by : (P : Sheet) (S : Steps) → admitOf b ≡ accepted (ticketOn P S) → (a : Tested) → answerOf a ≡ tested (nestOf P) u v → answerOf a ≡ quickOf b u v
-  unfolding quickOf tested _>>=_ ticketOn
-  answered-by P S e a g = g ∙ ap (_>>= (λ T. tested (T .nest) u v)) (sym e)
+  pub tested-whole : (n : ℕ) → c ≡ Counted.Points n → (a : Tested)
+      → answerOf a ≡ testNest (nestOf (sheetOf (d .outline) l w)) u v → answerOf a ≡ quickOf (ticketOf d l w) u v
+  tested-whole n e a g = g
+      ∙ of-nest (sheetOf (d .outline) l w) (d .steps) u v
+      ∙ ap (λ (x : Answer Ticket). quickOf x u v) (sym (ticket-there d l w (h .fine n e)))
 
-  -- what was received is tested as it stands
-  pub quick-received : (q : Intake) (l w : List ℤ) → Receives b q l w → q .status ≡ Fine → quickOf (accepted (ticketOn (sheetOf (q .outline) l w) (q .steps))) u v ≡ quickOf b u v
-  unfolding quickOf tested
-  quick-received q l w h f = ap (_>>= (λ T. tested (T .nest) u v)) (admitted-received b q l w h f)
+-- of the bytes that were decoded
+pub of-bytes : (m : Answer Ticket) (d : Decoded) (l w : List ℤ) → Decodes m d l w → (u v : ℕ) (a : Tested)
+    → answerOf a ≡ quickOf (ticketOf d l w) u v → answerOf a ≡ quickOf m u v
+of-bytes m d l w h u v a g = g ∙ ap (λ (x : Answer Ticket). quickOf x u v) (h .same)

@@ -2,18 +2,16 @@
 ghost use mathlib.Core.Path.{_≡_};
 ghost use mathlib.Core.Bool.{_&&_};
 ghost use lib.Dec.{leb};
-ghost use Rattle.model.specs.Answer.{accepted};
 ghost use Rattle.model.specs.Entries as Entries;
-ghost use Rattle.reading.specs.declared.Status.the-variants.{Fine};
 ghost use Rattle.sheet.specs.Sheets.{sheetOf, nestOf, SheetIn};
-ghost use Rattle.admission.specs.Admission.{Admits};
-ghost use Rattle.ticket.specs.Ticket.{ticketOn};
-ghost use Rattle.intake.specs.Intake.{Laid};
-ghost use Rattle.quick_entry.specs.Answers.{answerOf, tested};
-use intake::Intake;
+ghost use Rattle.admission.specs.Admission.{Waits};
+ghost use Rattle.ticket.specs.Ticket.{DecodedIn, ticketOf};
+ghost use Rattle.quick_entry.specs.Answers.{answerOf, tested, FoundIn, testNest};
+use admission::Counted;
 use reading::Refusal;
 use reading::Status;
 use sheet::Outline;
+use ticket::Decoded;
 
 pub enum Tested {
     Apart,
@@ -50,22 +48,59 @@ fn test(outline: Outline, limits: &[i16], words: &[i16], first: usize, second: u
 
 // The test, where refusal 9 is passed.
 fn test_found(
-    all: Intake,
+    outline: Outline,
     limits: &[i16],
     words: &[i16],
     found: Status,
     first: usize,
     second: usize,
 ) -> Tested
-    requires { ⌜ Laid (sheetOf (all .outline) (now limits) (now words)) (all .steps) (all .count) × (all .status ≡ Fine) × Admits (sheetOf (all .outline) (now limits) (now words)) found ⌝ }
-    ensures { λ r. ⌜ answerOf r ≡ Entries.quickOf (accepted (ticketOn (sheetOf (all .outline) (now (limits .entry)) (now (words .entry))) (all .steps))) first second ⌝ }
+    requires { ⌜ FoundIn (sheetOf outline (now limits) (now words)) found ⌝ }
+    ensures { λ r. ⌜ answerOf r ≡ testNest (nestOf (sheetOf outline (now (limits .entry)) (now (words .entry)))) first second ⌝ }
 {
     match found {
         Status::Fine => {}
         Status::Refused(r) => return Tested::Refused(r),
     }
-    let outline = all.outline;
     test(outline, limits, words, first, second)
+}
+
+// Refusal 9 of a nest of so many points, then the test.
+fn test_nest(
+    outline: Outline,
+    limits: &[i16],
+    words: &[i16],
+    count: usize,
+    first: usize,
+    second: usize,
+) -> Tested
+    requires { ⌜ Waits (sheetOf outline (now limits) (now words)) count ⌝ }
+    ensures { λ r. ⌜ answerOf r ≡ testNest (nestOf (sheetOf outline (now (limits .entry)) (now (words .entry)))) first second ⌝ }
+{
+    if count <= 256 {
+        let few = admission::admit_few(outline, limits, words);
+        return test_found(outline, limits, words, few, first, second);
+    }
+    let many = admission::admit_many(outline, limits, words);
+    test_found(outline, limits, words, many, first, second)
+}
+
+// Of a decoded ticket.
+pub fn quick_decoded(
+    read: Decoded,
+    limits: &[i16],
+    words: &[i16],
+    first: usize,
+    second: usize,
+) -> Tested
+    requires { ⌜ DecodedIn read (now limits) (now words) ⌝ }
+    ensures { λ r. ⌜ answerOf r ≡ Entries.quickOf (ticketOf read (now (limits .entry)) (now (words .entry))) first second ⌝ }
+{
+    let outline = read.outline;
+    match intake::count_points(read, limits, words) {
+        Counted::Points(n) => test_nest(outline, limits, words, n, first, second),
+        Counted::Refused(r) => Tested::Refused(r),
+    }
 }
 
 // Judges 1 to 9, then the two access numbers, from 1. 'Apart' means that the two accesses never meet (model, Demands: apart-never-meet).
@@ -74,17 +109,6 @@ pub fn quick(ticket: &[u8], first: usize, second: usize) -> Tested
 {
     let mut limits = [0i16; 1536];
     let mut words = [0i16; 480];
-    let all = intake::receive(ticket, &mut limits, &mut words);
-    let status = all.status;
-    match status {
-        Status::Fine => {}
-        Status::Refused(r) => return Tested::Refused(r),
-    }
-    let outline = all.outline;
-    if all.count <= 256 {
-        let few = admission::admit_few(outline, &limits, &words);
-        return test_found(all, &limits, &words, few, first, second);
-    }
-    let many = admission::admit_many(outline, &limits, &words);
-    test_found(all, &limits, &words, many, first, second)
+    let read = ticket::decode(ticket, &mut limits, &mut words);
+    quick_decoded(read, &limits, &words, first, second)
 }

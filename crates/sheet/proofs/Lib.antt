@@ -2,3 +2,4 @@
 pub mod SheetLaws
 pub mod ArrayLaws
 pub mod StageLaws
+pub mod ClearLaws

@@ -1,11 +1,13 @@
 -- What the stages find on a sheet, in terms of the nest that it stands for.
 use mathlib.Core.Path.{_≡_}
+use mathlib.Core.Bool.{not}
 use mathlib.Core.List.{List, []}
-use Prim.Native.Nat.{ℕ, _+_, _*_, _≤_, _<_}
+use Prim.Native.Nat.{ℕ, zero, suc, _+_, _*_, _≤_, _<_}
+use lib.Dec.{eqb}
 use lib.IntN.{ℤ}
 use lib.ListN.{length, getD}
 use Rattle.lists.specs.Parts.{rows}
-use Rattle.model.specs.Answer.{accepted}
+use Rattle.model.specs.Answer.{Answer, accepted, refused, require, _>>_}
 use Rattle.model.specs.Ticket.{Access, Nest}
 use Rattle.model.specs.Grammar.{total}
 use Rattle.model.specs.Points.{iterations}
@@ -47,6 +49,16 @@ pub record StrayIn (P : Sheet) (points : List ℤ) (n : ℕ) : Type 0 where
 -- 9
 abbrev pub Searched : Sheet → ℕ → Type 0
 Searched P r = Elements.answerOf r ≡ inArrays (nestOf P .arrays) (iterations (nestOf P .loops)) 1 (nestOf P .statements)
+
+-- 15: the number of the first opaque statement, 0 for none
+abbrev pub opaqueAt : ℕ → Answer (Unit {0})
+opaqueAt zero = accepted tt
+opaqueAt (suc n) = refused 15 (suc n)
+
+-- n statements with these rules, from statement i on, counted from 0
+unfoldable pub clearFrom : List ℕ → ℕ → ℕ → Answer (Unit {0})
+clearFrom rules i zero = accepted tt
+clearFrom rules i (suc n) = require (not (eqb (getD rules i 0) 0)) 15 (suc i) >> clearFrom rules (suc i) n
 
 -- any n points, all of the nest's or a part of them, at which no access leaves its array
 pub record NumberIn (P : Sheet) (points : List ℤ) (n room : ℕ) : Type 0 where

@@ -1,12 +1,13 @@
-// A nest with its arrays and accesses laid out flat, and what the stages find on it: refusals 7 to 9 and 13, points, places of accesses,
+// A nest with its arrays and accesses laid out flat, and what the stages find on it: refusals 7 to 9, 13 and 15, points, places of accesses,
 // the quick test.
 ghost use mathlib.Core.Path.{_≡_};
 ghost use lib.ListN.{length};
 ghost use Rattle.model.specs.Grammar.{total};
 ghost use Rattle.model.specs.Quick.{isApart};
+ghost use Rattle.model.specs.Entries.{transparent};
 ghost use Rattle.space.specs.Tallies.{Bounded};
 ghost use Rattle.sheet.specs.Sheets.{sheetOf, nestOf, SheetIn};
-ghost use Rattle.sheet.specs.Stages.{Surveyed, ListIn, PointsAre, StrayIn, Searched, NumberIn, NumbersAre, accessOf, TestIn};
+ghost use Rattle.sheet.specs.Stages.{Surveyed, ListIn, PointsAre, StrayIn, Searched, opaqueAt, NumberIn, NumbersAre, accessOf, TestIn};
 use space::Verdict;
 
 // A sheet without its two large slices, 1536 words of limits and 480 of accesses, which are lent beside it: the slices as `space` and `elements`
@@ -81,6 +82,23 @@ pub fn elements_in(outline: Outline, limits: &[i16], words: &[i16]) -> usize
     let extents = outline.extents;
     let arrays = outline.arrays;
     elements::total_of(&extents[..arrays * 4], arrays)
+}
+
+// The number of the first statement with rule 0, from 1, or 0.
+pub fn first_opaque(outline: Outline, limits: &[i16], words: &[i16]) -> usize
+    requires { ⌜ SheetIn (sheetOf outline (now limits) (now words)) ⌝ }
+    ensures { λ r. ⌜ opaqueAt r ≡ transparent 1 (nestOf (sheetOf outline (now (limits .entry)) (now (words .entry))) .statements) ⌝ }
+{
+    let statements = outline.statements;
+    let rules = outline.rules;
+    let mut s = 0;
+    while s < statements {
+        if rules[s] == 0 {
+            return s + 1;
+        }
+        s += 1;
+    }
+    0
 }
 
 // The place in the store of every access at every point that is lent, those of one access after those of another.

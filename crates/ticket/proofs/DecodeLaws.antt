@@ -32,7 +32,7 @@ use Rattle.steps.specs.Steps.{stepsOf, ReadsSteps}
 use Rattle.steps.specs.declared.StepsRead.{StepsRead}
 use Rattle.sheet.specs.Sheets.{Sheet, sheetOf, nestOf, SheetIn}
 use Rattle.sheet.specs.declared.Outline.{Outline}
-use Rattle.ticket.specs.Ticket.{ticketOn, sections, endOf, decoded, Lent, Decodes}
+use Rattle.ticket.specs.Ticket.{ticketOn, sections, endOf, decoded, Lent, TicketIn, Decodes}
 use Rattle.ticket.proofs.SheetLaws.{noOwners, noExtents, loops-count, nestOn, sheet-stands, sheet-in}
 use Rattle.ticket.proofs.SectionLaws.{joined, ended}
 
@@ -144,12 +144,24 @@ module _ (b : List ℕ) (l w : List ℤ) (lent : Lent l w) (O : Outline) (l′ w
     sheet-fine = sheet-in P w (lent .words-length) (lent .words-small) (a .arrays) (c .statements) B nest-ok (a .count ∙ sym arrays-is) few-arrays (a .laid) (c .laid body-fine) statements-is accesses-is few-accesses
         (decode-ranges b decoded-there .nest) (decode-formed b decoded-there)
 
+  all-same : decoded u (ticketOn P (S .steps)) ≡ Grammar.decode b
+  all-same = same-answer u (ticketOn P (S .steps)) T ticket-same ∙ ticket-read
+
+  ticket-in : length (P .sizes) ≡ 4 → length (P .rules) ≡ 4 → length (P .constants) ≡ 4 → length (P .owners) ≡ 20
+      → u ≡ Status.Fine → TicketIn P (S .steps)
+  unfolding ticketOn
+  ticket-in i j k o v = let t = accepted-there u (ticketOn P (S .steps)) b v all-same in record {
+    sheet = sheet-fine v i j k o;
+    shallow = let d = n .shallow in omega arith;
+    steps = s .within;
+    ranges = decode-ranges b t;
+    formed = decode-formed b t;
+  }
+
   pub decodes : length (P .sizes) ≡ 4 → length (P .rules) ≡ 4 → length (P .constants) ≡ 4 → length (P .owners) ≡ 20 → Decodes (Grammar.decode b) (record { status = u; steps = S .steps; outline = O }) l′ w′
   decodes i j k o = record {
-    same = same-answer u (ticketOn P (S .steps)) T ticket-same ∙ ticket-read;
-    sheet = λ v. sheet-fine v i j k o;
-    shallow = λ v. let d = n .shallow in omega arith;
-    steps = s .within;
+    same = all-same;
+    within = record { ticket = ticket-in i j k o };
   }
 
 -- ---- the end

@@ -11,7 +11,8 @@ use Rattle.integers.specs.Affine.{Within}
 use Rattle.model.specs.Answer.{Answer, accepted}
 use Rattle.model.specs.Ticket as Model
 use Rattle.model.specs.Grammar as Grammar
-use Rattle.model.specs.Ranges.{Small}
+use Rattle.model.specs.Ranges.{Small, TicketRanges}
+use Rattle.model.specs.Shape.{WellFormed}
 use Rattle.model.specs.Grammar.{Reader, _>>=_}
 use Rattle.reading.specs.Refusals.{refusal}
 use Rattle.reading.specs.declared.Refusal.the-variants.{TrailingBytes}
@@ -50,9 +51,23 @@ abbrev pub decoded : Status → Model.Ticket → Answer Model.Ticket
 decoded Status.Fine t = accepted t
 decoded (Status.Refused r) t = refusal r
 
+-- the model's answer for a ticket that was read onto these limits and words
+abbrev pub ticketOf : Decoded → List ℤ → List ℤ → Answer Model.Ticket
+ticketOf d limits words = decoded (d .status) (ticketOn (sheetOf (d .outline) limits words) (d .steps))
+
+-- a sheet and steps that hold a ticket of the grammar: within its ranges, and of at most four loops
+pub record TicketIn (P : Sheet) (S : Steps) : Type 0 where
+  pub sheet : SheetIn P
+  pub shallow : P .depth ≤ 4
+  pub steps : StepsIn S
+  pub ranges : TicketRanges (ticketOn P S)
+  pub formed : WellFormed (nestOf P)
+
+-- what the stages after reading ask of a ticket that was read: nothing where it is refused
+pub record DecodedIn (d : Decoded) (limits words : List ℤ) : Type 0 where
+  pub ticket : d .status ≡ Status.Fine → TicketIn (sheetOf (d .outline) limits words) (d .steps)
+
 -- m is the model's answer; the lent slices became limits and words
 pub record Decodes (m : Answer Model.Ticket) (r : Decoded) (limits words : List ℤ) : Type 0 where
-  pub same : decoded (r .status) (ticketOn (sheetOf (r .outline) limits words) (r .steps)) ≡ m
-  pub sheet : r .status ≡ Status.Fine → SheetIn (sheetOf (r .outline) limits words)
-  pub shallow : r .status ≡ Status.Fine → r .outline .depth ≤ 4
-  pub steps : StepsIn (r .steps)
+  pub same : ticketOf r limits words ≡ m
+  pub within : DecodedIn r limits words

@@ -1,67 +1,85 @@
--- Refusals 1 to 9, then 10 to 13 on the directions found, are the model's `judged`.
-use mathlib.Core.Path.{_≡_, refl, sym, _∙_, ap}
+-- Refusals 1 to 9, then 10 to 13 on the directions found, are the model's `judgedOf`.
+use mathlib.Core.Path.{_≡_, refl, sym, _∙_, ap, subst}
 use mathlib.Core.Bool.{Bool}
-use mathlib.Core.List.{List}
+use mathlib.Core.List.{List, []}
 use Prim.Native.Nat.{ℕ}
 use lib.IntN.{ℤ}
 use Rattle.model.specs.Answer.{Answer, accepted, _>>=_}
 use Rattle.model.specs.Ticket as Model
+use Rattle.model.specs.Grammar.{total}
 use Rattle.model.specs.Judge.{admitOf, judgeTicket, judgedOf}
+use Rattle.model.specs.Entries.{transparent}
 use Rattle.model.proofs.Verdict.VerdictLaws.{refused-judged}
 use Rattle.reading.proofs.ReaderLaws.{not-fine}
 use Rattle.reading.specs.declared.Refusal.{Refusal}
 use Rattle.reading.specs.declared.Status.{Status}
 use Rattle.reading.specs.declared.Status.the-variants.{Fine, Refused}
 use Rattle.reading.specs.Refusals.{refusal}
-use Rattle.ticket.specs.Ticket.{ticketOn}
-use Rattle.sheet.specs.Sheets.{sheetOf, nestOf}
-use Rattle.admission.specs.Admission.{passed}
-use Rattle.intake.specs.declared.Intake.{Intake}
-use Rattle.intake.specs.Intake.{Laid, Receives}
-use Rattle.intake.proofs.AdmitLaws.{not-admitted, admitted-too, laid-received, judged-received}
+use Rattle.steps.specs.declared.Steps.{Steps}
+use Rattle.ticket.specs.declared.Decoded.{Decoded}
+use Rattle.ticket.specs.Ticket.{ticketOn, ticketOf, Decodes}
+use Rattle.sheet.specs.Sheets.{Sheet, sheetOf, nestOf}
+use Rattle.sheet.specs.Stages.{opaqueAt}
+use Rattle.admission.specs.declared.Counted.{Counted}
+use Rattle.admission.specs.declared.Counted.the-variants.{Points}
+use Rattle.intake.specs.Intake.{Laid, Counts}
+use Rattle.intake.proofs.AdmitLaws.{ticket-there, not-admitted, admitted-too}
 use Rattle.finding.specs.Findings.{Directs}
 use Rattle.judgement.specs.declared.Judged.{Judged}
 use Rattle.judgement.specs.Judgement.{judgedAs, JudgeIn, Judges}
 use Rattle.verdict.specs.declared.Decided.{Decided}
-use Rattle.verdict.specs.Verdicts.{Judgeable, Decides}
+use Rattle.verdict.specs.Verdicts.{Decides, DecidesOn}
 
--- the ticket that is laid out
-abbrev pub T : Intake → List ℤ → List ℤ → Model.Ticket
-T a l w = ticketOn (sheetOf (a .outline) l w) (a .steps)
+-- 1 to 9; which ticket is named does not matter
+pub turned-away : (m : Answer Model.Ticket) (l w : List ℤ) (r : Refusal) → admitOf m ≡ refusal r
+    → (q : Decided) → q .status ≡ Refused r → Decides m q l w
+turned-away m l w r e q z =
+    let any : Model.Ticket = record { nest = nestOf (sheetOf (q .outline) l w); steps = [] } in
+    record {
+      ticket = any;
+      same = ap (λ (x : Status). judgedAs x (record { ticket = any; new = nestOf (sheetOf (q .outline) l w) })) z ∙ sym (refused-judged m e);
+      known = λ f. not-fine (q .status) z f;
+    }
 
-pub turned-away : (m : Answer Model.Ticket) (a : Intake) (l w : List ℤ) (r : Refusal) → admitOf m ≡ refusal r → (q : Decided) → q .status ≡ Refused r → Decides m q l w
-turned-away m a l w r e q z = record {
-  ticket = T a l w;
-  same = ap (λ (x : Status). judgedAs x (record { ticket = T a l w; new = nestOf (sheetOf (q .outline) l w) })) z ∙ sym (refused-judged m e);
-  count = λ f. not-fine (q .status) z f;
-  new = λ f. not-fine (q .status) z f;
-}
+module _ (P : Sheet) (S : Steps) (n : ℕ) (h : Laid P S n) (s : Status) (d : List Bool) (g : Directs P s d) where
+  pub found-refused : (r : Refusal) → s ≡ Refused r → admitOf (accepted (ticketOn P S)) ≡ refusal r
+  found-refused = not-admitted P S s (g .admits)
 
-module _ (a : Intake) (l w : List ℤ) (h : Laid (sheetOf (a .outline) l w) (a .steps) (a .count)) (f : a .status ≡ Fine) (s : Status) (d : List Bool) (g : Directs (sheetOf (a .outline) l w) s d) where
-  pub found-refused : (r : Refusal) → s ≡ Refused r → admitOf (accepted (T a l w)) ≡ refusal r
-  found-refused = not-admitted (accepted (T a l w)) a l w (laid-received a l w f h) f s (g .admits)
+  module _ (e : s ≡ Fine) where
+    pub judge-in : JudgeIn P S (record { marks = d; depth = P .depth })
+    judge-in = let t = h .ticket in record {
+      sheet = t .sheet;
+      steps = t .steps;
+      ranges = t .ranges;
+      formed = t .formed;
+      level = refl;
+      vectors = g .directions e .vectors;
+    }
 
-  pub judgeable : s ≡ Fine → Judgeable a l w d
-  judgeable e = record { laid = h; fine = f; admitted-is = sym (g .admits) ∙ ap passed e; directions = g .directions e }
+    -- by what was found on the ticket's own nest
+    pub decided : (j : Judged) (l w : List ℤ) → Judges P S j l w
+        → (k t : ℕ) → opaqueAt k ≡ transparent 1 (nestOf P .statements) → t ≡ total (nestOf P .arrays)
+        → DecidesOn P S (record { status = j .status; count = n; opaque = k; elements = t; outline = j .outline; directions = j .directions }) l w
+    unfolding judgedOf ticketOn _>>=_
+    decided j l w c k t f i = record {
+      ticket = ticketOn P S;
+      same = c .same ∙ sym (ap (_>>= judgeTicket) (admitted-too P S s (g .admits) e));
+      known = λ y. record {
+        count = h .count;
+        opaque = f;
+        elements = i;
+        new = c .fine y;
+        level = c .directions y .level;
+        directions = c .directions y .vectors;
+      };
+    }
 
--- ---- judged
+-- what was decoded is the ticket that is laid out
+pub of-decoded : (d : Decoded) (l w : List ℤ) (c : Counted) → Counts d l w c → (n : ℕ) → c ≡ Points n → (r : Decided) (l′ w′ : List ℤ)
+    → DecidesOn (sheetOf (d .outline) l w) (d .steps) r l′ w′ → Decides (ticketOf d l w) r l′ w′
+of-decoded d l w c h n e r l′ w′ = subst (λ (m : Answer Model.Ticket). Decides m r l′ w′) (sym (ticket-there d l w (h .fine n e)))
 
-module _ (a : Intake) (l w : List ℤ) (d : List Bool) (h : Judgeable a l w d) where
-  standing : Laid (sheetOf (a .outline) l w) (a .steps) (a .count)
-  standing = h .laid
-
-  pub judge-in : JudgeIn (sheetOf (a .outline) l w) (a .steps) (record { marks = d; depth = a .outline .depth })
-  judge-in = record { sheet = standing .sheet; steps = standing .steps; ranges = standing .ranges; formed = standing .formed; level = refl; vectors = h .directions .vectors }
-
-  pub decided : (j : Judged) (l′ w′ : List ℤ) → Judges (sheetOf (a .outline) l w) (a .steps) j l′ w′ → Decides (accepted (T a l w)) (record { status = j .status; count = a .count; outline = j .outline }) l′ w′
-  unfolding _>>=_ ticketOn judgedOf
-  decided j l′ w′ g = record {
-    ticket = ticketOn (sheetOf (a .outline) l w) (a .steps);
-    same = g .same ∙ sym (ap (_>>= judgeTicket) (admitted-too (accepted (T a l w)) a l w (laid-received a l w (h .fine) standing) (h .fine) Fine (sym (h .admitted-is)) refl));
-    count = λ _. standing .count;
-    new = g .fine;
-  }
-
--- a ticket that was received is what was decoded
-pub decided-of : (m : Answer Model.Ticket) (a : Intake) (l w : List ℤ) → Receives m a l w → a .status ≡ Fine → (r : Decided) (l′ w′ : List ℤ) → Decides (accepted (T a l w)) r l′ w′ → Decides m r l′ w′
-decided-of m a l w h f r l′ w′ g = record { ticket = g .ticket; same = g .same ∙ judged-received m a l w h f; count = g .count; new = g .new }
+-- of the bytes that were decoded
+pub of-bytes : (m : Answer Model.Ticket) (d : Decoded) (l w : List ℤ) → Decodes m d l w → (r : Decided) (l′ w′ : List ℤ)
+    → Decides (ticketOf d l w) r l′ w′ → Decides m r l′ w′
+of-bytes m d l w h r l′ w′ = subst (λ (x : Answer Model.Ticket). Decides x r l′ w′) (h .same)

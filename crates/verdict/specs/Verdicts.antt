@@ -1,33 +1,41 @@
--- From bytes to a verdict: the model's `judged`.
+-- A decoded ticket judged: the model's `judgedOf`, and what the entries ask of a ticket that is accepted.
 use mathlib.Core.Path.{_≡_}
-use mathlib.Core.Bool.{Bool}
 use mathlib.Core.List.{List}
-use Prim.Native.Nat.{ℕ}
 use lib.IntN.{ℤ}
 use lib.ListN.{length}
+use Rattle.lists.specs.Membership.{SameMembers}
 use Rattle.model.specs.Answer.{Answer, accepted}
 use Rattle.model.specs.Ticket as Model
+use Rattle.model.specs.Grammar.{total}
 use Rattle.model.specs.Points.{iterations}
-use Rattle.model.specs.Bounds.{admitted}
-use Rattle.model.specs.Judge.{judgedOf}
+use Rattle.model.specs.Steps.{vectorsAfterAll}
+use Rattle.model.specs.Judge.{directionsOf, judgedOf}
+use Rattle.model.specs.Entries.{transparent}
 use Rattle.reading.specs.declared.Status.the-variants.{Fine}
-use Rattle.sheet.specs.Sheets.{sheetOf, nestOf}
-use Rattle.lines.specs.Lines.{DirectionsAre}
-use Rattle.intake.specs.declared.Intake.{Intake}
-use Rattle.intake.specs.Intake.{Laid}
+use Rattle.steps.specs.declared.Steps.{Steps}
+use Rattle.directions.specs.Sets.{vectorsOf}
+use Rattle.sheet.specs.Sheets.{Sheet, sheetOf, nestOf}
+use Rattle.sheet.specs.Stages.{opaqueAt}
+use Rattle.ticket.specs.Ticket.{ticketOn}
 use Rattle.judgement.specs.Judgement.{judgedAs, New}
 use Rattle.verdict.specs.declared.Decided.{Decided}
 
--- a ticket that is laid out and admitted, and the directions of its nest
-pub record Judgeable (q : Intake) (l w : List ℤ) (set : List Bool) : Type 0 where
-  pub laid : Laid (sheetOf (q .outline) l w) (q .steps) (q .count)
-  pub fine : q .status ≡ Fine
-  pub admitted-is : admitted (nestOf (sheetOf (q .outline) l w)) ≡ accepted tt
-  pub directions : DirectionsAre (sheetOf (q .outline) l w) set
+-- what is handed out of an accepted ticket T, whose new nest is on the sheet P
+pub record Known (T : Model.Ticket) (P : Sheet) (r : Decided) : Type 0 where
+  pub count : r .count ≡ length (iterations (T .nest .loops))
+  pub opaque : opaqueAt (r .opaque) ≡ transparent 1 (T .nest .statements)
+  pub elements : r .elements ≡ total (T .nest .arrays)
+  pub new : New P
+  -- a sign for each loop of the new nest
+  pub level : r .directions .depth ≡ P .depth
+  pub directions : SameMembers (vectorsOf (r .directions)) (vectorsAfterAll (T .steps) (directionsOf (T .nest)))
 
--- 1 to 13 of what was decoded; then the count of its iterations and its new nest, whose limits and words are l and w
+-- 1 to 13 of what was decoded; the limits and words of the new nest are l and w
 pub record Decides (d : Answer Model.Ticket) (r : Decided) (l w : List ℤ) : Type 0 where
   pub ticket : Model.Ticket
   pub same : judgedAs (r .status) (record { ticket = ticket; new = nestOf (sheetOf (r .outline) l w) }) ≡ judgedOf d
-  pub count : r .status ≡ Fine → r .count ≡ length (iterations (ticket .nest .loops))
-  pub new : r .status ≡ Fine → New (sheetOf (r .outline) l w)
+  pub known : r .status ≡ Fine → Known ticket (sheetOf (r .outline) l w) r
+
+-- the ticket that the sheet P and the steps S hold
+abbrev pub DecidesOn : Sheet → Steps → Decided → List ℤ → List ℤ → Type 0
+DecidesOn P S r l w = Decides (accepted (ticketOn P S)) r l w

@@ -44,7 +44,7 @@ module _ (b : List ℕ) (d : Decided) (l w : List ℤ) (h : Decides (decode b) d
 
   module _ (s : d .status ≡ Status.Fine) where
     pub encodable : SheetEncodable (sheetOf (d .outline) l w)
-    encodable = let n = h .new s in record { sheet = n .sheet; ranges = n .ranges; formed = n .formed }
+    encodable = let n = h .known s .new in record { sheet = n .sheet; ranges = n .ranges; formed = n .formed }
 
     accepted-out : handOut (accepted (encode new)) o ≡ write b o
     unfolding _>>=_

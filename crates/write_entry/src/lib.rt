@@ -12,7 +12,8 @@ pub fn write(ticket: &[u8], out: &mut [u8]) -> Answer
 {
     let mut limits = [0i16; 1536];
     let mut words = [0i16; 480];
-    let decided = verdict::decide(ticket, &mut limits, &mut words);
+    let read = ticket::decode(ticket, &mut limits, &mut words);
+    let decided = verdict::decide(read, &mut limits, &mut words);
     let status = decided.status;
     match status {
         Status::Fine => {}

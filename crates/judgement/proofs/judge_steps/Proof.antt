@@ -14,11 +14,11 @@ use Rattle.judgement.proofs.judge_steps.Statement.{statement}
 use Rattle.judgement.proofs.judge_steps.Tie as tie
 
 abbrev Inv-loop : tie.InvT-loop
-Inv-loop outline limits₀ words₀ count all owners extents accesses arrays counts₀ depth₀ vectors₀ k₀ limits words counts depth vectors k =
+Inv-loop outline limits₀ words₀ set count all owners extents accesses arrays counts₀ depth₀ vectors₀ k₀ limits words counts depth vectors k =
     SoFar (record { count = count; steps = all }) (sheetOf outline limits₀ words₀) vectors₀ (moved (sheetOf outline limits₀ words₀) depth limits counts words) vectors k
 
 abbrev μ-loop : tie.MeasureT-loop
-μ-loop outline limits₀ words₀ count all owners extents accesses arrays counts₀ depth₀ vectors₀ k₀ limits words counts depth vectors k = count - k
+μ-loop outline limits₀ words₀ set count all owners extents accesses arrays counts₀ depth₀ vectors₀ k₀ limits words counts depth vectors k = count - k
 
 abbrev top : tie.At-loop Inv-loop μ-loop → tie.Start Inv-loop μ-loop
 top c = c .before .before .before .before .before

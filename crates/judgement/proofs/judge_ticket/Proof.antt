@@ -23,10 +23,10 @@ same-length-2 : tie.Need-same-length-2
 same-length-2 c = search needs
 
 returns : tie.Need-returns
-returns c = let s = c .before .before .before .before .before .before .before .before .before .before in let g = c .before .before .before .before .before .before .before .judge-steps in steps-refused _ (s .args .steps) (s .args .set) (s .pre) (g .result) _ _ (g .ensures) _ (c .refused .result) (c .before .before .status .given .1) (c .refused .ensures)
+returns c = let s = c .before .before .before .before .before .before .before .before .before .before .before in let g = c .before .before .before .before .before .before .before .before .judge-steps in steps-refused _ (s .args .steps) (s .args .set) (s .pre) (g .result) _ _ (g .ensures) _ (c .refused .result) (c .before .before .status .given .1) (c .refused .ensures)
 
 survey-new-requires : tie.Need-survey-new-requires
-survey-new-requires c κs = c .before .before .before .before .before .before .before .judge-steps .ensures .sheet (c .before .before .enum-told .given .1)
+survey-new-requires c κs = c .before .before .before .before .before .before .before .before .judge-steps .ensures .sheet (c .before .before .enum-told .given .1)
 
 same-length-3 : tie.Need-same-length-3
 same-length-3 c = search needs
@@ -35,7 +35,7 @@ same-length-4 : tie.Need-same-length-4
 same-length-4 c = search needs
 
 returns-2 : tie.Need-returns-2
-returns-2 c = let s = c .before .before .before .before .before .before .before .before .before .before .before in let g = c .before .before .before .before .before .before .before .before .judge-steps in ticket-judged _ (s .args .steps) (s .args .set) (s .pre) (g .result) _ _ (g .ensures) (c .before .before .before .enum-told .given .1) (c .survey-new .result) (c .survey-new .ensures)
+returns-2 c = let s = c .before .before .before .before .before .before .before .before .before .before .before .before in let g = c .before .before .before .before .before .before .before .before .before .judge-steps in ticket-judged _ (s .args .steps) (s .args .set) (s .pre) (g .result) _ _ (g .ensures) (c .before .before .before .enum-told .given .1) (c .survey-new .result) (c .survey-new .ensures)
 
 pub judge-ticket-spec : {M : Type 1} → statement M
 judge-ticket-spec =

@@ -10,7 +10,7 @@ find-few-requires : tie.Need-find-few-requires
 find-few-requires c κs = search needs
 
 write-found-requires : tie.Need-write-found-requires
-write-found-requires c κs = search needs
+write-found-requires c κs = record { waits = c .before .before .before .before .before .before .before .before .before .pre .waits; finds = c .before .before .before .before .find-few .ensures }
 
 same-length : tie.Need-same-length
 same-length c = search needs
@@ -22,10 +22,10 @@ returns : tie.Need-returns
 returns c = search needs
 
 mark-lines-requires : tie.Need-mark-lines-requires
-mark-lines-requires c κs = let s = c .before .before .before .before .before .before in mark-in _ (s .args .all .count) (s .args .marks .now) (s .pre .2)
+mark-lines-requires c κs = let s = c .before .before .before .before in mark-in _ (s .args .count) (s .args .marks .now) (s .pre)
 
 write-found-requires-2 : tie.Need-write-found-requires-2
-write-found-requires-2 c κs = let s = c .before .before .before .before .before .before .before .before .before .before .before .before in (s .pre .0, s .pre .1, finds-known _ _ (c .before .before .before .before .before .mark-lines .ensures .0 (c .before .before .if2 .taken)))
+write-found-requires-2 c κs = record { waits = c .before .before .before .before .before .before .before .before .before .before .pre .waits; finds = finds-known _ _ (c .before .before .before .before .before .mark-lines .ensures .0 (c .before .before .if2 .taken)) }
 
 same-length-3 : tie.Need-same-length-3
 same-length-3 c = search needs
@@ -37,10 +37,10 @@ returns-2 : tie.Need-returns-2
 returns-2 c = search needs
 
 find-many-requires : tie.Need-find-many-requires
-find-many-requires c κs = let s = c .before .before .before .before .before .before .before .before .before .before .before in let h = s .pre .2 in (h .waits .nest, enumerate-many _ (s .args .all .count) (h .waits), let r = h .room in omega (arith, c .before .before .before .before .mark-lines .ensures .1))
+find-many-requires c κs = let s = c .before .before .before .before .before .before .before .before .before in (s .pre .waits .nest, enumerate-many _ (s .args .count) (s .pre .waits), let r = s .pre .room in omega (arith, c .before .before .before .before .mark-lines .ensures .1))
 
 write-found-requires-3 : tie.Need-write-found-requires-3
-write-found-requires-3 c κs = search needs
+write-found-requires-3 c κs = record { waits = c .before .before .before .before .before .before .before .before .before .before .before .before .before .before .pre .waits; finds = c .before .before .before .before .find-many .ensures }
 
 same-length-5 : tie.Need-same-length-5
 same-length-5 c = search needs

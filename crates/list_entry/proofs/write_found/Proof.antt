@@ -11,16 +11,16 @@ enum-known-found : tie.Need-enum-known-found
 enum-known-found c = search needs
 
 returns : tie.Need-returns
-returns c = let s = c .before .before .before .before .before in found-refused (s .args .all) (s .args .limits .now) (s .args .words .now) (s .pre .0) (s .pre .1) (s .args .found) (s .args .marks .now) (s .pre .2) (c .before .found .given .0 .0) (c .before .found .given .1) (s .args .out .now)
+returns c = let s = c .before .before .before .before .before in found-refused _ (s .args .count) (s .args .found) (s .args .marks .now) (s .pre) (c .before .found .given .0 .0) (c .before .found .given .1) (s .args .out .now)
 
 write-marked-requires : tie.Need-write-marked-requires
-write-marked-requires c κs = let s = c .before .before .before .before .before .before in listable (s .args .all) (s .args .limits .now) (s .args .words .now) (s .pre .0) (s .pre .1) (s .args .found) (s .args .marks .now) (s .pre .2) (c .before .before .enum-told .given .1)
+write-marked-requires c κs = let s = c .before .before .before .before .before in listable _ (s .args .count) (s .args .found) (s .args .marks .now) (s .pre) (c .before .enum-told .given .1)
 
 same-length : tie.Need-same-length
 same-length c = search needs
 
 returns-2 : tie.Need-returns-2
-returns-2 c = let s = c .before .before .before .before .before .before .before .before .before in let w = c .before .before .write-marked in handed (s .args .all) (s .args .limits .now) (s .args .words .now) (s .pre .0) (s .pre .1) (s .args .found) (s .args .marks .now) (s .pre .2) (c .before .before .before .before .before .enum-told .given .1) (s .args .out .now) _ (w .result) (w .ensures)
+returns-2 c = let s = c .before .before .before .before .before .before .before .before in let w = c .before .before .write-marked in handed _ (s .args .count) (s .args .found) (s .args .marks .now) (s .pre) (c .before .before .before .before .enum-told .given .1) (s .args .out .now) _ (w .result) (w .ensures)
 
 pub write-found-spec : {M : Type 1} → statement M
 write-found-spec =

@@ -1,19 +1,21 @@
--- `decide`: 1 to 8, then the directions.
-use mathlib.Core.Path.{refl}
-use Rattle.intake.proofs.AdmitLaws.{not-received, waits}
-use Rattle.verdict.proofs.VerdictLaws.{turned-away, decided-of}
+-- `decide`: 1 to 8, then the rest of a ticket that is laid out.
+use Rattle.intake.proofs.AdmitLaws.{not-counted}
+use Rattle.verdict.proofs.VerdictLaws.{turned-away, of-decoded}
 use borrow.Author.Needs.{needs}
 use Rattle.verdict.proofs.decide.Statement.{statement}
 use Rattle.verdict.proofs.decide.Tie as tie
 
-receive-requires : tie.Need-receive-requires
-receive-requires c κs = search needs
+count-points-requires : tie.Need-count-points-requires
+count-points-requires c κs = search needs
 
-enum-told : tie.Need-enum-told
-enum-told c = search needs
+enum-known-n : tie.Need-enum-known-n
+enum-known-n c = search needs
 
-enum-known-status : tie.Need-enum-known-status
-enum-known-status c = search needs
+decide-counted-requires : tie.Need-decide-counted-requires
+decide-counted-requires c κs = c .before .before .before .before .before .count-points .ensures .laid _ (c .before .before .before .n .given .1)
+
+enum-known-r : tie.Need-enum-known-r
+enum-known-r c = search needs
 
 refused-requires : tie.Need-refused-requires
 refused-requires c κs = search needs
@@ -25,16 +27,7 @@ same-length-2 : tie.Need-same-length-2
 same-length-2 c = search needs
 
 returns : tie.Need-returns
-returns c = let r = c .before .before .before .before .before .before .before .receive in turned-away _ (r .result) _ _ _ (not-received _ (r .result) _ _ (r .ensures) (c .before .before .status .given .0 .0) (c .before .before .status .given .1)) (c .refused .result) (c .refused .ensures)
-
-slice-aggregate-find-directions : tie.Need-slice-aggregate-find-directions
-slice-aggregate-find-directions c = search needs
-
-find-directions-requires : tie.Need-find-directions-requires
-find-directions-requires c κs = let r = c .before .before .before .before .before .before .before .before .receive in (waits _ (r .result) _ _ (r .ensures) (c .before .before .before .enum-told .given .1), refl)
-
-decide-found-requires : tie.Need-decide-found-requires
-decide-found-requires c κs = let r = c .before .before .before .before .before .before .before .before .before .before .before .before .receive in let f = c .before .before .before .before .before .before .before .enum-told .given .1 in (r .ensures .laid f, f, c .before .before .before .find-directions .ensures)
+returns c = let s = c .before .before .before .before .before .before .before .before .before .before .before .before .before in let k = c .before .before .before .before .before .before .before .before .count-points in let r = c .before .before .decide-counted in of-decoded (s .args .read) _ _ (k .result) (k .ensures) _ (c .before .before .before .before .before .before .n .given .1) (r .result) _ _ (r .ensures)
 
 same-length-3 : tie.Need-same-length-3
 same-length-3 c = search needs
@@ -43,22 +36,20 @@ same-length-4 : tie.Need-same-length-4
 same-length-4 c = search needs
 
 returns-2 : tie.Need-returns-2
-returns-2 c = let r = c .before .before .before .before .before .before .before .before .before .before .before .before .before .before .before .receive in let f = c .before .before .before .before .before .before .before .before .before .before .enum-told .given .1 in let g = c .before .before .decide-found in decided-of _ (r .result) _ _ (r .ensures) f (g .result) _ _ (g .ensures)
+returns-2 c = let s = c .before .before .before .before .before .before .before .before .before in let k = c .before .before .before .before .count-points in turned-away _ _ _ _ (not-counted (s .args .read) _ _ (k .result) (k .ensures) (c .before .before .r .given .0 .0) (c .before .before .r .given .1)) (c .refused .result) (c .refused .ensures)
 
 pub decide-spec : {M : Type 1} → statement M
 decide-spec =
     tie.close
     (tie.spec
-    receive-requires
-    enum-told
-    enum-known-status
+    count-points-requires
+    enum-known-n
+    decide-counted-requires
+    enum-known-r
     refused-requires
     same-length
     same-length-2
     returns
-    slice-aggregate-find-directions
-    find-directions-requires
-    decide-found-requires
     same-length-3
     same-length-4
     returns-2)

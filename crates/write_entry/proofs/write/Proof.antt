@@ -1,9 +1,19 @@
--- `write`: the verdict, then the encoder.
+-- `write`: the ticket is read and judged, then its new nest is encoded.
 use Rattle.ticket.proofs.DecodeLaws.{zeros-lent}
+use Rattle.verdict.proofs.VerdictLaws.{of-bytes}
 use Rattle.write_entry.proofs.EntryLaws.{write-refused, encodable, write-complete, write-short}
 use borrow.Author.Needs.{needs}
 use Rattle.write_entry.proofs.write.Statement.{statement}
 use Rattle.write_entry.proofs.write.Tie as tie
+
+slice-aggregate-decode : tie.Need-slice-aggregate-decode
+slice-aggregate-decode c = search needs
+
+slice-aggregate-decode-2 : tie.Need-slice-aggregate-decode-2
+slice-aggregate-decode-2 c = search needs
+
+decode-requires : tie.Need-decode-requires
+decode-requires c κs = zeros-lent
 
 slice-aggregate-decide : tie.Need-slice-aggregate-decide
 slice-aggregate-decide c = search needs
@@ -12,7 +22,7 @@ slice-aggregate-decide-2 : tie.Need-slice-aggregate-decide-2
 slice-aggregate-decide-2 c = search needs
 
 decide-requires : tie.Need-decide-requires
-decide-requires c κs = zeros-lent
+decide-requires c κs = c .before .before .before .before .decode .ensures .within
 
 enum-told : tie.Need-enum-told
 enum-told c = search needs
@@ -21,7 +31,7 @@ enum-known-status : tie.Need-enum-known-status
 enum-known-status c = search needs
 
 returns : tie.Need-returns
-returns c = let d = c .before .before .before .before .before .decide in write-refused _ (d .result) _ _ (d .ensures) _ _ (c .before .status .given .1)
+returns c = let d = c .before .before .before .before .before .before .before .before .before .before .decode in let v = c .before .before .before .before .before .decide in write-refused _ (v .result) _ _ (of-bytes _ (d .result) _ _ (d .ensures) (v .result) _ _ (v .ensures)) _ _ (c .before .status .given .1)
 
 slice-aggregate-encode-sheet : tie.Need-slice-aggregate-encode-sheet
 slice-aggregate-encode-sheet c = search needs
@@ -30,7 +40,7 @@ slice-aggregate-encode-sheet-2 : tie.Need-slice-aggregate-encode-sheet-2
 slice-aggregate-encode-sheet-2 c = search needs
 
 encode-sheet-requires : tie.Need-encode-sheet-requires
-encode-sheet-requires c κs = let d = c .before .before .before .before .before .before .before .before .decide in encodable _ (d .result) _ _ (d .ensures) (c .before .before .before .before .before .before .before .before .before .before .before .before .before .args .out .now) (c .before .before .before .before .enum-told .given .1)
+encode-sheet-requires c κs = let d = c .before .before .before .before .before .before .before .before .before .before .before .before .before .decode in let v = c .before .before .before .before .before .before .before .before .decide in encodable _ (v .result) _ _ (of-bytes _ (d .result) _ _ (d .ensures) (v .result) _ _ (v .ensures)) (c .before .before .before .before .before .before .before .before .before .before .before .before .before .before .before .before .before .before .args .out .now) (c .before .before .before .before .enum-told .given .1)
 
 enum-known-n : tie.Need-enum-known-n
 enum-known-n c = search needs
@@ -42,18 +52,21 @@ same-length : tie.Need-same-length
 same-length c = search needs
 
 returns-2 : tie.Need-returns-2
-returns-2 c = let d = c .before .before .before .before .before .before .before .before .before .before .before .before .before .before .decide in let g = c .before .before .before .before .before .encode-sheet in write-complete _ (d .result) _ _ (d .ensures) _ (c .before .before .before .before .before .before .before .before .before .before .enum-told .given .1) _ (g .result) (g .ensures) _ (c .before .n .given .1)
+returns-2 c = let d = c .before .before .before .before .before .before .before .before .before .before .before .before .before .before .before .before .before .before .before .decode in let v = c .before .before .before .before .before .before .before .before .before .before .before .before .before .before .decide in let g = c .before .before .before .before .before .encode-sheet in write-complete _ (v .result) _ _ (of-bytes _ (d .result) _ _ (d .ensures) (v .result) _ _ (v .ensures)) _ (c .before .before .before .before .before .before .before .before .before .before .enum-told .given .1) _ (g .result) (g .ensures) _ (c .before .n .given .1)
 
 same-length-2 : tie.Need-same-length-2
 same-length-2 c = search needs
 
 returns-3 : tie.Need-returns-3
-returns-3 c = let d = c .before .before .before .before .before .before .before .before .before .before .before .before .before .decide in let g = c .before .before .before .before .encode-sheet in write-short _ (d .result) _ _ (d .ensures) _ (c .before .before .before .before .before .before .before .before .before .enum-told .given .1) _ (g .result) (g .ensures) _ (c .enum-told2 .given .1)
+returns-3 c = let d = c .before .before .before .before .before .before .before .before .before .before .before .before .before .before .before .before .before .before .decode in let v = c .before .before .before .before .before .before .before .before .before .before .before .before .before .decide in let g = c .before .before .before .before .encode-sheet in write-short _ (v .result) _ _ (of-bytes _ (d .result) _ _ (d .ensures) (v .result) _ _ (v .ensures)) _ (c .before .before .before .before .before .before .before .before .before .enum-told .given .1) _ (g .result) (g .ensures) _ (c .enum-told2 .given .1)
 
 pub write-spec : {M : Type 1} → statement M
 write-spec =
     tie.close
     (tie.spec
+    slice-aggregate-decode
+    slice-aggregate-decode-2
+    decode-requires
     slice-aggregate-decide
     slice-aggregate-decide-2
     decide-requires

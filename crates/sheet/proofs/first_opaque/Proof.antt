@@ -2,10 +2,10 @@
 use mathlib.Core.Path.{_≡_}
 use Prim.Native.Nat.{_-_, _≤_}
 use native.Mathlib.Omega.{arith}
-use Rattle.execution.specs.Execution.{clearFrom}
-use Rattle.execution.proofs.ClearLaws.{all-left, opaque-here, clear-here, none-opaque}
-use Rattle.execution.proofs.first_opaque.Statement.{statement}
-use Rattle.execution.proofs.first_opaque.Tie as tie
+use Rattle.sheet.specs.Stages.{clearFrom}
+use Rattle.sheet.proofs.ClearLaws.{all-left, opaque-here, clear-here, none-opaque}
+use Rattle.sheet.proofs.first_opaque.Statement.{statement}
+use Rattle.sheet.proofs.first_opaque.Tie as tie
 
 abbrev Inv-loop : tie.InvT-loop
 Inv-loop limits words statements rules s₀ s = (s ≤ statements) × (clearFrom rules 0 statements ≡ clearFrom rules s (statements - s))
