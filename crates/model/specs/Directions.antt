@@ -38,6 +38,13 @@ earlier (x ∷ p) (y ∷ q) = bySign (sign x y) true (earlier p q) false
 pub data Kind : Type 0 where
   flow anti output : Kind
 
+abbrev pub kindCount : ℕ
+kindCount = 3
+
+-- the vectors of mostLoops signs
+abbrev pub vectorCount : ℕ
+vectorCount = 729
+
 unfoldable pub kinds : List Kind
 kinds = flow ∷ anti ∷ output ∷ []
 

@@ -12,6 +12,79 @@ use Rattle.model.specs.Answer.{Answer, accepted, require}
 use Rattle.model.specs.Words.{wordAt}
 use Rattle.model.specs.Ticket.{Limit, Loop, Subscript, Access, Statement, Step, exchange, reversal, skew, section, Nest, Ticket}
 
+-- ---- sizes: the most that a nest has, and its words on flat slices. The code has the same names, in src
+
+abbrev pub mostStatements : ℕ
+mostStatements = 4
+
+-- accesses of a statement that it writes, and that it reads
+abbrev pub mostWrites : ℕ
+mostWrites = 1
+
+abbrev pub mostReads : ℕ
+mostReads = 4
+
+-- accesses of all statements
+abbrev pub mostAccesses : ℕ
+mostAccesses = mostStatements * (mostWrites + mostReads)
+
+abbrev pub mostArrays : ℕ
+mostArrays = 4
+
+abbrev pub mostDimensions : ℕ
+mostDimensions = 3
+
+-- loops, of a ticket's nest and after its sections
+abbrev pub ticketLoops : ℕ
+ticketLoops = 4
+
+abbrev pub mostLoops : ℕ
+mostLoops = 6
+
+-- limits of a side, of a ticket's nest and after its steps
+abbrev pub ticketLimits : ℕ
+ticketLimits = 4
+
+abbrev pub mostLimits : ℕ
+mostLimits = 16
+
+-- a lower and an upper side of each loop
+abbrev pub mostSides : ℕ
+mostSides = mostLoops * 2
+
+-- limits of all sides
+abbrev pub nestLimits : ℕ
+nestLimits = mostSides * mostLimits
+
+abbrev pub mostPoints : ℕ
+mostPoints = 4096
+
+-- the words of a limit or a subscript: a coefficient for each loop, and two more
+abbrev pub rowRoom : ℕ
+rowRoom = mostLoops + 2
+
+-- of all limits
+abbrev pub nestRoom : ℕ
+nestRoom = nestLimits * rowRoom
+
+-- of an array, how many dimensions it has and their extents; then of all arrays
+abbrev pub arrayRoom : ℕ
+arrayRoom = mostDimensions + 1
+
+abbrev pub mostExtents : ℕ
+mostExtents = mostArrays * arrayRoom
+
+-- of an access, and of all accesses
+abbrev pub accessRoom : ℕ
+accessRoom = mostDimensions * rowRoom
+
+abbrev pub mostWords : ℕ
+mostWords = mostAccesses * accessRoom
+
+-- the numbers of the elements that all accesses have at all points
+abbrev pub mostNumbers : ℕ
+mostNumbers = mostAccesses * mostPoints
+
 -- ---- reading: from the bytes and the number of the next word to a value and the number after it
 
 pub record Read (A : Type 0) : Type 0 where
@@ -124,7 +197,7 @@ total (a ∷ rest) = elements a + total rest
 unfoldable pub arraysFrom : ℕ → ℕ → Reader (List (List ℕ))
 arraysFrom t zero = done []
 arraysFrom t (suc n) = do
-  d ← count 1 3
+  d ← count 1 mostDimensions
   a ← times d (natural 1 4096)
   must (leb (t + elements a) 16384) 5
   rest ← arraysFrom (t + elements a) n
@@ -132,13 +205,10 @@ arraysFrom t (suc n) = do
 
 unfoldable pub arrays : Reader (List (List ℕ))
 arrays = do
-  n ← count 1 4
+  n ← count 1 mostArrays
   arraysFrom 0 n
 
 -- ---- statements
-
-abbrev pub mostStatements : ℕ
-mostStatements = 4
 
 -- the extents of an array
 unfoldable pub extents : List (List ℕ) → ℕ → List ℕ
@@ -162,7 +232,7 @@ statement depth as′ = do
   r ← natural 0 3
   c ← natural 0 (cond (eqb r 3) 0 32767)
   w ← access depth as′
-  n ← count (cond (eqb r 3) 1 0) 4
+  n ← count (cond (eqb r 3) 1 0) mostReads
   rs ← times n (access depth as′)
   done (record { rule = r; constant = c; writes = w ∷ []; reads = rs })
 
@@ -202,10 +272,10 @@ skewStep k m = do
   must (not (eqZ c (pos 0))) 4
   done (skew (a - 1) (b - a - 1) (eqZ c (pos 1)))
 
--- a nest has at most 6 loops: a seventh shows at the word a
+-- one loop more than a nest can have shows at the word a
 unfoldable pub sectionStep : ℕ → ℕ → Reader Step
 sectionStep k m = do
-  a ← loopNumber k (λ w. between (pos 1) (pos m) w && ltb m 6)
+  a ← loopNumber k (λ w. between (pos 1) (pos m) w && ltb m mostLoops)
   w ← natural 2 256
   c ← natural 0 0
   done (section (a - 1) w)
@@ -252,7 +322,7 @@ end b k = mustAt (leb (length b) ((k - 1) * 2)) 2 k b k
 
 unfoldable pub ticket : Reader Ticket
 ticket = do
-  n ← nest 4 4
+  n ← nest ticketLoops ticketLimits
   ts ← steps (length (n .loops))
   end
   done (record { nest = n; steps = ts })
@@ -260,10 +330,10 @@ ticket = do
 unfoldable pub decode : List ℕ → Answer Ticket
 decode b = Answer._>>=_ (ticket b 1) (λ r. accepted (r .value))
 
--- a written nest: up to 6 loops, 16 limits a side and step count 0
+-- a written nest: up to mostLoops loops, mostLimits limits a side and step count 0
 unfoldable pub written : Reader Nest
 written = do
-  n ← nest 6 16
+  n ← nest mostLoops mostLimits
   ts ← count 0 0
   end
   done n

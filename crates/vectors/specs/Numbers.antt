@@ -5,7 +5,7 @@ use Prim.Native.Nat.{ℕ, _+_, _*_, _-_, _≤_}
 use lib.IntN.{ℤ}
 use lib.ListN.{length, replicate, drop}
 use Rattle.integers.specs.Sign.{Sign, less, equal, greater}
-use Rattle.model.specs.Directions.{Kind, flow, anti, output, Line, signs}
+use Rattle.model.specs.Directions.{Kind, flow, anti, output, kindCount, Line, vectorCount, signs}
 
 unfoldable pub digit : Sign → ℕ
 digit less = 0
@@ -21,6 +21,7 @@ numberAfter n (s ∷ v) = numberAfter (n * 3 + digit s) v
 unfoldable pub number : List Sign → ℕ
 number v = numberAfter 0 (v ++ replicate (6 - length v) equal)
 
+-- below kindCount, which as a number says that there is no kind
 abbrev pub kindNumber : Kind → ℕ
 kindNumber flow = 0
 kindNumber anti = 1
@@ -28,7 +29,14 @@ kindNumber output = 2
 
 -- by source, sink, kind and vector: n statements
 abbrev pub placeOf : ℕ → ℕ → ℕ → ℕ → ℕ → ℕ
-placeOf n s t k v = ((s * n + t) * 3 + k) * 729 + v
+placeOf n s t k v = ((s * n + t) * kindCount + k) * vectorCount + v
+
+-- the marks of a pair of statements, then of n statements: all places are below
+abbrev pub pairMarks : ℕ
+pairMarks = kindCount * vectorCount
+
+abbrev pub marksFor : ℕ → ℕ
+marksFor n = n * n * pairMarks
 
 unfoldable pub place : ℕ → Line → ℕ
 place n l = placeOf n (l .source) (l .sink) (kindNumber (l .kind)) (number (l .vector))
