@@ -1,7 +1,7 @@
 -- A nest as flat slices, and the model's loops that it stands for.
--- Words: 256 for each of 6 loops, 16 lower limits of 8 words each, then 16 upper ones. A limit's words are its multiplier, its constant and
--- its coefficients, one for each loop outside. Counts: two for each loop, of its lower and of its upper limits. Words beyond a count say
--- nothing.
+-- Words: for each loop room for 16 lower limits (mostLimits) of 8 words each (rowRoom), then for 16 upper ones. A limit's words are its
+-- multiplier, its constant and its coefficients, one for each loop outside. Counts: two for each loop, of its lower and of its upper limits.
+-- Words beyond a count say nothing.
 use mathlib.Core.Path.{_≡_}
 use mathlib.Core.List.{List, [], _∷_}
 use Prim.Native.Nat.{ℕ, zero, suc, _+_, _*_, _≤_, _<_}
@@ -10,6 +10,7 @@ use lib.Signed.{_<ℤ_}
 use lib.ListN.{length, getD, take, drop}
 use Rattle.integers.specs.Affine.{Within}
 use Rattle.model.specs.Ticket.{Limit, Loop}
+use Rattle.model.specs.Grammar.{mostSides, nestRoom, mostLimits}
 
 -- limit j of the nest, of a loop with k loops outside
 unfoldable pub limitAt : List ℤ → ℕ → ℕ → Limit
@@ -34,11 +35,11 @@ Positive s j n = (i : ℕ) → i < n → pos 0 <ℤ getD s ((j + i) * 8) (pos 0)
 
 -- what every nest has that was judged, before or after its steps
 pub record NestOk (s : List ℤ) (c : List ℕ) (depth : ℕ) : Type 0 where
-  pub words : length s ≡ 1536
-  pub counts : length c ≡ 12
+  pub words : length s ≡ nestRoom
+  pub counts : length c ≡ mostSides
   pub shallow : depth ≤ 6
   pub small : Within 32767 s
-  pub lower-count : (k : ℕ) → k < depth → (1 ≤ getD c (k * 2) 0) × (getD c (k * 2) 0 ≤ 16)
-  pub upper-count : (k : ℕ) → k < depth → (1 ≤ getD c (k * 2 + 1) 0) × (getD c (k * 2 + 1) 0 ≤ 16)
+  pub lower-count : (k : ℕ) → k < depth → (1 ≤ getD c (k * 2) 0) × (getD c (k * 2) 0 ≤ mostLimits)
+  pub upper-count : (k : ℕ) → k < depth → (1 ≤ getD c (k * 2 + 1) 0) × (getD c (k * 2 + 1) 0 ≤ mostLimits)
   pub lower-positive : (k : ℕ) → k < depth → Positive s (k * 32) (getD c (k * 2) 0)
   pub upper-positive : (k : ℕ) → k < depth → Positive s (k * 32 + 16) (getD c (k * 2 + 1) 0)

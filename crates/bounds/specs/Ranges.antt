@@ -10,6 +10,7 @@ use Rattle.integers.specs.Division.{floorDiv, ceilDiv}
 use Rattle.integers.specs.Affine.{Within}
 use Rattle.model.specs.Ticket.{Limit, Loop}
 use Rattle.model.specs.Points.{value, largest, smallest, firstIndex, lastIndex}
+use Rattle.model.specs.Grammar.{mostSides, nestLimits, nestRoom}
 use Rattle.bounds.specs.Flat.{limitsAt, Positive}
 
 -- within ±2^35, as the value of every limit is at indices within ±100,000
@@ -36,9 +37,9 @@ pub record Outside (outer : List ℤ) : Type 0 where
   pub near : Within 100000 outer
 
 pub record LimitIn (s : List ℤ) (j : ℕ) (outer : List ℤ) : Type 0 where
-  pub words : length s ≡ 1536
+  pub words : length s ≡ nestRoom
   pub small : Within 32767 s
-  pub inside : j < 192
+  pub inside : j < nestLimits
   pub outside : Outside outer
 
 pub record DivisorIn (s : List ℤ) (j : ℕ) (outer : List ℤ) : Type 0 where
@@ -47,16 +48,16 @@ pub record DivisorIn (s : List ℤ) (j : ℕ) (outer : List ℤ) : Type 0 where
 
 -- n limits from limit j on
 pub record SideIn (s : List ℤ) (j n : ℕ) (outer : List ℤ) : Type 0 where
-  pub words : length s ≡ 1536
+  pub words : length s ≡ nestRoom
   pub small : Within 32767 s
   pub some : 1 ≤ n
-  pub inside : j + n ≤ 192
+  pub inside : j + n ≤ nestLimits
   pub positive : Positive s j n
   pub outside : Outside outer
 
 -- the loop that stands inside the indices outer
 pub record RangeIn (s : List ℤ) (c : List ℕ) (outer : List ℤ) : Type 0 where
-  pub counts : length c ≡ 12
+  pub counts : length c ≡ mostSides
   pub deep : length outer < 6
   pub lower : SideIn s (length outer * 32) (getD c (length outer * 2) 0) outer
   pub upper : SideIn s (length outer * 32 + 16) (getD c (length outer * 2 + 1) 0) outer

@@ -13,6 +13,7 @@ use Rattle.lists.specs.Parts.{rows, put}
 use Rattle.lists.proofs.PartLaws.{length-rows, length-put, set-put, put-nil, getD-put, getD-put-before, row-fits}
 use Rattle.model.specs.Bounds.{strays}
 use Rattle.model.specs.Store.{base}
+use Rattle.model.specs.Grammar.{mostAccesses, mostPoints, mostNumbers}
 use Rattle.elements.specs.Layout.{arraysOf, accessAt}
 use Rattle.elements.specs.Forms.{formOf, valueAt, FormIn, PlacedIn}
 use Rattle.elements.specs.Places.{BaseIn, NumberIn, placeAt, placesOf, numbered}
@@ -29,8 +30,8 @@ module _ {w : List ℤ} {o a : List ℕ} {points : List ℤ} {depth count room :
   form-in {b} q = record { loops = depth; accesses = p .accesses; there = h; begins = let f = array-fits a (getD o k 0) (base-in .array) in let t = p .fits in omega arith }
 
   -- where its numbers begin
-  pub begins-small : k * count ≤ 81920
-  begins-small = let m = p .accesses .many in mul-le-mul {n₁ = k} {m₁ = count} {n₂ = 20} {m₂ = 4096} (omega arith) (p .stored .bound)
+  pub begins-small : k * count ≤ mostNumbers
+  begins-small = let m = p .accesses .many in mul-le-mul {n₁ = k} {m₁ = count} {n₂ = mostAccesses} {m₂ = mostPoints} (omega arith) (p .stored .bound)
 
   places-length : (i : ℕ) → length (placesOf w o a depth (rows depth i points) k) ≡ i
   unfolding placesOf

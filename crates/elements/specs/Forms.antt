@@ -7,6 +7,7 @@ use lib.IntN.{ℤ, pos, natAbs, _+ℤ_, _*ℤ_}
 use lib.Signed.{_≤ℤ_}
 use lib.ListN.{length, getD, take, drop, set, replicate}
 use Rattle.integers.specs.Affine.{affine, Within, AffineIn}
+use Rattle.model.specs.Grammar.{mostWords, arrayRoom}
 use Rattle.bounds.specs.Ranges.{Narrow}
 use Rattle.elements.specs.Layout.{AccessesOk}
 
@@ -21,7 +22,7 @@ folded n f g = zipWith (λ x y. x *ℤ pos n +ℤ y) f g
 -- access k by its first d dimensions: its place in its array
 unfoldable pub formTo : List ℤ → List ℕ → List ℕ → ℕ → ℕ → List ℤ
 formTo w o a k zero = replicate 8 (pos 0)
-formTo w o a k (suc d) = folded (getD a (getD o k 0 * 4 + 1 + d) 0) (formTo w o a k d) (wordsAt w (k * 3 + d))
+formTo w o a k (suc d) = folded (getD a (getD o k 0 * arrayRoom + 1 + d) 0) (formTo w o a k d) (wordsAt w (k * 3 + d))
 
 -- with b more
 unfoldable pub raised : ℕ → List ℤ → List ℤ
@@ -29,7 +30,7 @@ raised b f = set f 0 (getD f 0 (pos 0) +ℤ pos b)
 
 -- access k by all its dimensions, in the store: its array begins at b
 unfoldable pub formOf : List ℤ → List ℕ → List ℕ → ℕ → ℕ → List ℤ
-formOf w o a k b = raised b (formTo w o a k (getD a (getD o k 0 * 4) 0))
+formOf w o a k b = raised b (formTo w o a k (getD a (getD o k 0 * arrayRoom) 0))
 
 unfoldable pub valueAt : List ℤ → List ℤ → ℤ
 valueAt f point = affine (getD f 0 (pos 0)) (take (length point) (drop 1 f)) point
@@ -39,7 +40,7 @@ pub record FoldIn (f : List ℤ) (extent : ℕ) (w : List ℤ) (j : ℕ) : Type 
   pub near : Within 134246399 f
   pub extents : extent ≤ 4096
   pub inside : j * 8 + 8 ≤ length w
-  pub room : length w ≤ 480
+  pub room : length w ≤ mostWords
   pub small : Within 32767 w
 
 pub record FormIn (w : List ℤ) (o a : List ℕ) (k b : ℕ) : Type 0 where

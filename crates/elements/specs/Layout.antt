@@ -1,7 +1,7 @@
 -- Arrays and accesses as flat slices, and what they stand for in the model.
--- Arrays: 4 words each, the number of dimensions and 3 extents. Accesses, in ticket order: 24 words each, 8 for each of 3 dimensions (a
--- constant, and coefficients for the n loops); and beside, for each access, the number of its array. Statements: for each the number of its
--- accesses, the written one first. A slice is as long as what it holds; words beyond a dimension or a loop say nothing.
+-- Arrays: arrayRoom words each, the number of dimensions and an extent for each. Accesses, in ticket order: accessRoom words each, 8 for each of
+-- 3 dimensions (a constant, and coefficients for the n loops); and beside, for each access, the number of its array. Statements: for each the
+-- number of its accesses, the written one first. A slice is as long as what it holds; words beyond a dimension or a loop say nothing.
 use mathlib.Core.Path.{_≡_}
 use mathlib.Core.List.{List, [], _∷_}
 use Prim.Native.Nat.{ℕ, zero, suc, _+_, _*_, _/_, _≤_, _<_}
@@ -9,9 +9,10 @@ use lib.IntN.{ℤ, pos}
 use lib.ListN.{length, getD, take, drop}
 use Rattle.integers.specs.Affine.{Within}
 use Rattle.model.specs.Ticket.{Subscript, Access}
+use Rattle.model.specs.Grammar.{mostAccesses, accessRoom, arrayRoom, mostExtents}
 
 unfoldable pub extentsAt : List ℕ → ℕ → List ℕ
-extentsAt a i = take (getD a (i * 4) 0) (drop (i * 4 + 1) a)
+extentsAt a i = take (getD a (i * arrayRoom) 0) (drop (i * arrayRoom + 1) a)
 
 -- m arrays from array i on
 unfoldable pub arraysFrom : List ℕ → ℕ → ℕ → List (List ℕ)
@@ -28,7 +29,7 @@ formsFrom w n j (suc d) = formAt w n j ∷ formsFrom w n (suc j) d
 
 -- access k of all
 unfoldable pub accessAt : List ℤ → List ℕ → List ℕ → ℕ → ℕ → Access
-accessAt w o a n k = record { array = getD o k 0; subscripts = formsFrom w n (k * 3) (getD a (getD o k 0 * 4) 0) }
+accessAt w o a n k = record { array = getD o k 0; subscripts = formsFrom w n (k * 3) (getD a (getD o k 0 * arrayRoom) 0) }
 
 -- m accesses from access k on
 unfoldable pub accessesFrom : List ℤ → List ℕ → List ℕ → ℕ → ℕ → ℕ → List Access
@@ -42,22 +43,22 @@ bodiesFrom w o a n k (m ∷ ms) = accessesFrom w o a n k m ∷ bodiesFrom w o a 
 
 -- all arrays of a slice
 unfoldable pub arraysOf : List ℕ → List (List ℕ)
-arraysOf a = arraysFrom a 0 (length a / 4)
+arraysOf a = arraysFrom a 0 (length a / arrayRoom)
 
 -- array i of a slice
 pub record ArrayIn (a : List ℕ) (i : ℕ) : Type 0 where
-  pub few : length a ≤ 16
-  pub there : i < length a / 4
-  pub dimensions : (j : ℕ) → j < length a / 4 → getD a (j * 4) 0 ≤ 3
+  pub few : length a ≤ mostExtents
+  pub there : i < length a / arrayRoom
+  pub dimensions : (j : ℕ) → j < length a / arrayRoom → getD a (j * arrayRoom) 0 ≤ 3
   pub extents : (j : ℕ) → getD a j 0 ≤ 4096
 
 -- what every ticket's arrays and accesses have, in a nest of n loops
 pub record AccessesOk (w : List ℤ) (o a : List ℕ) (n : ℕ) : Type 0 where
-  pub words : length w ≡ length o * 24
-  pub many : length o ≤ 20
-  pub few : length a ≤ 16
+  pub words : length w ≡ length o * accessRoom
+  pub many : length o ≤ mostAccesses
+  pub few : length a ≤ mostExtents
   pub shallow : n ≤ 6
   pub small : Within 32767 w
-  pub dimensions : (i : ℕ) → i < length a / 4 → getD a (i * 4) 0 ≤ 3
+  pub dimensions : (i : ℕ) → i < length a / arrayRoom → getD a (i * arrayRoom) 0 ≤ 3
   pub extents : (j : ℕ) → getD a j 0 ≤ 4096
-  pub there : (k : ℕ) → k < length o → getD o k 0 < length a / 4
+  pub there : (k : ℕ) → k < length o → getD o k 0 < length a / arrayRoom

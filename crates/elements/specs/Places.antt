@@ -7,7 +7,7 @@ use lib.IntN.{ℤ}
 use lib.ListN.{length}
 use Rattle.lists.specs.Membership.{All}
 use Rattle.lists.specs.Parts.{rows, put}
-use Rattle.model.specs.Grammar.{total}
+use Rattle.model.specs.Grammar.{total, arrayRoom}
 use Rattle.model.specs.Bounds.{strays}
 use Rattle.model.specs.Machine.{element}
 use Rattle.model.specs.Store.{placeOf}
@@ -20,7 +20,7 @@ pub record BaseIn (a : List ℕ) (i : ℕ) : Type 0 where
 
 -- all n arrays of a slice
 pub record TotalIn (a : List ℕ) (n : ℕ) : Type 0 where
-  pub all : length a ≡ n * 4
+  pub all : length a ≡ n * arrayRoom
   pub each : (i : ℕ) → i < n → ArrayIn a i
   pub fits : total (arraysOf a) ≤ 16384
 

@@ -7,13 +7,14 @@ ghost use lib.ListN.{length};
 ghost use Rattle.lists.specs.Parts.{rows, put};
 ghost use Rattle.integers.specs.Difference.{size};
 ghost use Rattle.integers.specs.Affine.{Within};
-ghost use Rattle.model.specs.Grammar.{elements, total};
+ghost use Rattle.model.specs.Grammar.{elements, total, mostWords};
 ghost use Rattle.model.specs.Store.{base};
 ghost use Rattle.bounds.specs.Ranges.{Narrow};
 ghost use Rattle.elements.specs.Layout.{extentsAt, arraysOf, ArrayIn};
 ghost use Rattle.elements.specs.Search.{off, straysAt, StrayIn, SearchIn, Searched};
 ghost use Rattle.elements.specs.Forms.{wordsAt, folded, raised, formOf, valueAt, FoldIn, FormIn, ValueIn, PlacedIn};
 ghost use Rattle.elements.specs.Places.{BaseIn, TotalIn, NumberIn, placesOf, numbered};
+use model::ARRAY_ROOM;
 
 // The value of a form at a point.
 fn value(form: &[i64], point: &[i64]) -> i64
@@ -37,7 +38,7 @@ fn leaves(form: &[i64], extent: usize, point: &[i64]) -> bool
 
 // The words of subscript j of all as a form, which is made once and lent for every point.
 fn words_at(words: &[i16], j: usize) -> [i64; 8]
-    requires { ⌜ (j * 8 + 8 ≤ length (now words)) × (length (now words) ≤ 480) × Within 32767 (now words) ⌝ }
+    requires { ⌜ (j * 8 + 8 ≤ length (now words)) × (length (now words) ≤ mostWords) × Within 32767 (now words) ⌝ }
     ensures { λ r. ⌜ r ≡ wordsAt (now (words .entry)) j ⌝ }
 {
     let at = j * 8;
@@ -97,7 +98,7 @@ pub fn find_stray(
         let mut i = 0;
         'accesses: while i < n {
             let k = first + i;
-            let at = owners[k] * 4;
+            let at = owners[k] * ARRAY_ROOM;
             let dimensions = arrays[at];
             let mut d = 0;
             'dimensions: while d < dimensions {
@@ -120,7 +121,7 @@ fn elements_of(arrays: &[usize], i: usize) -> usize
     requires { ⌜ ArrayIn (now arrays) i ⌝ }
     ensures { λ r. ⌜ r ≡ elements (extentsAt (now (arrays .entry)) i) ⌝ }
 {
-    let at = i * 4;
+    let at = i * ARRAY_ROOM;
     let mut d = arrays[at];
     let mut r = 1;
     while 0 < d {
@@ -199,7 +200,7 @@ fn form_of(words: &[i16], owners: &[usize], arrays: &[usize], k: usize, b: usize
     requires { ⌜ FormIn (now words) (now owners) (now arrays) k b ⌝ }
     ensures { λ r. ⌜ r ≡ formOf (now (words .entry)) (now (owners .entry)) (now (arrays .entry)) k b ⌝ }
 {
-    let at = owners[k] * 4;
+    let at = owners[k] * ARRAY_ROOM;
     let dimensions = arrays[at];
     let mut form = [0i64; 8];
     let mut d = 0;

@@ -13,6 +13,7 @@ use Rattle.integers.specs.Difference.{size}
 use Rattle.integers.proofs.RangeLaws.{back, size-fits, size-add, from-nat, test-lt, test-lt-no}
 use Rattle.integers.proofs.AffineLaws.{within-at}
 use Rattle.model.specs.Quick.{leastSum, greatestSum}
+use Rattle.model.specs.Grammar.{mostExtents}
 use Rattle.bounds.proofs.LimitLaws.{copied}
 use Rattle.elements.specs.Layout.{formAt}
 use Rattle.elements.proofs.LayoutLaws.{array-in, array-ends}
@@ -52,7 +53,7 @@ module _ {w : List ℤ} {o a : List ℕ} {n : ℕ} {b : List Range} (p : Accesse
   pub owner : getD o k 0 < length a / 4
   owner = p .accesses .there k h
 
-  pub owner-ends : (getD o k 0 * 4 + 4 ≤ length a) × (length a ≤ 16)
+  pub owner-ends : (getD o k 0 * 4 + 4 ≤ length a) × (length a ≤ mostExtents)
   owner-ends = (array-ends a (getD o k 0) (array-in w o a n (getD o k 0) (p .accesses) owner), p .accesses .few)
 
   pub flat : getD a (getD o k 0 * 4) 0 ≤ 3

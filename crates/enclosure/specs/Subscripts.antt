@@ -8,6 +8,7 @@ use Rattle.integers.specs.Affine.{Within}
 use Rattle.model.specs.Ticket.{Subscript}
 use Rattle.model.specs.Quick as Model
 use Rattle.model.specs.Quick.{leastSum, greatestSum}
+use Rattle.model.specs.Grammar.{mostWords, arrayRoom}
 use Rattle.elements.specs.Layout.{formAt, AccessesOk}
 use Rattle.extremes.specs.declared.Range.{Range}
 use Rattle.extremes.specs.Ranges.{RangesIn}
@@ -19,16 +20,16 @@ pub record Enclosed (rs : List Model.Range) (extent : ℕ) (s : Subscript) : Typ
 
 -- the first m subscripts of access k of all, then every subscript of the first m accesses
 abbrev pub FirstEnclosed : List Model.Range → List ℤ → List ℕ → List ℕ → ℕ → ℕ → ℕ → Type 0
-FirstEnclosed rs w o a n k m = (d : ℕ) → d < m → Enclosed rs (getD a (getD o k 0 * 4 + 1 + d) 0) (formAt w n (k * 3 + d))
+FirstEnclosed rs w o a n k m = (d : ℕ) → d < m → Enclosed rs (getD a (getD o k 0 * arrayRoom + 1 + d) 0) (formAt w n (k * 3 + d))
 
 abbrev pub AllEnclosed : List Model.Range → List ℤ → List ℕ → List ℕ → ℕ → ℕ → Type 0
-AllEnclosed rs w o a n m = (k : ℕ) → k < m → FirstEnclosed rs w o a n k (getD a (getD o k 0 * 4) 0)
+AllEnclosed rs w o a n m = (k : ℕ) → k < m → FirstEnclosed rs w o a n k (getD a (getD o k 0 * arrayRoom) 0)
 
 -- subscript j of all, in a nest of n loops
 pub record SubscriptIn (w : List ℤ) (j n extent : ℕ) (b : List Range) : Type 0 where
   pub small : Within 32767 w
   pub inside : j * 8 + 8 ≤ length w
-  pub room : length w ≤ 480
+  pub room : length w ≤ mostWords
   pub extents : extent ≤ 4096
   pub ranges : RangesIn n b
 

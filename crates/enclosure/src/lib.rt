@@ -4,6 +4,7 @@ ghost use mathlib.Core.Path.{_≡_};
 ghost use mathlib.Core.Bool.{true};
 ghost use Prim.Native.Nat.{_*_, _≤_, _<_};
 ghost use lib.ListN.{length, getD};
+ghost use Rattle.model.specs.Grammar.{arrayRoom};
 ghost use Rattle.elements.specs.Layout.{formAt};
 ghost use Rattle.extremes.specs.Ranges.{rangeAs, rangesOf, NearRange, RangesIn};
 ghost use Rattle.sheet.specs.Sheets.{sheetOf, SheetIn};
@@ -12,6 +13,8 @@ ghost use Rattle.enclosure.specs.Boxes.{Uncut, Compact};
 ghost use Rattle.enclosure.specs.Promises.{StaysInside, StaysCompact};
 use bounds::Ends;
 use extremes::Range;
+use model::ACCESS_ROOM;
+use model::ARRAY_ROOM;
 use sheet::Outline;
 
 // Whether subscript j of all stays within its extent over the ranges of n loops.
@@ -38,9 +41,9 @@ fn access_fits(
     ranges: [Range; 6],
 ) -> bool
     requires { ⌜ AccessesIn (now words) (now owners) (now arrays) n ranges × (k < length (now owners)) ⌝ }
-    ensures { λ r. ⌜ (r ≡ true → FirstEnclosed (rangesOf n ranges) (now (words .entry)) (now (owners .entry)) (now (arrays .entry)) n k (getD (now (arrays .entry)) (getD (now (owners .entry)) k 0 * 4) 0)) ⌝ }
+    ensures { λ r. ⌜ (r ≡ true → FirstEnclosed (rangesOf n ranges) (now (words .entry)) (now (owners .entry)) (now (arrays .entry)) n k (getD (now (arrays .entry)) (getD (now (owners .entry)) k 0 * arrayRoom) 0)) ⌝ }
 {
-    let at = owners[k] * 4;
+    let at = owners[k] * ARRAY_ROOM;
     let dimensions = arrays[at];
     let mut d = 0;
     while d < dimensions {
@@ -79,9 +82,9 @@ pub fn stays_inside(outline: Outline, limits: &[i16], words: &[i16]) -> bool
     let accesses = outline.accesses;
     let ranges = extremes::ranges_in_turn(limits, &counts, depth);
     all_fit(
-        &words[..accesses * 24],
+        &words[..accesses * ACCESS_ROOM],
         &owners[..accesses],
-        &extents[..outline.arrays * 4],
+        &extents[..outline.arrays * ARRAY_ROOM],
         depth,
         ranges,
     )

@@ -11,6 +11,7 @@ use Rattle.model.specs.Ticket.{Limit}
 use Rattle.model.specs.Points.{largest, smallest}
 use Rattle.model.specs.Quick as Model
 use Rattle.model.specs.Quick.{leastSum, greatestSum, rangeOf, ranges}
+use Rattle.model.specs.Grammar.{nestLimits, nestRoom}
 use Rattle.bounds.specs.Flat.{limitsAt, loopAt, loopsFrom, Positive, NestOk}
 use Rattle.extremes.specs.declared.Range.{Range}
 use Rattle.extremes.specs.Ranges.{rangesOf, RangesIn}
@@ -39,18 +40,18 @@ Free s j n i = (l : ℕ) → l < n → getD s ((j + l) * 8 + 2 + i) (pos 0) ≡ 
 
 -- limit j, of a loop with k loops outside
 pub record LimitIn (s : List ℤ) (j k : ℕ) (b : List Range) : Type 0 where
-  pub words : length s ≡ 1536
+  pub words : length s ≡ nestRoom
   pub small : Within 32767 s
-  pub inside : j < 192
+  pub inside : j < nestLimits
   pub positive : pos 0 <ℤ getD s (j * 8) (pos 0)
   pub outside : RangesIn k b
 
 -- n limits from limit j on
 pub record SideIn (s : List ℤ) (j n k : ℕ) (b : List Range) : Type 0 where
-  pub words : length s ≡ 1536
+  pub words : length s ≡ nestRoom
   pub small : Within 32767 s
   pub some : 1 ≤ n
-  pub inside : j + n ≤ 192
+  pub inside : j + n ≤ nestLimits
   pub positive : Positive s j n
   pub outside : RangesIn k b
 

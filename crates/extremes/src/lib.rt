@@ -7,6 +7,7 @@ ghost use lib.IntN.{_+ℤ_};
 ghost use lib.ListN.{length, take, drop};
 ghost use Rattle.integers.specs.Difference.{size};
 ghost use Rattle.model.specs.Quick.{leastTerm, greatestTerm, leastSum, greatestSum, rangeOf};
+ghost use Rattle.model.specs.Grammar.{nestLimits, nestRoom};
 ghost use Rattle.bounds.specs.Flat.{NestOk, limitAt, loopAt};
 ghost use Rattle.extremes.specs.Ranges.{rangeAs, rangesOf, TermIn, SumIn};
 ghost use Rattle.extremes.specs.Values.{leastOf, greatestOf, largestFrom, smallestFrom, rangeAt, Free, LimitIn, SideIn, LoopIn, RangesAre};
@@ -159,7 +160,7 @@ fn greatest_over(nest: &[i16], counts: &[usize], k: usize, outer: [Range; 6]) ->
 
 // Whether one of n limits from limit j on has a coefficient of loop i.
 fn leans(nest: &[i16], j: usize, n: usize, i: usize) -> bool
-    requires { ⌜ (length (now nest) ≡ 1536) × (j + n ≤ 192) × (i < 6) ⌝ }
+    requires { ⌜ (length (now nest) ≡ nestRoom) × (j + n ≤ nestLimits) × (i < 6) ⌝ }
     ensures { λ r. ⌜ (r ≡ false → Free (now (nest .entry)) j n i) × (r ≡ true → Free (now (nest .entry)) j n i → ⊥) ⌝ }
 {
     let mut l = 0;

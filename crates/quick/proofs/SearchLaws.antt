@@ -15,6 +15,7 @@ use lib.Seq.{drop-cons}
 use Rattle.lists.specs.Tests.{any}
 use Rattle.model.specs.Quick as Model
 use Rattle.model.specs.Quick.{ranges, neverZero, someApart, isApart}
+use Rattle.model.specs.Grammar.{mostExtents}
 use Rattle.bounds.specs.Flat.{loopsFrom}
 use Rattle.bounds.proofs.LimitLaws.{copied}
 use Rattle.elements.specs.Layout.{formsFrom, accessAt}
@@ -115,7 +116,7 @@ module _ (s : List ℤ) (c : List ℕ) (depth : ℕ) (w : List ℤ) (o a : List 
     unfolding isApart accessAt isEmpty
     apart-forms f r k = let g = empties ∙ f in k ∙ rw (q .are) (sym (rw (same-array, g, sym h)))
 
-  pub array-there : (getD o u 0 * 4 < length a) × (length a ≤ 16)
+  pub array-there : (getD o u 0 * 4 < length a) × (length a ≤ mostExtents)
   array-there = let t = p .accesses .there u (p .first) in let d = div-add-mod (length a) 4 in let f = p .accesses .few in (omega arith, f)
 
   dimensions : getD a (getD o u 0 * 4) 0 ≤ 3

@@ -5,6 +5,7 @@ use native.Mathlib.Omega.{arith}
 use lib.IntN.{pos}
 use lib.ListN.{getD, replicate, length-replicate}
 use Rattle.integers.specs.Affine.{Within}
+use Rattle.model.specs.Grammar.{mostSides, nestRoom}
 use Rattle.space.proofs.Witness.{ones-ok}
 use Rattle.elements.specs.Layout.{AccessesOk}
 use Rattle.quick.specs.Differences.{TestIn}
@@ -45,5 +46,5 @@ accesses-ok = record {
   there = first-array;
 }
 
-pub test-in : TestIn (replicate 1536 (pos 1)) (replicate 12 1) 6 (replicate 48 (pos 1)) (0 ∷ 0 ∷ []) array 0 1
+pub test-in : TestIn (replicate nestRoom (pos 1)) (replicate mostSides 1) 6 (replicate 48 (pos 1)) (0 ∷ 0 ∷ []) array 0 1
 test-in = record { nest = ones-ok; accesses = accesses-ok; first = omega arith; second = omega arith }

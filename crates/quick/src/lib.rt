@@ -17,6 +17,7 @@ ghost use Rattle.extremes.specs.Ranges.{rangeAs, rangesOf, isEmpty, NearRange, 
 ghost use Rattle.quick.specs.Differences.{gcdOnto, differenceAt, leastDifference, greatestDifference, WordsIn, PairIn, DifferenceIn, FormsIn, TestIn};
 use bounds::Whole;
 use extremes::Range;
+use model::ARRAY_ROOM;
 
 // Whether the least exceeds the greatest.
 fn is_empty(r: Range) -> bool
@@ -182,6 +183,6 @@ pub fn is_apart(
     if some_empty(r, depth) {
         return true;
     }
-    let d = arrays[owners[first] * 4];
+    let d = arrays[owners[first] * ARRAY_ROOM];
     some_apart(words, first * 3, second * 3, d, depth, r)
 }

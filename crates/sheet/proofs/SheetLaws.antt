@@ -16,6 +16,7 @@ use Rattle.model.specs.Bounds.{accessesOf}
 use Rattle.model.specs.Store.{sum}
 use Rattle.model.specs.Entries.{allAccesses}
 use Rattle.model.specs.Shape.{Runs, Fits, WellFormed}
+use Rattle.model.specs.Grammar.{accessRoom}
 use Rattle.bounds.proofs.FlatLaws.{nest-runs}
 use Rattle.elements.specs.Layout.{accessAt, accessesFrom, bodiesFrom}
 use Rattle.sheet.specs.Sheets.{Sheet, extentsIn, sizesIn, ownersIn, wordsIn, statementsFrom, nestOf, SheetIn}
@@ -96,8 +97,8 @@ module _ (P : Sheet) where
 
     -- ---- the lengths of the parts in use
 
-    pub words-count : length (wordsIn P) ≡ P .accesses * 24
-    words-count = let l = h .words-length in let f = h .few-accesses in length-take-le (P .accesses * 24) (P .words) (omega arith)
+    pub words-count : length (wordsIn P) ≡ P .accesses * accessRoom
+    words-count = let l = h .words-length in let f = h .few-accesses in length-take-le (P .accesses * accessRoom) (P .words) (omega arith)
 
     pub owners-count : length (ownersIn P) ≡ P .accesses
     owners-count = let l = h .owners-length in let f = h .few-accesses in length-take-le (P .accesses) (P .owners) (omega arith)

@@ -7,7 +7,7 @@ use lib.IntN.{ℤ}
 use lib.ListN.{length, take, getD}
 use Rattle.lists.specs.Membership.{All}
 use Rattle.model.specs.Ticket.{Statement, Nest}
-use Rattle.model.specs.Grammar.{total}
+use Rattle.model.specs.Grammar.{total, mostAccesses, accessRoom, mostWords, mostStatements, mostArrays, arrayRoom, mostExtents}
 use Rattle.model.specs.Store.{sum}
 use Rattle.bounds.specs.Flat.{loopsFrom, NestOk}
 use Rattle.elements.specs.Layout.{arraysOf, accessAt, accessesFrom, AccessesOk}
@@ -47,7 +47,7 @@ sheetOf O s w = record {
 -- ---- the parts of its arrays that are in use
 
 abbrev pub extentsIn : Sheet → List ℕ
-extentsIn P = take (P .arrays * 4) (P .extents)
+extentsIn P = take (P .arrays * arrayRoom) (P .extents)
 
 abbrev pub sizesIn : Sheet → List ℕ
 sizesIn P = take (P .statements) (P .sizes)
@@ -56,7 +56,7 @@ abbrev pub ownersIn : Sheet → List ℕ
 ownersIn P = take (P .accesses) (P .owners)
 
 abbrev pub wordsIn : Sheet → List ℤ
-wordsIn P = take (P .accesses * 24) (P .words)
+wordsIn P = take (P .accesses * accessRoom) (P .words)
 
 -- ---- the nest
 
@@ -87,12 +87,12 @@ pub record SheetIn (P : Sheet) : Type 0 where
   pub fits : total (arraysOf (extentsIn P)) ≤ 16384
   pub all-accesses : sum (sizesIn P) ≡ P .accesses
   pub each : All (λ m. 1 ≤ m) (sizesIn P)
-  pub few-arrays : P .arrays ≤ 4
-  pub few-statements : P .statements ≤ 4
-  pub few-accesses : P .accesses ≤ 20
-  pub extents-length : length (P .extents) ≡ 16
-  pub sizes-length : length (P .sizes) ≡ 4
-  pub owners-length : length (P .owners) ≡ 20
-  pub words-length : length (P .words) ≡ 480
-  pub rules-length : length (P .rules) ≡ 4
-  pub constants-length : length (P .constants) ≡ 4
+  pub few-arrays : P .arrays ≤ mostArrays
+  pub few-statements : P .statements ≤ mostStatements
+  pub few-accesses : P .accesses ≤ mostAccesses
+  pub extents-length : length (P .extents) ≡ mostExtents
+  pub sizes-length : length (P .sizes) ≡ mostStatements
+  pub owners-length : length (P .owners) ≡ mostAccesses
+  pub words-length : length (P .words) ≡ mostWords
+  pub rules-length : length (P .rules) ≡ mostStatements
+  pub constants-length : length (P .constants) ≡ mostStatements

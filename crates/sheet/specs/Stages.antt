@@ -9,7 +9,7 @@ use lib.ListN.{length, getD}
 use Rattle.lists.specs.Parts.{rows}
 use Rattle.model.specs.Answer.{Answer, accepted, refused, require, _>>_}
 use Rattle.model.specs.Ticket.{Access, Nest}
-use Rattle.model.specs.Grammar.{total}
+use Rattle.model.specs.Grammar.{total, mostPoints}
 use Rattle.model.specs.Points.{iterations}
 use Rattle.model.specs.Bounds.{survey, inArrays}
 use Rattle.model.specs.Machine.{element}
@@ -33,7 +33,7 @@ pub record Surveyed (P : Sheet) (bound most : ℕ) (r : Verdict) : Type 0 where
 pub record ListIn (P : Sheet) (room : ℕ) : Type 0 where
   pub sheet : SheetIn P
   pub near : Near 100000 (nestOf P .loops) []
-  pub few : length (iterations (nestOf P .loops)) ≤ 4096
+  pub few : length (iterations (nestOf P .loops)) ≤ mostPoints
   pub fits : length (iterations (nestOf P .loops)) * P .depth ≤ room
 
 -- n points stand in the slice row by row

@@ -8,21 +8,27 @@ ghost use Rattle.model.specs.Entries.{transparent};
 ghost use Rattle.space.specs.Tallies.{Bounded};
 ghost use Rattle.sheet.specs.Sheets.{sheetOf, nestOf, SheetIn};
 ghost use Rattle.sheet.specs.Stages.{Surveyed, ListIn, PointsAre, StrayIn, Searched, opaqueAt, NumberIn, NumbersAre, accessOf, TestIn};
+use model::ACCESS_ROOM;
+use model::ACCESSES;
+use model::ARRAY_ROOM;
+use model::EXTENTS;
+use model::SIDES;
+use model::STATEMENTS;
 use space::Verdict;
 
-// A sheet without its two large slices, 1536 words of limits and 480 of accesses, which are lent beside it: the slices as `space` and `elements`
-// are lent them. The first `arrays` arrays, `statements` statements and `accesses` accesses are in use.
+// A sheet without its two large slices, the words of all limits and of all accesses, which are lent beside it: the slices as `space` and
+// `elements` are lent them. The first `arrays` arrays, `statements` statements and `accesses` accesses are in use.
 pub struct Outline {
     pub depth: usize,
-    pub counts: [usize; 12],
+    pub counts: [usize; SIDES],
     pub arrays: usize,
-    pub extents: [usize; 16],
+    pub extents: [usize; EXTENTS],
     pub statements: usize,
-    pub sizes: [usize; 4],
-    pub rules: [usize; 4],
-    pub constants: [usize; 4],
+    pub sizes: [usize; STATEMENTS],
+    pub rules: [usize; STATEMENTS],
+    pub constants: [usize; STATEMENTS],
     pub accesses: usize,
-    pub owners: [usize; 20],
+    pub owners: [usize; ACCESSES],
 }
 
 // A function that reads one of the two slices, or neither, is lent both: its contract speaks of the whole sheet.
@@ -64,9 +70,9 @@ pub fn find_stray(
     let depth = outline.depth;
     let accesses = outline.accesses;
     elements::find_stray(
-        &words[..accesses * 24],
+        &words[..accesses * ACCESS_ROOM],
         &owners[..accesses],
-        &extents[..outline.arrays * 4],
+        &extents[..outline.arrays * ARRAY_ROOM],
         &sizes[..outline.statements],
         points,
         depth,
@@ -81,7 +87,7 @@ pub fn elements_in(outline: Outline, limits: &[i16], words: &[i16]) -> usize
 {
     let extents = outline.extents;
     let arrays = outline.arrays;
-    elements::total_of(&extents[..arrays * 4], arrays)
+    elements::total_of(&extents[..arrays * ARRAY_ROOM], arrays)
 }
 
 // The number of the first statement with rule 0, from 1, or 0.
@@ -118,9 +124,9 @@ pub fn number_accesses(
     let depth = outline.depth;
     let accesses = outline.accesses;
     elements::number_accesses(
-        &words[..accesses * 24],
+        &words[..accesses * ACCESS_ROOM],
         &owners[..accesses],
-        &extents[..outline.arrays * 4],
+        &extents[..outline.arrays * ARRAY_ROOM],
         points,
         depth,
         count,
@@ -148,9 +154,9 @@ pub fn is_apart(
         limits,
         &counts,
         depth,
-        &words[..accesses * 24],
+        &words[..accesses * ACCESS_ROOM],
         &owners[..accesses],
-        &extents[..outline.arrays * 4],
+        &extents[..outline.arrays * ARRAY_ROOM],
         first,
         second,
     )

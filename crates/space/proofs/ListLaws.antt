@@ -17,6 +17,7 @@ use Rattle.model.specs.Answer.{accepted}
 use Rattle.model.specs.Ticket.{Loop}
 use Rattle.model.specs.Points.{indices, points, partialPoints, iterations}
 use Rattle.model.specs.Bounds.{survey, space}
+use Rattle.model.specs.Grammar.{mostPoints}
 use Rattle.bounds.specs.Flat.{loopsFrom}
 use Rattle.space.specs.Tallies.{through, Near}
 use Rattle.space.specs.Stored.{joined, CollectIn, Collected, PointsIn, Listed}
@@ -33,11 +34,11 @@ pub admitted-near : (N : List Loop) → space N ≡ accepted tt → Near 100000 
 unfolding space
 admitted-near N e = near-more N [] (omega arith) (survey-near 7 8 32767 4096 N e)
 
-pub admitted-few : (N : List Loop) → 1 ≤ length N → space N ≡ accepted tt → length (iterations N) ≤ 4096
+pub admitted-few : (N : List Loop) → 1 ≤ length N → space N ≡ accepted tt → length (iterations N) ≤ mostPoints
 unfolding space iterations partialPoints
 admitted-few N h e =
     let q = survey-passes 7 8 32767 4096 N 1 (length N) e (length N) (omega arith) (omega arith) in
-    subst (λ (M : List Loop). length (points M []) ≤ 4096) (take-length N) (q .few)
+    subst (λ (M : List Loop). length (points M []) ≤ mostPoints) (take-length N) (q .few)
 
 -- ---- points have an index for each loop
 

@@ -7,6 +7,7 @@ use lib.ListN.{length}
 use Rattle.lists.specs.Parts.{rows, put}
 use Rattle.integers.specs.Affine.{Within}
 use Rattle.model.specs.Points.{iterations}
+use Rattle.model.specs.Grammar.{mostPoints}
 use Rattle.bounds.specs.Flat.{NestOk, loopsFrom}
 use Rattle.space.specs.Tallies.{through, Near}
 
@@ -27,17 +28,17 @@ pub record Collected (s : List ℤ) (c : List ℕ) (k left : ℕ) (outer o e : L
   pub place : r ≡ at + length (joined (through (loopsFrom s c k left) outer))
   pub wrote : e ≡ put o at (joined (through (loopsFrom s c k left) outer))
 
--- a nest that was surveyed, with at most 4096 points, and room for them
+-- a nest that was surveyed, with at most mostPoints points, and room for them
 pub record PointsIn (s : List ℤ) (c : List ℕ) (depth room : ℕ) : Type 0 where
   pub nest : NestOk s c depth
   pub some : 1 ≤ depth
   pub near : Near 100000 (loopsFrom s c 0 depth) []
-  pub few : length (iterations (loopsFrom s c 0 depth)) ≤ 4096
+  pub few : length (iterations (loopsFrom s c 0 depth)) ≤ mostPoints
   pub fits : length (iterations (loopsFrom s c 0 depth)) * depth ≤ room
 
 pub record Listed (s : List ℤ) (c : List ℕ) (depth : ℕ) (o e : List ℤ) (r : ℕ) : Type 0 where
   pub count : r ≡ length (iterations (loopsFrom s c 0 depth))
-  pub few : r ≤ 4096
+  pub few : r ≤ mostPoints
   pub points : rows depth r e ≡ iterations (loopsFrom s c 0 depth)
   -- what stands after the points stays
   pub wrote : e ≡ put o 0 (joined (iterations (loopsFrom s c 0 depth)))

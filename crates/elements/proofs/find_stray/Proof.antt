@@ -6,6 +6,7 @@ use Prim.Native.Nat.{ℕ, _+_, _*_, _-_, _≤_, _<_}
 use native.Mathlib.Omega.{arith}
 use lib.ListN.{length, getD}
 use Rattle.lists.specs.Parts.{rows}
+use Rattle.model.specs.Grammar.{mostAccesses, mostExtents}
 use Rattle.elements.specs.Layout.{extentsAt}
 use Rattle.elements.specs.Search.{Searched}
 use Rattle.elements.proofs.StrayLaws.{dimensionsStray, accessesStray, no-dimension, no-access}
@@ -36,8 +37,8 @@ record Bounds (o a : List ℕ) (first i : ℕ) : Type 0 where
   there : first + i < length o
   ends : getD o (first + i) 0 * 4 + 4 ≤ length a
   flat : getD a (getD o (first + i) 0 * 4) 0 ≤ 3
-  few : length a ≤ 16
-  many : length o ≤ 20
+  few : length a ≤ mostExtents
+  many : length o ≤ mostAccesses
 
 module _ (c : tie.In-accesses Inv-dimensions μ-dimensions Inv-accesses μ-accesses Inv-search μ-search) where
   bounds : Bounds (c .before .before .before .before .before .before .before .before .args .owners .now) (c .before .before .before .before .before .before .before .before .args .arrays .now) (c .before .before .before .before .search .first) (c .before .accesses .i)

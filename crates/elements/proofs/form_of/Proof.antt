@@ -5,6 +5,7 @@ use Prim.Native.Nat.{ℕ, _+_, _*_, _-_, _≤_, _<_}
 use native.Mathlib.Omega.{arith}
 use lib.IntN.{ℤ}
 use lib.ListN.{length, getD}
+use Rattle.model.specs.Grammar.{mostAccesses, mostExtents}
 use Rattle.elements.specs.Forms.{formTo, FormIn}
 use Rattle.elements.proofs.LayoutLaws.{array-ends}
 use Rattle.elements.proofs.FormLaws.{owner, flat, fold-in, fold-next, raise-in, form-done}
@@ -21,8 +22,8 @@ record Bounds (o a : List ℕ) (k : ℕ) : Type 0 where
   there : k < length o
   ends : getD o k 0 * 4 + 4 ≤ length a
   flat : getD a (getD o k 0 * 4) 0 ≤ 3
-  few : length a ≤ 16
-  many : length o ≤ 20
+  few : length a ≤ mostExtents
+  many : length o ≤ mostAccesses
 
 bounds : {w : List ℤ} {o a : List ℕ} {k b : ℕ} → FormIn w o a k b → Bounds o a k
 bounds {w} {o} {a} {k} {b} f = record {
