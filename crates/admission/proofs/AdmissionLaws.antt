@@ -9,6 +9,7 @@ use lib.ListN.{length}
 use Rattle.model.specs.Answer.{accepted, _>>_, _>>=_}
 use Rattle.model.specs.Bounds.{space, inArrays, admitted}
 use Rattle.model.specs.Points.{iterations}
+use Rattle.model.specs.Grammar.{ticketLoops, mostPoints}
 use Rattle.reading.specs.declared.Refusal.{Refusal}
 use Rattle.reading.specs.declared.Refusal.the-variants.{IndexOutOfRange, TooManyPoints, SubscriptOutOfBounds}
 use Rattle.reading.specs.declared.Status.{Status}
@@ -35,7 +36,7 @@ not-points r n e = absurd (subst (λ (x : Counted). isRefused x) e tt)
 
 -- ---- 7 and 8
 
-module _ (P : Sheet) (v : Verdict) (g : Surveyed P 32767 4096 v) where
+module _ (P : Sheet) (v : Verdict) (g : Surveyed P 32767 mostPoints v) where
   surveyed : Space.answerOf 7 8 v ≡ space (nestOf P .loops)
   unfolding space
   surveyed = g .same 7 8
@@ -86,11 +87,11 @@ module _ (P : Sheet) (n : ℕ) (h : Waits P n) where
     fits = let a = mul-le-mul-left n (h .shallow) in subst (λ (k : ℕ). k * P .depth ≤ room) (h .count) (omega arith);
   }
 
-  pub few-points : n ≤ 4096
+  pub few-points : n ≤ mostPoints
   few-points = let s = h .nest .sheet .some in let d = depth-is P in let c = h .count in let f = admitted-few (nestOf P .loops) (omega arith) (h .nest .spacious) in omega arith
 
-  pub enumerate-many : EnumerateIn P 16384
-  enumerate-many = let f = few-points in enumerate-in 16384 (omega arith)
+  pub enumerate-many : EnumerateIn P (ticketLoops * mostPoints)
+  enumerate-many = let f = few-points in enumerate-in (ticketLoops * mostPoints) (omega arith)
 
 module _ (P : Sheet) (o : List ℤ) (h : EnumerateIn P (length o)) (e : List ℤ) (n : ℕ) (f : PointsAre P e n × (length e ≡ length o)) where
   pub find-in : FindIn P e n

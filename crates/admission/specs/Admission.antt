@@ -8,6 +8,7 @@ use Rattle.model.specs.Answer.{Answer, accepted}
 use Rattle.model.specs.Points.{iterations}
 use Rattle.model.specs.Bounds.{space, admitted}
 use Rattle.model.specs.Shape.{WellFormed}
+use Rattle.model.specs.Grammar.{ticketLoops}
 use Rattle.reading.specs.Refusals.{refusal}
 use Rattle.reading.specs.declared.Status.{Status}
 use Rattle.reading.specs.declared.Status.the-variants as Status
@@ -42,7 +43,7 @@ pub record Spacious (P : Sheet) : Type 0 where
 -- it waits for 9: it has n points, of at most four indices each
 pub record Waits (P : Sheet) (n : ℕ) : Type 0 where
   pub nest : Spacious P
-  pub shallow : P .depth ≤ 4
+  pub shallow : P .depth ≤ ticketLoops
   pub count : n ≡ length (iterations (nestOf P .loops))
 
 -- a nest that passes 7 and 8, and its n points

@@ -1,10 +1,14 @@
 // Whether a nest on its sheet is admitted: refusals 7 and 8 and the count of its points, then its points and refusal 9.
 ghost use mathlib.Core.Path.{_≡_};
+ghost use Prim.Native.Nat.{_*_};
 ghost use lib.ListN.{length};
+ghost use Rattle.model.specs.Grammar.{ticketLoops, mostPoints};
 ghost use Rattle.elements.specs.Search.{answerOf};
 ghost use Rattle.sheet.specs.Sheets.{sheetOf, SheetIn};
 ghost use Rattle.sheet.specs.Stages.{Searched};
 ghost use Rattle.admission.specs.Admission.{Counts, FindIn, passed, EnumerateIn, Admits, Enumerates};
+use model::POINTS;
+use model::TICKET_LOOPS;
 use reading::Refusal;
 use reading::Status;
 use sheet::Outline;
@@ -20,7 +24,7 @@ pub fn count_points(outline: Outline, limits: &[i16], words: &[i16]) -> Counted
     requires { ⌜ SheetIn (sheetOf outline (now limits) (now words)) ⌝ }
     ensures { λ r. ⌜ Counts (sheetOf outline (now (limits .entry)) (now (words .entry))) r ⌝ }
 {
-    match sheet::survey(outline, limits, words, 32767, 4096) {
+    match sheet::survey(outline, limits, words, 32767, POINTS) {
         Verdict::Admitted(n) => Counted::Points(n),
         Verdict::FarIndex(k) => Counted::Refused(Refusal::IndexOutOfRange(k)),
         Verdict::Crowded(k) => Counted::Refused(Refusal::TooManyPoints(k)),
@@ -77,13 +81,13 @@ pub fn admit_few(outline: Outline, limits: &[i16], words: &[i16]) -> Status
 // The same of many points: without them, where the ranges of the loops show that refusal 9 is passed. Apart from `admit_few`, whose callers would
 // walk through the room for many points page by page too.
 pub fn admit_many(outline: Outline, limits: &[i16], words: &[i16]) -> Status
-    requires { ⌜ EnumerateIn (sheetOf outline (now limits) (now words)) 16384 ⌝ }
+    requires { ⌜ EnumerateIn (sheetOf outline (now limits) (now words)) (ticketLoops * mostPoints) ⌝ }
     ensures { λ r. ⌜ Admits (sheetOf outline (now (limits .entry)) (now (words .entry))) r ⌝ }
 {
     if enclosure::stays_inside(outline, limits, words) {
         return Status::Fine;
     }
-    let mut points = [0i64; 16384];
+    let mut points = [0i64; TICKET_LOOPS * POINTS];
     let count = sheet::list_points(outline, limits, words, &mut points);
     answer(sheet::find_stray(outline, limits, words, &points, count))
 }

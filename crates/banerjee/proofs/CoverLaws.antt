@@ -11,7 +11,7 @@ use lib.IntN.{ℤ}
 use lib.ListN.{length, getD}
 use Rattle.lists.proofs.TestLaws.{true-T}
 use Rattle.model.specs.Bounds.{subscriptAt}
-use Rattle.model.specs.Directions.{signs, earlier}
+use Rattle.model.specs.Directions.{signs, earlier, vectorCount}
 use Rattle.model.proofs.Quick.QuickRangeLaws.{InRanges}
 use Rattle.elements.specs.Layout.{formAt}
 use Rattle.extremes.specs.declared.Range.{Range}
@@ -52,7 +52,7 @@ module _ (w : List ℤ) (i j d n : ℕ) (b : List Range) (g : RegionIn w i j d n
 
 -- the vectors before that of = alone, whose number is 364
 abbrev before : ℕ → ℕ
-before n = (729 / stride (6 - n) - 1) / 2
+before n = (vectorCount / stride (6 - n) - 1) / 2
 
 middle-number : (n : ℕ) → n ≤ 6 → before n * stride (6 - n) + middle (6 - n) ≡ 364
 unfolding stride middle numberAfter digit
@@ -65,14 +65,14 @@ middle-number (suc (suc (suc (suc (suc zero))))) h = refl
 middle-number (suc (suc (suc (suc (suc (suc zero)))))) h = refl
 middle-number (suc (suc (suc (suc (suc (suc (suc n))))))) h = absurd (omega arith)
 
-pub some-quotient : {s : ℕ} → 0 < s → s ≤ 729 → 1 ≤ 729 / s
-some-quotient {s} h l = le-div-iff-mul-le {k = s} {x = 1} {y = 729} h .1 (let e = one-mul s in omega arith)
+pub some-quotient : {s : ℕ} → 0 < s → s ≤ vectorCount → 1 ≤ vectorCount / s
+some-quotient {s} h l = le-div-iff-mul-le {k = s} {x = 1} {y = vectorCount} h .1 (let e = one-mul s in omega arith)
 
-pub candidates-own : (n : ℕ) (own : Bool) {s : ℕ} → s ≡ stride (6 - n) → own ≡ true → (729 / s - 1) / 2 + 1 ≡ candidates n own
+pub candidates-own : (n : ℕ) (own : Bool) {s : ℕ} → s ≡ stride (6 - n) → own ≡ true → (vectorCount / s - 1) / 2 + 1 ≡ candidates n own
 unfolding candidates
 candidates-own n own e t = rw (e, t)
 
-pub candidates-before : (n : ℕ) (own : Bool) {s : ℕ} → s ≡ stride (6 - n) → own ≡ false → (729 / s - 1) / 2 ≡ candidates n own
+pub candidates-before : (n : ℕ) (own : Bool) {s : ℕ} → s ≡ stride (6 - n) → own ≡ false → (vectorCount / s - 1) / 2 ≡ candidates n own
 unfolding candidates
 candidates-before n own e t = rw (e, t)
 
@@ -90,12 +90,12 @@ candidates-all : (n : ℕ) (own : Bool) → own ≡ true → candidates n own �
 unfolding candidates
 candidates-all n own e = rw e
 
--- a candidate's mark is among the 729
+-- a candidate's mark is among the vectorCount
 mark-inside : (n : ℕ) (own : Bool) (s u : ℕ) → n ≤ 6 → s ≡ stride (6 - n) → u < candidates n own → (u * s + (s - 1) / 2 ≤ 364) × (u ≤ 364)
 mark-inside n own s u f e h =
     let a = candidates-most n own in let b = stride-half (6 - n) s e in let c = middle-number n f in
     let l : u ≤ before n = omega arith in let k : u * stride (6 - n) ≤ before n * stride (6 - n) = mul-le-mul-right (stride (6 - n)) l in
-    let q = div-le-self 729 (stride (6 - n)) in (rw (b, e) (omega arith), omega arith)
+    let q = div-le-self vectorCount (stride (6 - n)) in (rw (b, e) (omega arith), omega arith)
 
 -- ---- the marks
 

@@ -6,6 +6,7 @@ use native.Mathlib.Omega.{arith}
 use lib.IntN.{pos}
 use lib.ListN.{length, replicate, length-replicate}
 use Rattle.integers.specs.Affine.{Within}
+use Rattle.model.specs.Directions.{vectorCount}
 use Rattle.extremes.specs.Ranges.{rangeAs, rangesOf, NearRange}
 use Rattle.extremes.specs.declared.Range.{Range}
 use Rattle.banerjee.specs.Covers.{CoverIn}
@@ -21,9 +22,9 @@ four = record { least = pos 0; greatest = pos 3 }
 four-near : NearRange (rangeAs four)
 four-near = record { low = omega arith; high = omega arith }
 
-pub cover-in : CoverIn (replicate 48 (pos 1)) 0 1 3 6 (replicate 6 four) 0 (replicate 729 false)
+pub cover-in : CoverIn (replicate 48 (pos 1)) 0 1 3 6 (replicate 6 four) 0 (replicate vectorCount false)
 unfolding rangesOf
-cover-in = let w = length-replicate 48 (pos 1) in let m = length-replicate 729 false in record {
+cover-in = let w = length-replicate 48 (pos 1) in let m = length-replicate vectorCount false in record {
   small = within-ones 48;
   room = omega arith;
   source = omega arith;

@@ -8,8 +8,9 @@ use lib.IntN.{ℤ}
 use lib.ListN.{length, getD}
 use Rattle.integers.specs.Affine.{Within}
 use Rattle.model.specs.Bounds.{subscriptAt}
-use Rattle.model.specs.Directions.{signs, earlier}
+use Rattle.model.specs.Directions.{signs, earlier, vectorCount}
 use Rattle.model.proofs.Quick.QuickRangeLaws.{InRanges}
+use Rattle.model.specs.Grammar.{accessRoom, mostWords}
 use Rattle.elements.specs.Layout.{formsFrom}
 use Rattle.extremes.specs.declared.Range.{Range}
 use Rattle.extremes.specs.Ranges.{rangesOf, RangesIn}
@@ -17,7 +18,7 @@ use Rattle.vectors.specs.Numbers.{number}
 use Rattle.vectors.specs.Candidates.{stride}
 
 -- of accesses a and b of an array with d dimensions, at two iterations of n loops that meet in one element, the source earlier, or at one
--- iteration if `own`: the vector's mark is set among the 729 from place base on
+-- iteration if `own`: the vector's mark is set among the vectorCount from place base on
 abbrev pub Covers : List ℤ → ℕ → ℕ → ℕ → ℕ → List Range → Bool → ℕ → List Bool → Type 0
 Covers w a b d n ranges own base m =
     (p q : List ℤ) → InRanges (rangesOf n ranges) p → InRanges (rangesOf n ranges) q
@@ -27,14 +28,14 @@ Covers w a b d n ranges own base m =
 
 -- the vectors of n loops before that of = alone, and that one if `own`
 unfoldable pub candidates : ℕ → Bool → ℕ
-candidates n own = cond own ((729 / stride (6 - n) - 1) / 2 + 1) ((729 / stride (6 - n) - 1) / 2)
+candidates n own = cond own ((vectorCount / stride (6 - n) - 1) / 2 + 1) ((vectorCount / stride (6 - n) - 1) / 2)
 
--- two accesses among the words, and 729 marks
+-- two accesses among the words, and vectorCount marks
 pub record CoverIn (w : List ℤ) (a b d n : ℕ) (r : List Range) (base : ℕ) (m : List Bool) : Type 0 where
   pub small : Within 32767 w
-  pub room : length w ≤ 480
-  pub source : a * 24 + d * 8 ≤ length w
-  pub sink : b * 24 + d * 8 ≤ length w
+  pub room : length w ≤ mostWords
+  pub source : a * accessRoom + d * 8 ≤ length w
+  pub sink : b * accessRoom + d * 8 ≤ length w
   pub dimensions : d ≤ 3
   pub ranges : RangesIn n r
-  pub marks : base + 729 ≤ length m
+  pub marks : base + vectorCount ≤ length m

@@ -4,6 +4,7 @@
 // Words, ranges and marks are flat, as crates elements, extremes and vectors have them.
 use bounds::Whole;
 use extremes::Range;
+use model::VECTORS;
 ghost use mathlib.Core.Path.{_≡_};
 ghost use mathlib.Core.Bool.{true};
 ghost use Prim.Native.Nat.{_≤_, _<_};
@@ -327,7 +328,7 @@ fn candidates(n: usize, own: bool) -> usize
     requires { ⌜ n ≤ 6 ⌝ }
     ensures { λ r. ⌜ r ≡ «candidates-of» n own ⌝ }
 {
-    let before = (729 / vectors::stride(n) - 1) / 2;
+    let before = (VECTORS / vectors::stride(n) - 1) / 2;
     if own { before + 1 } else { before }
 }
 

@@ -9,6 +9,7 @@ use lib.Dec.{eqb}
 use lib.IntN.{ℤ}
 use lib.ListN.{length, getD}
 use Rattle.lists.proofs.PartLaws.{row-fits}
+use Rattle.model.specs.Grammar.{mostPoints}
 use Rattle.vectors.specs.Candidates.{code}
 use Rattle.chains.specs.Search.{some, latest, upTo, Links, Unlinked, NextLinked, hit, found, Adds, walked, Walkable, Tabled, Searchable, Followable}
 use Rattle.chains.proofs.SomeLaws.{some-skips, gathered-none, gathered-more}
@@ -18,7 +19,7 @@ module _ (s : List ℤ) (d : ℕ) (from to : List ℕ) (own : Bool) (base : ℕ)
   -- the marks of all sinks below y are set
   pub record Searching (next start : List ℕ) (m₀ m : List Bool) (spent y : ℕ) : Type 0 where
     pub inside : y ≤ length from
-    pub light : spent ≤ y * 4096
+    pub light : spent ≤ y * mostPoints
     pub same-length : length m ≡ length m₀
     pub table : length from ≤ length next
     pub nexts : Links from from false next
@@ -61,7 +62,7 @@ module _ (s : List ℤ) (d : ℕ) (from to : List ℕ) (own : Bool) (base : ℕ)
         le-refl : (n : ℕ) → n ≤ n
         le-refl n = omega arith
 
-    pub search-turns : (m′ : List Bool) (spent′ : ℕ) → length m′ ≡ length m → spent′ ≤ (y + 1) * 4096 → Adds m m′ (walked d s next base y first) → Searching next start m₀ m′ spent′ (y + 1)
+    pub search-turns : (m′ : List Bool) (spent′ : ℕ) → length m′ ≡ length m → spent′ ≤ (y + 1) * mostPoints → Adds m m′ (walked d s next base y first) → Searching next start m₀ m′ spent′ (y + 1)
     unfolding found
     search-turns m′ spent′ l t a = record {
       inside = omega arith;

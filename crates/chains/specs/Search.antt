@@ -10,6 +10,8 @@ use Rattle.lists.specs.Order.{Ordered}
 use Rattle.lists.specs.Parts.{rows}
 use Rattle.integers.specs.Sign.{Sign}
 use Rattle.model.specs.Inside.{Earlier}
+use Rattle.model.specs.Grammar.{mostPoints}
+use Rattle.model.specs.Directions.{vectorCount}
 use Rattle.vectors.specs.Numbers.{number}
 use Rattle.vectors.specs.Candidates.{code, Agree, Steady}
 
@@ -57,7 +59,7 @@ ClearElse from head y = (e : ℕ) → latest from e y ≡ 0 → getD head e 0 �
 
 -- a head is lent for each element
 pub record Linkable (from to head out : List ℕ) : Type 0 where
-  pub few : length from ≤ 4096
+  pub few : length from ≤ mostPoints
   pub both : length to ≡ length from
   pub sources : Below (length head) from
   pub sinks : Below (length head) to
@@ -95,7 +97,7 @@ pub record Walkable (s : List ℤ) (d y first : ℕ) (next : List ℕ) (base : �
   pub sink : y * d + d ≤ length s
   pub linked : first ≤ length next
   pub falling : (x : ℕ) → x < first → getD next x 0 ≤ x
-  pub room : base + 729 ≤ length marks
+  pub room : base + vectorCount ≤ length marks
 
 -- ---- loops that do not vary along chains
 
@@ -132,12 +134,12 @@ pub record Passed (varying : List Bool) (base : ℕ) (m : List Bool) (s v r : �
 -- ---- what the search of two accesses asks
 
 pub record Searchable (s : List ℤ) (d : ℕ) (from to : List ℕ) (base : ℕ) (marks : List Bool) : Type 0 where
-  pub few : length from ≤ 4096
+  pub few : length from ≤ mostPoints
   pub both : length to ≡ length from
   pub shallow : d ≤ 6
   pub stored : length from * d ≤ length s
   pub rising : Ordered Earlier (rows d (length from) s)
-  pub room : base + 729 ≤ length marks
+  pub room : base + vectorCount ≤ length marks
 
 -- the links of the sources are there; a head for each element is lent, and room for the links of the sinks
 pub record Linked (from next head start : List ℕ) : Type 0 where

@@ -3,6 +3,7 @@ ghost use mathlib.Core.Path.{_≡_};
 ghost use mathlib.Core.Bool.{true, false};
 ghost use Prim.Native.Nat.{_+_, _-_, _≤_, _<_};
 ghost use lib.ListN.{length, getD};
+ghost use Rattle.model.specs.Directions.{vectorCount};
 ghost use Rattle.vectors.specs.Candidates.{stride};
 ghost use Rattle.chains.specs.Search.{Below, Links, Unlinked, NextLinked, Clear, ClearElse, Linkable, Linked, Followable, upTo, Adds, walked, Walkable, Level, LevelElse, Tabled, Passed, found, Searchable};
 
@@ -149,7 +150,7 @@ fn missing(
     step: usize,
     varying: &[bool],
 ) -> usize
-    requires { ⌜ (base + end ≤ length (now marks)) × (0 < step) × (step ≤ 729) × (length (now varying) ≡ 6) ⌝ }
+    requires { ⌜ (base + end ≤ length (now marks)) × (0 < step) × (step ≤ vectorCount) × (length (now varying) ≡ 6) ⌝ }
     ensures { λ r. ⌜ Passed (now (varying .entry)) base (now (marks .entry)) step v r × (r < end → getD (now (marks .entry)) (base + r) false ≡ false) ⌝ }
 {
     let mut w = v;

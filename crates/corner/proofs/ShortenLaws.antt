@@ -22,6 +22,7 @@ use Rattle.model.specs.Ticket.{Limit}
 use Rattle.model.specs.Encode.{limitWords}
 use Rattle.model.specs.Judge.{smallLimit}
 use Rattle.model.specs.Inside.{InLimits}
+use Rattle.model.specs.Grammar.{mostSides, nestRoom}
 use Rattle.bounds.specs.Flat.{limitAt, limitsAt, loopAt, Positive, NestOk}
 use Rattle.rows.specs.Rows.{Tried}
 use Rattle.nest.specs.Nested.{limitOf, LimitIn}
@@ -66,7 +67,7 @@ record SideKept (s : List ℤ) (c : List ℕ) (k : ℕ) (t : List ℤ) (d : List
   ok : SideOk t d at from
   there : (m : Limit) → Mem m (limitsAt s k from (getD c at 0)) → Mem m (limitsAt t k from (getD d at 0))
 
-module _ (s : List ℤ) (c : List ℕ) (k side : ℕ) (l : Limit) (words : length s ≡ 1536) (counts : length c ≡ 12) (deep : k < 6) (either : side < 2) (one : l .multiplier ≡ 1)
+module _ (s : List ℤ) (c : List ℕ) (k side : ℕ) (l : Limit) (words : length s ≡ nestRoom) (counts : length c ≡ mostSides) (deep : k < 6) (either : side < 2) (one : l .multiplier ≡ 1)
     (sized : length (l .coefficients) ≡ k) (few : getD c (k * 2 + side) 0 < 16) (passes : T (smallLimit l)) where
   abbrev n : ℕ
   n = getD c (k * 2 + side) 0

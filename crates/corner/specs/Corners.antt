@@ -5,6 +5,7 @@ use Prim.Native.Nat.{ℕ, _<_}
 use lib.IntN.{ℤ}
 use lib.ListN.{length}
 use Rattle.model.specs.Inside.{InLimits}
+use Rattle.model.specs.Grammar.{mostSides, nestRoom}
 use Rattle.bounds.specs.Flat.{loopAt, NestOk}
 
 -- every index within the limits of a loop of the second nest is within those of the same loop of the first
@@ -13,8 +14,8 @@ pub record Narrower (s : List ℤ) (c : List ℕ) (depth : ℕ) (t : List ℤ) (
   pub inside : (i : ℕ) → i < depth → (outer : List ℤ) (x : ℤ) → InLimits (loopAt t d i) outer x → InLimits (loopAt s c i) outer x
 
 pub record ShortenIn (s : List ℤ) (c : List ℕ) (k : ℕ) : Type 0 where
-  pub words : length s ≡ 1536
-  pub counts : length c ≡ 12
+  pub words : length s ≡ nestRoom
+  pub counts : length c ≡ mostSides
   pub deep : k < 6
 
 -- so it is in every nest that has loop k

@@ -10,13 +10,14 @@ use lib.ListN.{length, getD, take, drop, length-take, length-drop, replicate, le
 use lib.Seq.{getD-take, getD-drop}
 use borrow.Author.Tests.{lt-ltb, le-ltb}
 use Rattle.lists.proofs.PartLaws.{row-fits}
-use Rattle.vectors.specs.Numbers.{placeOf}
+use Rattle.model.specs.Directions.{kindCount, vectorCount}
+use Rattle.vectors.specs.Numbers.{placeOf, marksFor}
 use Rattle.chains.specs.Search.{some, Below, Links, Clear, Linkable, Linked, found, Adds, Searchable}
 use Rattle.dependence.specs.Flat.{Flat, numberAt, statementOf, writesAt, Ready, kindOf, numbersOf, setBy, setFrom, NumbersBelow, Listed, Alike, Lent}
 
 -- ---- places of marks
 
-pub block-fits : (n s t k : ℕ) → s < n → t < n → k < 3 → placeOf n s t k 0 + 729 ≤ n * n * 2187
+pub block-fits : (n s t k : ℕ) → s < n → t < n → k < kindCount → placeOf n s t k 0 + vectorCount ≤ marksFor n
 block-fits n s t k a b c = let h = row-fits n s n a in omega arith
 
 -- ---- the numbers of one access
@@ -45,7 +46,7 @@ module _ (F : Flat) (marks : List Bool) (ok : Ready F marks) where
 
   -- ---- what a pair of accesses sets
 
-  searchable : (a b base : ℕ) → a < length (F .statements) → b < length (F .statements) → base + 729 ≤ F .body * F .body * 2187
+  searchable : (a b base : ℕ) → a < length (F .statements) → b < length (F .statements) → base + vectorCount ≤ marksFor (F .body)
       → Searchable (F .points) (F .depth) (numbersOf (F .count) (F .numbers) a) (numbersOf (F .count) (F .numbers) b) base marks
   searchable a b base h g r = let e = numbers-length a h in let f = numbers-length b g in let p = ok .few in let m = ok .room in record {
     few = omega arith;
@@ -56,7 +57,7 @@ module _ (F : Flat) (marks : List Bool) (ok : Ready F marks) where
     room = omega arith;
   }
 
-  pub call-ready : (a b base : ℕ) → a < length (F .statements) → b < length (F .statements) → base + 729 ≤ F .body * F .body * 2187
+  pub call-ready : (a b base : ℕ) → a < length (F .statements) → b < length (F .statements) → base + vectorCount ≤ marksFor (F .body)
       → Searchable (F .points) (F .depth) (take (a * F .count + F .count - a * F .count) (drop (a * F .count) (F .numbers))) (take (b * F .count + F .count - b * F .count) (drop (b * F .count) (F .numbers))) base marks
   call-ready a b base h g r = rw (part-is (F .count) (F .numbers) a, part-is (F .count) (F .numbers) b) (searchable a b base h g r)
 
@@ -82,23 +83,23 @@ module _ (F : Flat) (marks : List Bool) (ok : Ready F marks) where
   pub call-below : (b m : ℕ) → b < length (F .statements) → NumbersBelow m F → Below m (take (b * F .count + F .count - b * F .count) (drop (b * F .count) (F .numbers)))
   call-below b m h l = rw (part-is (F .count) (F .numbers) b) (numbers-below m b l h)
 
-  call-found : (a b k base : ℕ) → a < length (F .statements) → k ≡ kindOf (writesAt F a) (writesAt F b) → k < 3 → base ≡ placeOf (F .body) (statementOf F a) (statementOf F b) k 0
+  call-found : (a b k base : ℕ) → a < length (F .statements) → k ≡ kindOf (writesAt F a) (writesAt F b) → k < kindCount → base ≡ placeOf (F .body) (statementOf F a) (statementOf F b) k 0
       → (j : ℕ) → found (F .depth) (F .points) (length (take (a * F .count + F .count - a * F .count) (drop (a * F .count) (F .numbers)))) (take (a * F .count + F .count - a * F .count) (drop (a * F .count) (F .numbers))) (take (b * F .count + F .count - b * F .count) (drop (b * F .count) (F .numbers)))
       (ltb (statementOf F a) (statementOf F b)) base j ≡ setBy F a b j
   unfolding setBy
-  call-found a b k base h e l f j = let t : ltb (kindOf (writesAt F a) (writesAt F b)) 3 ≡ true = lt-ltb (kindOf (writesAt F a) (writesAt F b)) 3 (rw e at l) in
+  call-found a b k base h e l f j = let t : ltb (kindOf (writesAt F a) (writesAt F b)) kindCount ≡ true = lt-ltb (kindOf (writesAt F a) (writesAt F b)) kindCount (rw e at l) in
       rw (part-is (F .count) (F .numbers) a, part-is (F .count) (F .numbers) b, numbers-length a h, f, e, t)
 
-  pub call-sets : (m : List Bool) (a b k base : ℕ) → a < length (F .statements) → k ≡ kindOf (writesAt F a) (writesAt F b) → k < 3 → base ≡ placeOf (F .body) (statementOf F a) (statementOf F b) k 0
+  pub call-sets : (m : List Bool) (a b k base : ℕ) → a < length (F .statements) → k ≡ kindOf (writesAt F a) (writesAt F b) → k < kindCount → base ≡ placeOf (F .body) (statementOf F a) (statementOf F b) k 0
       → Adds marks m (found (F .depth) (F .points) (length (take (a * F .count + F .count - a * F .count) (drop (a * F .count) (F .numbers)))) (take (a * F .count + F .count - a * F .count) (drop (a * F .count) (F .numbers))) (take (b * F .count + F .count - b * F .count) (drop (b * F .count) (F .numbers)))
       (ltb (statementOf F a) (statementOf F b)) base)
       → Adds marks m (setBy F a b)
   call-sets m a b k base h e l f w j = w j ∙ ap (getD marks j false ||_) (call-found a b k base h e l f j)
 
   -- two reads
-  pub no-call : (a b k : ℕ) → k ≡ kindOf (writesAt F a) (writesAt F b) → 3 ≤ k → Adds marks marks (setBy F a b)
+  pub no-call : (a b k : ℕ) → k ≡ kindOf (writesAt F a) (writesAt F b) → kindCount ≤ k → Adds marks marks (setBy F a b)
   unfolding setBy
-  no-call a b k e l j = let t : ltb (kindOf (writesAt F a) (writesAt F b)) 3 ≡ false = le-ltb (kindOf (writesAt F a) (writesAt F b)) 3 (rw e at l) in
+  no-call a b k e l j = let t : ltb (kindOf (writesAt F a) (writesAt F b)) kindCount ≡ false = le-ltb (kindOf (writesAt F a) (writesAt F b)) kindCount (rw e at l) in
       rw t (sym (or-false (getD marks j false)))
 
 pub linked-still : (from next head start head′ start′ : List ℕ) → length head′ ≡ length head → Clear head′ → length start′ ≡ length start → Linked from next head start → Linked from next head′ start′

@@ -6,7 +6,7 @@ use Prim.Native.Nat.{ℕ, _+_, _*_, _<_}
 use native.Mathlib.Omega.{arith}
 use Rattle.lists.proofs.PartLaws.{row-unique}
 use Rattle.model.specs.Ticket.{Statement}
-use Rattle.model.specs.Directions.{Kind, flow, anti, output}
+use Rattle.model.specs.Directions.{Kind, flow, anti, output, kindCount, vectorCount}
 use Rattle.model.proofs.Listing.LineLaws.{sourceAccesses, sinkAccesses}
 use Rattle.vectors.specs.Numbers.{kindNumber, placeOf}
 use Rattle.dependence.specs.Flat.{kindOf}
@@ -21,10 +21,10 @@ pub record SameParts (s s′ t t′ k k′ v v′ : ℕ) : Type 0 where
   pub kind : k ≡ k′
   pub vector : v ≡ v′
 
-pub place-unique : (n s s′ t t′ k k′ v v′ : ℕ) → t < n → t′ < n → k < 3 → k′ < 3 → v < 729 → v′ < 729 → placeOf n s t k 0 + v ≡ placeOf n s′ t′ k′ v′ → SameParts s s′ t t′ k k′ v v′
+pub place-unique : (n s s′ t t′ k k′ v v′ : ℕ) → t < n → t′ < n → k < kindCount → k′ < kindCount → v < vectorCount → v′ < vectorCount → placeOf n s t k 0 + v ≡ placeOf n s′ t′ k′ v′ → SameParts s s′ t t′ k k′ v v′
 place-unique n s s′ t t′ k k′ v v′ a a′ b b′ c c′ e =
-    let p = row-unique 729 ((s * n + t) * 3 + k) ((s′ * n + t′) * 3 + k′) v v′ c c′ (omega arith) in
-    let q = row-unique 3 (s * n + t) (s′ * n + t′) k k′ b b′ (p .0) in
+    let p = row-unique vectorCount ((s * n + t) * kindCount + k) ((s′ * n + t′) * kindCount + k′) v v′ c c′ (omega arith) in
+    let q = row-unique kindCount (s * n + t) (s′ * n + t′) k k′ b b′ (p .0) in
     let r = row-unique n s s′ t t′ a a′ (q .0) in
     record { source = r .0; sink = r .1; kind = q .1; vector = p .1 }
 
@@ -45,7 +45,7 @@ kind-is flow = refl
 kind-is anti = refl
 kind-is output = refl
 
-pub kind-small : (k : Kind) → kindNumber k < 3
+pub kind-small : (k : Kind) → kindNumber k < kindCount
 kind-small flow = omega arith
 kind-small anti = omega arith
 kind-small output = omega arith
@@ -64,7 +64,7 @@ is-kind false false flow e = absurd (omega arith)
 is-kind false false anti e = absurd (omega arith)
 is-kind false false output e = absurd (omega arith)
 
-pub kind-of : (w u : Bool) → kindOf w u < 3 → (k : Kind) × (kindOf w u ≡ kindNumber k)
+pub kind-of : (w u : Bool) → kindOf w u < kindCount → (k : Kind) × (kindOf w u ≡ kindNumber k)
 kind-of true false h = (flow, refl)
 kind-of false true h = (anti, refl)
 kind-of true true h = (output, refl)

@@ -8,6 +8,7 @@ use lib.Dec.{T, eqb, ltb, eqb→eq, ltb→lt, lt→ltb}
 use lib.ListN.{length, getD}
 use borrow.Author.Tests.{eq-eqb}
 use Rattle.lists.proofs.TestLaws.{true-T, and-both, and-intro}
+use Rattle.model.specs.Directions.{kindCount}
 use Rattle.vectors.specs.Numbers.{placeOf}
 use Rattle.vectors.specs.Candidates.{code}
 use Rattle.chains.specs.Search.{some, upTo, hit, found}
@@ -27,7 +28,7 @@ pub record Meets (F : Flat) (j : ℕ) : Type 0 where
   pub y : ℕ
   pub source : a < length (F .statements)
   pub sink : b < length (F .statements)
-  pub conflicts : kindOf (writesAt F a) (writesAt F b) < 3
+  pub conflicts : kindOf (writesAt F a) (writesAt F b) < kindCount
   pub first : x < upTo (ltb (statementOf F a) (statementOf F b)) y
   pub late : y < F .count
   pub element : numberAt F a x ≡ numberAt F b y
@@ -61,7 +62,7 @@ module _ (F : Flat) (marks : List Bool) (ok : Ready F marks) (j : ℕ) where
       let p = some-there (length (F .statements)) (λ a. setFrom F a j) h in
       let q = some-there (length (F .statements)) (λ b. setBy F (p .0) b j) (p .2) in
       let a = p .0 in let b = q .0 in
-      let r = and-both (ltb (kind a b) 3) (found (F .depth) (F .points) (F .count) (ids a) (ids b) (own a b) (base a b) j) (q .2) in
+      let r = and-both (ltb (kind a b) kindCount) (found (F .depth) (F .points) (F .count) (ids a) (ids b) (own a b) (base a b) j) (q .2) in
       let s = some-there (F .count) (λ y. some (upTo (own a b) y) (strikes a b y)) (r .1) in
       let t = some-there (upTo (own a b) (s .0)) (strikes a b (s .0)) (s .2) in
       let y = s .0 in let x = t .0 in
@@ -73,7 +74,7 @@ module _ (F : Flat) (marks : List Bool) (ok : Ready F marks) (j : ℕ) where
         y = y;
         source = p .1;
         sink = q .1;
-        conflicts = ltb→lt (kind a b) 3 (r .0);
+        conflicts = ltb→lt (kind a b) kindCount (r .0);
         first = t .1;
         late = s .1;
         element = one-element a b x y (before a b x y (t .1) (s .1)) (s .1) (u .0);
@@ -84,7 +85,7 @@ module _ (F : Flat) (marks : List Bool) (ok : Ready F marks) (j : ℕ) where
   unfolding setFrom setBy found hit
   meets-set m = let a = m .a in let b = m .b in let x = m .x in let y = m .y in
       there-some (length (F .statements)) a (λ a. setFrom F a j) (m .source) (there-some (length (F .statements)) b (λ b. setBy F a b j) (m .sink)
-      (and-intro (ltb (kind a b) 3) (found (F .depth) (F .points) (F .count) (ids a) (ids b) (own a b) (base a b) j) (lt→ltb (kind a b) 3 (m .conflicts))
+      (and-intro (ltb (kind a b) kindCount) (found (F .depth) (F .points) (F .count) (ids a) (ids b) (own a b) (base a b) j) (lt→ltb (kind a b) kindCount (m .conflicts))
       (there-some (F .count) y (λ y. some (upTo (own a b) y) (strikes a b y)) (m .late) (there-some (upTo (own a b) y) x (strikes a b y) (m .first)
       (and-intro (eqb (getD (ids a) x 0) (getD (ids b) y 0)) (eqb (base a b + code (F .depth) (F .points) x y) j)
       (equal-passes (getD (ids a) x 0) (getD (ids b) y 0) (numbers-at F marks ok a x (before a b x y (m .first) (m .late)) ∙ m .element ∙ sym (numbers-at F marks ok b y (m .late))))

@@ -17,6 +17,7 @@ use Rattle.model.specs.Bounds.{subscriptAt}
 use Rattle.model.specs.Machine.{same, element}
 use Rattle.model.specs.Directions.{earlier}
 use Rattle.model.specs.Inside.{Earlier}
+use Rattle.vectors.specs.Numbers.{pairMarks}
 use Rattle.vectors.specs.Candidates.{row}
 use Rattle.dependence.specs.Flat.{Flat, flat, numberAt, pointAt, usesFrom, useAt, Describes, Ready, NumbersBelow}
 
@@ -36,7 +37,7 @@ element-is zero (suc zero) h g = refl
 element-is zero (suc (suc x)) h g = absurd (omega arith)
 element-is (suc a) x h g = absurd (omega arith)
 
-pub ready : Ready stored (replicate 2187 false)
+pub ready : Ready stored (replicate pairMarks false)
 unfolding rows earlier sign
 ready = record {
   few = omega arith;
@@ -46,7 +47,7 @@ ready = record {
   both = refl;
   inBody = one;
   table = omega (arith, length-replicate {A = ℕ} 2 0);
-  room = omega (arith, length-replicate {A = Bool} 2187 false);
+  room = omega (arith, length-replicate {A = Bool} pairMarks false);
 }
   where
     one : (a : ℕ) → a < 1 → getD (0 ∷ []) a 0 < 1

@@ -11,9 +11,10 @@ use Rattle.lists.specs.Order.{Ordered}
 use Rattle.lists.specs.Parts.{rows}
 use Rattle.model.specs.Ticket.{Access, Statement}
 use Rattle.model.specs.Machine.{same, element, accesses}
-use Rattle.model.specs.Directions.{Line, occurs, allLines}
+use Rattle.model.specs.Directions.{Line, occurs, allLines, kindCount}
 use Rattle.model.specs.Inside.{Earlier}
-use Rattle.vectors.specs.Numbers.{place, placeOf}
+use Rattle.model.specs.Grammar.{mostPoints}
+use Rattle.vectors.specs.Numbers.{place, placeOf, marksFor}
 use Rattle.vectors.specs.Candidates.{row}
 use Rattle.chains.specs.Search.{some, found, Clear}
 
@@ -82,14 +83,14 @@ pub record Describes (ss : List Statement) (F : Flat) : Type 0 where
 -- ---- what the search asks and gives
 
 pub record Ready (F : Flat) (marks : List Bool) : Type 0 where
-  pub few : F .count ≤ 4096
+  pub few : F .count ≤ mostPoints
   pub shallow : F .depth ≤ 6
   pub stored : F .count * F .depth ≤ length (F .points)
   pub rising : Ordered Earlier (pointsOf F)
   pub both : length (F .writes) ≡ length (F .statements)
   pub inBody : (a : ℕ) → a < length (F .statements) → statementOf F a < F .body
   pub table : length (F .statements) * F .count ≤ length (F .numbers)
-  pub room : F .body * F .body * 2187 ≤ length marks
+  pub room : marksFor (F .body) ≤ length marks
 
 -- every number is below m, of which there are no more than elements
 pub record NumbersBelow (m : ℕ) (F : Flat) : Type 0 where
@@ -104,19 +105,19 @@ pub record Searched (F : Flat) (m m′ : List Bool) : Type 0 where
 
 -- ---- the same as the search goes: one source access and one sink access set marks by their place
 
--- of whether the source writes and whether the sink does: 3 is no conflict
+-- of whether the source writes and whether the sink does: kindCount is no conflict
 abbrev pub kindOf : Bool → Bool → ℕ
 kindOf true false = 0
 kindOf false true = 1
 kindOf true true = 2
-kindOf false false = 3
+kindOf false false = kindCount
 
 -- the element numbers of access a at n points
 unfoldable pub numbersOf : ℕ → List ℕ → ℕ → List ℕ
 numbersOf n numbers a = take n (drop (a * n) numbers)
 
 unfoldable pub setBy : Flat → ℕ → ℕ → ℕ → Bool
-setBy F a b j = ltb (kindOf (writesAt F a) (writesAt F b)) 3
+setBy F a b j = ltb (kindOf (writesAt F a) (writesAt F b)) kindCount
     && found (F .depth) (F .points) (F .count) (numbersOf (F .count) (F .numbers) a) (numbersOf (F .count) (F .numbers) b) (ltb (statementOf F a) (statementOf F b))
     (placeOf (F .body) (statementOf F a) (statementOf F b) (kindOf (writesAt F a) (writesAt F b)) 0) j
 
@@ -127,7 +128,7 @@ setFrom F a j = some (length (F .statements)) (λ b. setBy F a b j)
 -- ---- accesses that are searched once
 
 pub record Listed (n : ℕ) (numbers statements : List ℕ) (writes : List Bool) : Type 0 where
-  pub few : n ≤ 4096
+  pub few : n ≤ mostPoints
   pub both : length writes ≡ length statements
   pub table : length statements * n ≤ length numbers
 

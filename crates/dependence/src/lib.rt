@@ -3,9 +3,13 @@ ghost use mathlib.Core.Path.{_≡_};
 ghost use mathlib.Core.Bool.{true, false};
 ghost use Prim.Native.Nat.{_+_, _*_, _-_, _^_, _≤_, _<_};
 ghost use lib.ListN.{length};
-ghost use Rattle.vectors.specs.Numbers.{placeOf};
+ghost use Rattle.model.specs.Directions.{kindCount, vectorCount};
+ghost use Rattle.vectors.specs.Numbers.{placeOf, marksFor};
 ghost use Rattle.chains.specs.Search.{Adds, Clear, Linked};
 ghost use Rattle.dependence.specs.Flat.{flat, Ready, Searched, kindOf, numbersOf, setBy, setFrom, NumbersBelow, Lent, Listed, Alike, FirstLike};
+use model::KINDS;
+use model::POINTS;
+use model::VECTORS;
 
 // ---- accesses that are searched once
 
@@ -70,7 +74,7 @@ fn first_like(
 
 // ---- all accesses
 
-// The kind of a source access and a sink access: 0 is flow, 1 is anti, 2 is output, and 3 is two reads.
+// The kind of a source access and a sink access: 0 is flow, 1 is anti, 2 is output; KINDS says that there is none, of two reads.
 pub fn kind(source: bool, sink: bool) -> usize
     ensures { λ r. ⌜ r ≡ kindOf source sink ⌝ }
 {
@@ -83,15 +87,15 @@ pub fn kind(source: bool, sink: bool) -> usize
     if sink {
         return 1;
     }
-    3
+    KINDS
 }
 
 // Where the marks of a source statement, a sink statement and a kind begin.
 pub fn block(body: usize, s: usize, t: usize, k: usize) -> usize
-    requires { ⌜ (body * body * 2187 < 2 ^ 64) × (s < body) × (t < body) × (k < 3) ⌝ }
-    ensures { λ r. ⌜ (r ≡ placeOf body s t k 0) × (r + 729 ≤ body * body * 2187) ⌝ }
+    requires { ⌜ (marksFor body < 2 ^ 64) × (s < body) × (t < body) × (k < kindCount) ⌝ }
+    ensures { λ r. ⌜ (r ≡ placeOf body s t k 0) × (r + vectorCount ≤ marksFor body) ⌝ }
 {
-    ((s * body + t) * 3 + k) * 729
+    ((s * body + t) * KINDS + k) * VECTORS
 }
 
 // Marks the conflicts of access a, as the source, with access b. The links of a are lent.
@@ -114,7 +118,7 @@ fn between(
     ensures { λ _. ⌜ Adds (now (marks .entry)) (now (marks .exit)) (setBy (flat (now (points .entry)) depth count (now (numbers .entry)) (now (statements .entry)) (now (writes .entry)) body) a b) × Clear (now (head .exit)) ⌝ }
 {
     let k = kind(writes[a], writes[b]);
-    if k < 3 {
+    if k < KINDS {
         let s = statements[a];
         let t = statements[b];
         let i = a * count;
@@ -266,9 +270,9 @@ fn dependences_in_large(
         );
         return;
     }
-    let mut next = [0u16; 4096];
+    let mut next = [0u16; POINTS];
     let mut head = [0u16; 16384];
-    let mut start = [0u16; 4096];
+    let mut start = [0u16; POINTS];
     from_all(
         points,
         depth,

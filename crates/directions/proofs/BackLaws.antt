@@ -11,7 +11,7 @@ use borrow.Author.Tests.{lt-ltb, ltb-true}
 use Rattle.integers.specs.Sign.{Sign}
 use Rattle.lists.proofs.MembershipLaws.{all-nil, all-cons}
 use Rattle.lists.proofs.TestLaws.{T-true, true-T, false-not-T, some-any, any-none}
-use Rattle.model.specs.Directions.{backwards}
+use Rattle.model.specs.Directions.{backwards, vectorCount}
 use Rattle.model.specs.Steps.{somePointsBack}
 use Rattle.vectors.specs.Numbers as Vectors
 use Rattle.vectors.specs.Numbers.{numberAfter}
@@ -53,11 +53,11 @@ module _ (n : ℕ) where
   unfolding digitsOf
   level-1 t e = all-cons One (omega arith) (level-2 (t * 3 + 1) (omega arith))
 
-  level-0 : n < 729 → (t : ℕ) → n ≡ t * 729 + 364 → Level 0 (digitsOf n)
+  level-0 : n < vectorCount → (t : ℕ) → n ≡ t * vectorCount + 364 → Level 0 (digitsOf n)
   unfolding digitsOf
   level-0 h t e = all-cons One (omega arith) (level-1 (t * 3 + 1) (omega arith))
 
-  depth-level : n < 729 → (d : ℕ) → d ≤ 6 → OfDepth d n → Level d (digitsOf n)
+  depth-level : n < vectorCount → (d : ℕ) → d ≤ 6 → OfDepth d n → Level d (digitsOf n)
   unfolding stride middle numberAfter Vectors.digit
   depth-level h zero k (t, e) = level-0 h t e
   depth-level h (suc zero) k (t, e) = level-1 t e
@@ -89,7 +89,7 @@ module _ (marks : List Bool) (d : ℕ) (few : d ≤ 6) where
     ]
 
   -- a number of the depth is that of a vector of the set, if it is marked, and beyond 364 it points backwards
-  pub one-back : (n : ℕ) → OfDepth d n → 364 < n → n < 729 → getD marks n false ≡ true → true ≡ somePointsBack (vectorsIn marks d)
+  pub one-back : (n : ℕ) → OfDepth d n → 364 < n → n < vectorCount → getD marks n false ≡ true → true ≡ somePointsBack (vectorsIn marks d)
   unfolding somePointsBack
   one-back n o h i e =
       let v = vectorOf d n in
@@ -99,7 +99,7 @@ module _ (marks : List Bool) (d : ℕ) (few : d ≤ 6) where
       let m = mem-vectorsIn marks d v l (subst (λ m. T (getD marks m false)) (sym q) (true-T (getD marks n false) e)) in
       sym (T-true (somePointsBack (vectorsIn marks d)) (some-any backwards (vectorsIn marks d) m (true-T (backwards v) b)))
 
-  pub no-back : (n : ℕ) → 729 ≤ n → NoneBack marks d n → false ≡ somePointsBack (vectorsIn marks d)
+  pub no-back : (n : ℕ) → vectorCount ≤ n → NoneBack marks d n → false ≡ somePointsBack (vectorsIn marks d)
   unfolding somePointsBack
   no-back n h p = sym (any-none backwards (vectorsIn marks d) (λ v m t.
       let a = vectorsIn-mem marks d m in

@@ -13,6 +13,7 @@ use Rattle.lists.proofs.TestLaws.{false-not-T}
 use Rattle.model.specs.Ticket.{Step}
 use Rattle.model.specs.Grammar.{depthAfter}
 use Rattle.model.specs.Steps.{vectorsAfter}
+use Rattle.model.specs.Directions.{vectorCount}
 use Rattle.preimages.specs.Numbers.{number, marked}
 use Rattle.preimages.proofs.NumberLaws.{number-below}
 use Rattle.vectors.specs.Candidates.{stride}
@@ -40,7 +41,7 @@ module _ (marks : List Bool) (d : ℕ) (few : d ≤ 6) where
       ]
     ]
 
-  pub none-at-all : (n : ℕ) → 729 ≤ n → NoneBelow marks d n → vectorsIn marks d ≡ []
+  pub none-at-all : (n : ℕ) → vectorCount ≤ n → NoneBelow marks d n → vectorsIn marks d ≡ []
   none-at-all n h p = no-members (vectorsIn marks d) (λ v m. let a = vectorsIn-mem marks d m in p v (a .0) (omega (arith, number-below v)) (a .1))
 
 -- ---- a step makes none of none

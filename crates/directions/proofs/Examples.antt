@@ -6,6 +6,7 @@ use Prim.Native.Nat.{_+_, _*_}
 use native.Mathlib.Omega.{arith}
 use lib.ListN.{replicate, length-replicate}
 use Rattle.integers.specs.Sign.{less, equal, greater}
+use Rattle.model.specs.Directions.{vectorCount}
 use Rattle.preimages.specs.Numbers.{digitsIn, base3, number, Digits}
 use Rattle.directions.specs.Sets.{ExchangeIn, ReversalIn, SkewIn, SectionIn, MarksIn}
 use Rattle.preimages.specs.Weights.{ChangeIn}
@@ -39,7 +40,7 @@ two-number = refl
 
 -- the set of no vectors of two loops
 pair : DirectionSet
-pair = record { marks = replicate 729 false; depth = 2 }
+pair = record { marks = replicate vectorCount false; depth = 2 }
 
 exchange-met : ExchangeIn pair 0
 unfolding pair
@@ -57,8 +58,8 @@ section-met : SectionIn pair 1
 unfolding pair
 section-met = record { few = omega arith; inside = omega arith }
 
-marks-met : MarksIn (replicate 729 false) 2
-marks-met = record { room = length-replicate 729 false; few = omega arith }
+marks-met : MarksIn (replicate vectorCount false) 2
+marks-met = record { room = length-replicate vectorCount false; few = omega arith }
 
 change-met : ChangeIn 728 81 4
 change-met = record { below = omega arith; inside = 4; outermost = omega arith; weighs = refl }

@@ -16,7 +16,7 @@ use Rattle.lists.proofs.MembershipLaws.{no-members}
 use Rattle.lists.proofs.TestLaws.{select-mem, mem-select, false-not-T, or-cases, or-left, or-right}
 use Rattle.lists.proofs.FlatMapLaws.{flatMap-mem, mem-flatMap}
 use Rattle.model.specs.Ticket.{Step}
-use Rattle.model.specs.Directions.{signVectors}
+use Rattle.model.specs.Directions.{signVectors, vectorCount}
 use Rattle.model.specs.Steps.{vectors, vectorsAfter}
 use Rattle.preimages.specs.Numbers.{number, marked}
 use Rattle.vectors.specs.Candidates.{stride}
@@ -40,20 +40,20 @@ mem-vectorsIn marks d v l h = mem-select (marked marks) (signVectors d) (mem-sig
 pub none-marked : (marks : List Bool) (d : ℕ) → ((v : List Sign) → length v ≡ d → marked marks v ≡ false) → vectorsIn marks d ≡ []
 none-marked marks d e = no-members (vectorsIn marks d) (λ v m. let a = vectorsIn-mem marks d m in false-not-T (marked marks v) (e v (a .0)) (a .1))
 
-pub no-vectors : (d : ℕ) → vectorsIn (replicate 729 false) d ≡ []
-no-vectors d = none-marked (replicate 729 false) d (λ v l. getD-replicate 729 (number v) false false (number-below v))
+pub no-vectors : (d : ℕ) → vectorsIn (replicate vectorCount false) d ≡ []
+no-vectors d = none-marked (replicate vectorCount false) d (λ v l. getD-replicate vectorCount (number v) false false (number-below v))
 
 -- ---- a set filled at one number of the depth after another
 
 -- below number n each vector of depth d is marked as g says, from n on as it was in old
 pub record Filling (g : List Sign → Bool) (d : ℕ) (old marks : List Bool) (n : ℕ) : Type 0 where
-  pub whole : length marks ≡ 729
+  pub whole : length marks ≡ vectorCount
   pub place : OfDepth d n
   pub filled : (v : List Sign) → length v ≡ d → number v < n → marked marks v ≡ g v
   pub left : (v : List Sign) → length v ≡ d → n ≤ number v → marked marks v ≡ marked old v
 
 module _ (g : List Sign → Bool) (d : ℕ) (old : List Bool) (few : d ≤ 6) (s : ℕ) (e : s ≡ stride (6 - d)) where
-  pub fill-first : length old ≡ 729 → Filling g d old old ((s - 1) / 2)
+  pub fill-first : length old ≡ vectorCount → Filling g d old old ((s - 1) / 2)
   fill-first w = record {
     whole = w;
     place = depth-first d s e;
@@ -62,7 +62,7 @@ module _ (g : List Sign → Bool) (d : ℕ) (old : List Bool) (few : d ≤ 6) (s
   }
 
   module _ (marks : List Bool) (n : ℕ) (p : Filling g d old marks n) where
-    pub fill-next : (b : Bool) → n < 729 → ((v : List Sign) → length v ≡ d → number v ≡ n → b ≡ g v) → Filling g d old (set marks n b) (n + s)
+    pub fill-next : (b : Bool) → n < vectorCount → ((v : List Sign) → length v ≡ d → number v ≡ n → b ≡ g v) → Filling g d old (set marks n b) (n + s)
     fill-next b h f = let w = p .whole in record {
       whole = length-set marks n b ∙ p .whole;
       place = depth-next d s e n (p .place);
@@ -82,7 +82,7 @@ module _ (g : List Sign → Bool) (d : ℕ) (old : List Bool) (few : d ≤ 6) (s
         beyond : (v : List Sign) → n + s ≤ number v → number v ≡ n → ⊥
         beyond v k q = let z = depth-positive d s e in omega arith
 
-    pub fill-all : 729 ≤ n → (v : List Sign) → length v ≡ d → marked marks v ≡ g v
+    pub fill-all : vectorCount ≤ n → (v : List Sign) → length v ≡ d → marked marks v ≡ g v
     fill-all h v l = p .filled v l (omega (arith, number-below v))
 
 -- ---- the set after a step

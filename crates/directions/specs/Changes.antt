@@ -6,6 +6,7 @@ use Prim.Native.Nat.{ℕ, _+_, _≤_, _<_}
 use lib.ListN.{length}
 use Rattle.integers.specs.Sign.{Sign, turned}
 use Rattle.lists.specs.Place.{under, onHead, swapped}
+use Rattle.model.specs.Directions.{vectorCount}
 use Rattle.preimages.specs.Numbers.{number, marked}
 use Rattle.preimages.specs.Sources.{joined, skewSource}
 use Rattle.directions.specs.declared.DirectionSet.{DirectionSet}
@@ -34,7 +35,7 @@ came old (Skew a b c) v = skewSource old a b c v
 came old (Section a) v = marked old (under a joined v)
 
 pub record ComesIn (change : Change) (n : ℕ) : Type 0 where
-  pub below : n < 729
+  pub below : n < vectorCount
   pub few : loopsNamed change ≤ 6
   pub outer : Outer change
 

@@ -9,7 +9,7 @@ use Rattle.lists.specs.Membership.{SameMembers}
 use Rattle.lists.specs.Tests.{select}
 use Rattle.model.specs.Ticket.{Step}
 use Rattle.model.specs.Grammar.{depthAfter}
-use Rattle.model.specs.Directions.{signVectors}
+use Rattle.model.specs.Directions.{signVectors, vectorCount}
 use Rattle.model.specs.Steps.{vectorsAfter}
 use Rattle.preimages.specs.Numbers.{number, marked}
 use Rattle.directions.specs.declared.DirectionSet.{DirectionSet}
@@ -57,14 +57,14 @@ pub record Empty (d : ℕ) (r : DirectionSet) : Type 0 where
 -- ---- marks that are lent
 
 pub record MarksIn (marks : List Bool) (d : ℕ) : Type 0 where
-  pub room : length marks ≡ 729
+  pub room : length marks ≡ vectorCount
   pub few : d ≤ 6
 
 pub record Cleared (d : ℕ) (new : List Bool) : Type 0 where
-  pub room : length new ≡ 729
+  pub room : length new ≡ vectorCount
   pub vectors : vectorsIn new d ≡ []
 
 -- the vectors of other marks added
 pub record Merged (row : List Bool) (d : ℕ) (old new : List Bool) : Type 0 where
-  pub room : length new ≡ 729
+  pub room : length new ≡ vectorCount
   pub vectors : SameMembers (vectorsIn new d) (vectorsIn old d ++ vectorsIn row d)

@@ -6,12 +6,14 @@ ghost use Prim.Native.Nat.{ℕ, suc, _-_, _≤_};
 ghost use lib.ListN.{length, replicate};
 ghost use Rattle.model.specs.Ticket.{exchange, reversal, skew, section};
 ghost use Rattle.model.specs.Steps.{somePointsBack};
+ghost use Rattle.model.specs.Directions.{vectorCount};
 ghost use Rattle.directions.specs.Sets.{vectorsOf, ExchangeIn, ReversalIn, SkewIn, SectionIn, After, Empty, MarksIn, Cleared, Merged};
 ghost use Rattle.directions.specs.Changes.{ComesIn, Comes, PulledIn, Pulled};
+use model::VECTORS;
 
 // 729 marks, one for each vector of six signs by its number, and the loops that there are. A loop that is missing has the sign =.
 pub struct DirectionSet {
-    pub marks: [bool; 729],
+    pub marks: [bool; VECTORS],
     pub depth: usize,
 }
 
@@ -25,10 +27,10 @@ enum Change {
 
 // ---- how a set is made
 
-fn no_marks() -> [bool; 729]
-    ensures { λ r. ⌜ r ≡ replicate 729 false ⌝ }
+fn no_marks() -> [bool; VECTORS]
+    ensures { λ r. ⌜ r ≡ replicate vectorCount false ⌝ }
 {
-    [false; 729]
+    [false; VECTORS]
 }
 
 pub fn empty(depth: usize) -> DirectionSet
@@ -58,7 +60,7 @@ pub fn clear(marks: &mut [bool], depth: usize)
 {
     let step = vectors::stride(depth);
     let mut n = (step - 1) / 2;
-    while n < 729 {
+    while n < VECTORS {
         marks[n] = false;
         n += step;
     }
@@ -66,12 +68,12 @@ pub fn clear(marks: &mut [bool], depth: usize)
 
 // Marks the vectors of 729 other marks too.
 pub fn merge(marks: &mut [bool], row: &[bool], depth: usize)
-    requires { ⌜ MarksIn (now marks) depth × (length (now row) ≡ 729) ⌝ }
+    requires { ⌜ MarksIn (now marks) depth × (length (now row) ≡ vectorCount) ⌝ }
     ensures { λ _. ⌜ Merged (now (row .entry)) depth (now (marks .entry)) (now (marks .exit)) ⌝ }
 {
     let step = vectors::stride(depth);
     let mut n = (step - 1) / 2;
-    while n < 729 {
+    while n < VECTORS {
         marks[n] = either(marks[n], row[n]);
         n += step;
     }
@@ -80,7 +82,7 @@ pub fn merge(marks: &mut [bool], row: &[bool], depth: usize)
 // ---- the set after a step
 
 // Whether the vector with number n comes from a marked one.
-fn comes(old: &[bool; 729], n: usize, change: Change) -> bool
+fn comes(old: &[bool; VECTORS], n: usize, change: Change) -> bool
     requires { ⌜ ComesIn change n ⌝ }
     ensures { λ r. ⌜ Comes (now (old .entry)) change n r ⌝ }
 {
@@ -101,7 +103,7 @@ fn pulled(s: DirectionSet, change: Change, depth: usize) -> DirectionSet
     let mut marks = no_marks();
     let step = vectors::stride(depth);
     let mut n = (step - 1) / 2;
-    while n < 729 {
+    while n < VECTORS {
         marks[n] = comes(&old, n, change);
         n += step;
     }
@@ -162,7 +164,7 @@ pub fn is_empty(s: DirectionSet) -> bool
     let depth = s.depth;
     let step = vectors::stride(depth);
     let mut n = (step - 1) / 2;
-    while n < 729 {
+    while n < VECTORS {
         if marks[n] {
             return false;
         }
@@ -180,7 +182,7 @@ pub fn points_back(s: DirectionSet) -> bool
     let depth = s.depth;
     let step = vectors::stride(depth);
     let mut n = 364 + step;
-    while n < 729 {
+    while n < VECTORS {
         if marks[n] {
             return true;
         }

@@ -10,6 +10,8 @@ use lib.ListN.{length, getD, replicate, length-replicate}
 use Rattle.model.specs.Answer.{accepted}
 use Rattle.model.specs.Bounds.{admitted}
 use Rattle.model.proofs.Verdict.VerdictLaws.{admitted-accepted}
+use Rattle.model.specs.Directions.{vectorCount}
+use Rattle.vectors.specs.Numbers.{marksFor}
 use Rattle.reading.specs.declared.Refusal.{Refusal}
 use Rattle.reading.specs.declared.Status.{Status}
 use Rattle.reading.specs.declared.Status.the-variants.{Fine, Refused}
@@ -57,14 +59,14 @@ module _ (P : Sheet) where
   -- ---- directions
 
   module _ (s : Status) (m : List Bool) (g : Finds P s m) where
-    pub directs-refused : (r : Refusal) → s ≡ Refused r → (set : List Bool) → length set ≡ 729 → Directs P (Refused r) set
+    pub directs-refused : (r : Refusal) → s ≡ Refused r → (set : List Bool) → length set ≡ vectorCount → Directs P (Refused r) set
     directs-refused r e set l = record { room = l; admits = subst (Admits P) e (g .admits); directions = λ f. not-fine (Refused r) refl f }
 
     pub directs-fine : s ≡ Fine → (set : List Bool) → Shows m (P .statements) (P .depth) set → Directs P Fine set
     directs-fine e set w = record { room = w .room; admits = subst (Admits P) e (g .admits); directions = λ _. directions-are P m set (g .lines e) w }
 
   -- marks for k statements
-  pub find-in : (n : ℕ) → Waits P n → (k : ℕ) → P .statements ≤ k → (m : ℕ) → k * k * 2187 ≡ m → FindIn P n (replicate m false)
+  pub find-in : (n : ℕ) → Waits P n → (k : ℕ) → P .statements ≤ k → (m : ℕ) → marksFor k ≡ m → FindIn P n (replicate m false)
   find-in n h k l m e = record {
     waits = h;
     clear = clear-marks m;

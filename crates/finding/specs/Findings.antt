@@ -4,6 +4,7 @@ use mathlib.Core.Bool.{Bool, false}
 use mathlib.Core.List.{List}
 use Prim.Native.Nat.{ℕ}
 use lib.ListN.{length, getD}
+use Rattle.model.specs.Directions.{vectorCount}
 use Rattle.reading.specs.declared.Status.{Status}
 use Rattle.reading.specs.declared.Status.the-variants.{Fine}
 use Rattle.sheet.specs.Sheets.{Sheet}
@@ -24,6 +25,6 @@ pub record Finds (P : Sheet) (s : Status) (m : List Bool) : Type 0 where
 
 -- refusal 9, or the set has the vectors of the nest's directions
 pub record Directs (P : Sheet) (s : Status) (set : List Bool) : Type 0 where
-  pub room : length set ≡ 729
+  pub room : length set ≡ vectorCount
   pub admits : Admits P s
   pub directions : s ≡ Fine → DirectionsAre P set

@@ -1,12 +1,16 @@
 // Refusal 9 of a nest that passes 7 and 8, or the lines of its listing and the directions of the nest. Few points are searched; of many the search is
 // made where the lines are not known without them.
 ghost use mathlib.Core.Path.{_≡_};
-ghost use Prim.Native.Nat.{_≤_};
+ghost use Prim.Native.Nat.{_*_, _≤_};
 ghost use lib.ListN.{length};
+ghost use Rattle.model.specs.Grammar.{ticketLoops, mostPoints};
+ghost use Rattle.model.specs.Directions.{vectorCount};
 ghost use Rattle.sheet.specs.Sheets.{sheetOf};
 ghost use Rattle.admission.specs.Admission.{EnumerateIn, Spacious, Waits};
 ghost use Rattle.squeeze.specs.Squeezed.{Room};
 ghost use Rattle.finding.specs.Findings.{FindIn, Finds, Directs};
+use model::MARKS;
+use model::PAIR_MARKS;
 use reading::Status;
 use sheet::Outline;
 
@@ -53,7 +57,7 @@ pub fn find_few(
 
 // Of many points, whose lines are not known without them. What the marks held is lost.
 pub fn find_many(outline: Outline, limits: &[i16], words: &[i16], marks: &mut [bool]) -> Status
-    requires { ⌜ Spacious (sheetOf outline (now limits) (now words)) × EnumerateIn (sheetOf outline (now limits) (now words)) 16384 × Room (sheetOf outline (now limits) (now words)) (now marks) ⌝ }
+    requires { ⌜ Spacious (sheetOf outline (now limits) (now words)) × EnumerateIn (sheetOf outline (now limits) (now words)) (ticketLoops * mostPoints) × Room (sheetOf outline (now limits) (now words)) (now marks) ⌝ }
     ensures { λ r. ⌜ Finds (sheetOf outline (now (limits .entry)) (now (words .entry))) r (now (marks .exit)) ⌝ }
 {
     let status = admission::admit_many(outline, limits, words);
@@ -77,7 +81,7 @@ fn merge_found(
     marks: &[bool],
     set: &mut [bool],
 ) -> Status
-    requires { ⌜ Finds (sheetOf outline (now limits) (now words)) found (now marks) × (length (now set) ≡ 729) ⌝ }
+    requires { ⌜ Finds (sheetOf outline (now limits) (now words)) found (now marks) × (length (now set) ≡ vectorCount) ⌝ }
     ensures { λ r. ⌜ Directs (sheetOf outline (now (limits .entry)) (now (words .entry))) r (now (set .exit)) ⌝ }
 {
     match found {
@@ -97,7 +101,7 @@ fn find_with(
     marks: &mut [bool],
     set: &mut [bool],
 ) -> Status
-    requires { ⌜ FindIn (sheetOf outline (now limits) (now words)) count (now marks) × (length (now set) ≡ 729) ⌝ }
+    requires { ⌜ FindIn (sheetOf outline (now limits) (now words)) count (now marks) × (length (now set) ≡ vectorCount) ⌝ }
     ensures { λ r. ⌜ Directs (sheetOf outline (now (limits .entry)) (now (words .entry))) r (now (set .exit)) ⌝ }
 {
     if count <= 256 {
@@ -119,17 +123,17 @@ pub fn find_directions(
     count: usize,
     set: &mut [bool],
 ) -> Status
-    requires { ⌜ Waits (sheetOf outline (now limits) (now words)) count × (length (now set) ≡ 729) ⌝ }
+    requires { ⌜ Waits (sheetOf outline (now limits) (now words)) count × (length (now set) ≡ vectorCount) ⌝ }
     ensures { λ r. ⌜ Directs (sheetOf outline (now (limits .entry)) (now (words .entry))) r (now (set .exit)) ⌝ }
 {
     if outline.statements <= 1 {
-        let mut few = [false; 2187];
+        let mut few = [false; PAIR_MARKS];
         return find_with(outline, limits, words, count, &mut few, set);
     }
     if outline.statements <= 2 {
-        let mut more = [false; 8748];
+        let mut more = [false; 2 * 2 * PAIR_MARKS];
         return find_with(outline, limits, words, count, &mut more, set);
     }
-    let mut marks = [false; 34992];
+    let mut marks = [false; MARKS];
     find_with(outline, limits, words, count, &mut marks, set)
 }

@@ -18,7 +18,7 @@ use Rattle.lists.specs.Parts.{rows}
 use Rattle.lists.proofs.MembershipLaws.{getD-mem}
 use Rattle.lists.proofs.PartLaws.{rows-getD}
 use Rattle.lists.proofs.TestLaws.{T-same, equal-test}
-use Rattle.model.specs.Grammar.{total}
+use Rattle.model.specs.Grammar.{total, mostAccesses, mostPoints, mostNumbers}
 use Rattle.model.specs.Ticket.{Access, Statement}
 use Rattle.model.specs.Points.{iterations}
 use Rattle.model.specs.Bounds.{accessesOf, inArrays}
@@ -106,12 +106,12 @@ lines-in P marks h points n g = record { stray = record { sheet = h .sheet; poin
 
 -- ---- what the search is lent
 
--- numbers of 20 accesses at so many points are the most
-pub numbers-at : (P : Sheet) (n most : ℕ) → SheetIn P → n ≤ most → P .accesses * n ≤ 20 * most
-numbers-at P n most h g = mul-le-mul {n₁ = P .accesses} {m₁ = n} {n₂ = 20} {m₂ = most} (h .few-accesses) g
+-- numbers of all accesses at so many points are the most
+pub numbers-at : (P : Sheet) (n most : ℕ) → SheetIn P → n ≤ most → P .accesses * n ≤ mostAccesses * most
+numbers-at P n most h g = mul-le-mul {n₁ = P .accesses} {m₁ = n} {n₂ = mostAccesses} {m₂ = most} (h .few-accesses) g
 
-pub few-numbers : (P : Sheet) (points : List ℤ) (n : ℕ) (marks : List Bool) → LinesIn P points n marks → P .accesses * n ≤ 81920
-few-numbers P points n marks h = numbers-at P n 4096 (h .stray .sheet) (h .stray .points-are .stored .bound)
+pub few-numbers : (P : Sheet) (points : List ℤ) (n : ℕ) (marks : List Bool) → LinesIn P points n marks → P .accesses * n ≤ mostNumbers
+few-numbers P points n marks h = numbers-at P n mostPoints (h .stray .sheet) (h .stray .points-are .stored .bound)
 
 module _ (P : Sheet) (points : List ℤ) (n : ℕ) (marks : List Bool) (h : LinesIn P points n marks) (room : ℕ) (fits : P .accesses * n ≤ room) where
   abbrev sheet-in : SheetIn P

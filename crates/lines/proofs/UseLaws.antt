@@ -15,6 +15,7 @@ use Rattle.lists.specs.Membership.{All}
 use Rattle.lists.specs.Parts.{put}
 use Rattle.lists.proofs.PartLaws.{put-nil, put-put, set-put, take-put-end, length-put}
 use Rattle.model.specs.Store.{sum}
+use Rattle.model.specs.Grammar.{mostAccesses}
 use Rattle.elements.specs.Layout.{accessAt, accessesFrom}
 use Rattle.elements.proofs.LayoutLaws.{sum-drop}
 use Rattle.dependence.specs.Flat.{Use, use·of, usesFrom}
@@ -199,8 +200,8 @@ module _ (P : Sheet) where
       map-append writesOf (usesOf k i m) (usesFrom (suc i) (statementsFrom P (k + m) (suc i) ms))
       ∙ ap₂ _++_ (one-flag (wordsIn P) (ownersIn P) (extentsIn P) (P .depth) i (suc k) m (h m (List·Memᴰ·head refl))) (flags-of (k + m) (suc i) ms (λ x q. h x (List·Memᴰ·tail q)))
 
-  module _ (h : SheetIn P) (o : List ℕ) (w : List Bool) (lo : length o ≡ 20) (lw : length w ≡ 20) (e : List ℕ) (v : List Bool) (first s : ℕ) (g : Entered (sizesIn P) o e w v first s) where
-    within : sum (sizesIn P) ≤ 20
+  module _ (h : SheetIn P) (o : List ℕ) (w : List Bool) (lo : length o ≡ mostAccesses) (lw : length w ≡ mostAccesses) (e : List ℕ) (v : List Bool) (first s : ℕ) (g : Entered (sizesIn P) o e w v first s) where
+    within : sum (sizesIn P) ≤ mostAccesses
     within = let a = h .all-accesses in let f = h .few-accesses in omega arith
 
     module _ (l : s < P .statements) where
@@ -213,7 +214,7 @@ module _ (P : Sheet) where
       there : s < length (sizesIn P)
       there = let c = sizes-count P h in omega arith
 
-      pub use-fits : first + size ≤ 20
+      pub use-fits : first + size ≤ mostAccesses
       use-fits = let f = within in let n = next-fits (sizesIn P) o w (omega arith) (omega arith) e v first s size there size-is g in omega arith
 
       pub use-in : EnterIn e v first size

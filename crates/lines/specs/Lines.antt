@@ -10,21 +10,22 @@ use Rattle.model.specs.Answer.{accepted}
 use Rattle.model.specs.Points.{iterations}
 use Rattle.model.specs.Bounds.{inArrays}
 use Rattle.model.specs.Shape.{WellFormed}
-use Rattle.model.specs.Directions.{Line}
+use Rattle.model.specs.Directions.{Line, vectorCount}
 use Rattle.model.specs.Judge.{directionsOf}
 use Rattle.model.specs.Listing.{linesOf}
+use Rattle.vectors.specs.Numbers.{marksFor}
 use Rattle.listing_text.specs.Text.{shown, Marks}
 use Rattle.directions.specs.Sets.{vectorsIn}
 use Rattle.sheet.specs.Sheets.{Sheet, nestOf, SheetIn}
 use Rattle.sheet.specs.Stages.{StrayIn}
 
--- a nest whose subscripts stay within their extents, and marks that are all clear: 3 × 729 for each pair of statements
+-- a nest whose subscripts stay within their extents, and marks that are all clear: pairMarks for each pair of statements
 pub record Markable (P : Sheet) (marks : List Bool) : Type 0 where
   pub sheet : SheetIn P
   pub formed : WellFormed (nestOf P)
   pub inside : inArrays (nestOf P .arrays) (iterations (nestOf P .loops)) 1 (nestOf P .statements) ≡ accepted tt
   pub clear : (j : ℕ) → getD marks j false ≡ false
-  pub room : P .statements * P .statements * 2187 ≤ length marks
+  pub room : marksFor (P .statements) ≤ length marks
 
 -- the same, and its n points
 pub record LinesIn (P : Sheet) (points : List ℤ) (n : ℕ) (marks : List Bool) : Type 0 where
@@ -32,7 +33,7 @@ pub record LinesIn (P : Sheet) (points : List ℤ) (n : ℕ) (marks : List Bool)
   pub formed : WellFormed (nestOf P)
   pub inside : inArrays (nestOf P .arrays) (iterations (nestOf P .loops)) 1 (nestOf P .statements) ≡ accepted tt
   pub clear : (j : ℕ) → getD marks j false ≡ false
-  pub room : P .statements * P .statements * 2187 ≤ length marks
+  pub room : marksFor (P .statements) ≤ length marks
 
 -- the lines of the nest's listing are those that are marked
 pub record LinesAre (P : Sheet) (marks : List Bool) : Type 0 where
@@ -41,10 +42,10 @@ pub record LinesAre (P : Sheet) (marks : List Bool) : Type 0 where
 
 -- the set has the vectors of the lines that are marked, kinds and statements merged
 pub record Shows (marks : List Bool) (n d : ℕ) (set : List Bool) : Type 0 where
-  pub room : length set ≡ 729
+  pub room : length set ≡ vectorCount
   pub vectors : SameMembers (vectorsIn set d) (map (λ (l : Line). l .vector) (shown marks n d))
 
 -- the vectors of the nest's directions
 pub record DirectionsAre (P : Sheet) (set : List Bool) : Type 0 where
-  pub room : length set ≡ 729
+  pub room : length set ≡ vectorCount
   pub vectors : SameMembers (vectorsIn set (P .depth)) (directionsOf (nestOf P))

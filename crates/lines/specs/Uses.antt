@@ -4,6 +4,7 @@ use mathlib.Core.Bool.{Bool, true, false}
 use mathlib.Core.List.{List, [], _∷_, _++_, map}
 use Prim.Native.Nat.{ℕ, zero, suc, _+_, _≤_}
 use lib.ListN.{length, take, replicate}
+use Rattle.model.specs.Grammar.{mostAccesses}
 use Rattle.dependence.specs.Flat.{Use, uses}
 use Rattle.sheet.specs.Sheets.{Sheet, nestOf}
 use Rattle.lines.specs.declared.Uses.{Uses}
@@ -31,5 +32,5 @@ pub record EnterIn (o : List ℕ) (w : List Bool) (first size : ℕ) : Type 0 wh
 pub record UsesAre (P : Sheet) (r : Uses) : Type 0 where
   pub statements : take (P .accesses) (r .statements) ≡ map (λ (u : Use). u .statement) (uses (nestOf P .statements))
   pub writes : take (P .accesses) (r .writes) ≡ map (λ (u : Use). u .writes) (uses (nestOf P .statements))
-  pub statements-length : length (r .statements) ≡ 20
-  pub writes-length : length (r .writes) ≡ 20
+  pub statements-length : length (r .statements) ≡ mostAccesses
+  pub writes-length : length (r .writes) ≡ mostAccesses

@@ -4,17 +4,25 @@ ghost use mathlib.Core.Bool.{false};
 ghost use Prim.Native.Nat.{ℕ, _*_, _≤_};
 ghost use lib.ListN.{length, getD, replicate};
 ghost use Rattle.lists.specs.Parts.{put};
+ghost use Rattle.model.specs.Grammar.{ticketLoops, mostPoints};
+ghost use Rattle.model.specs.Directions.{vectorCount};
 ghost use Rattle.listing_text.specs.Text.{Marks};
 ghost use Rattle.sheet.specs.Sheets.{sheetOf, SheetIn};
 ghost use Rattle.sheet.specs.Stages.{ListIn};
 ghost use Rattle.lines.specs.Uses.{firstWritten, EnterIn, UsesAre};
 ghost use Rattle.lines.specs.Lines.{Markable, LinesIn, LinesAre, Shows};
+use model::ACCESSES;
+use model::KINDS;
+use model::NUMBERS;
+use model::POINTS;
+use model::TICKET_LOOPS;
+use model::VECTORS;
 use sheet::Outline;
 
 // Of each access its statement, counted from 0, and whether it is the one that is written.
 pub struct Uses {
-    pub statements: [usize; 20],
-    pub writes: [bool; 20],
+    pub statements: [usize; ACCESSES],
+    pub writes: [bool; ACCESSES],
 }
 
 // Enters statement s, with so many accesses from `first` on.
@@ -36,8 +44,8 @@ pub fn uses_of(outline: Outline, limits: &[i16], words: &[i16]) -> Uses
     ensures { λ r. ⌜ UsesAre (sheetOf outline (now (limits .entry)) (now (words .entry))) r ⌝ }
 {
     let sizes = outline.sizes;
-    let mut statements = [0; 20];
-    let mut writes = [false; 20];
+    let mut statements = [0; ACCESSES];
+    let mut writes = [false; ACCESSES];
     let mut first = 0;
     let mut s = 0;
     while s < outline.statements {
@@ -107,29 +115,34 @@ pub fn mark_few(
         mark_by(outline, limits, words, points, count, &mut more, marks);
         return;
     }
-    let mut numbers = [0u16; 5120];
+    let mut numbers = [0u16; ACCESSES * 256];
     mark_by(outline, limits, words, points, count, &mut numbers, marks);
 }
 
+// The numbers of 4 accesses, and of 10, at all points.
+const FEW_NUMBERS: usize = 4 * POINTS;
+
+const MORE_NUMBERS: usize = 10 * POINTS;
+
 // The same of any number of points, which are listed here.
 pub fn mark_many(outline: Outline, limits: &[i16], words: &[i16], marks: &mut [bool])
-    requires { ⌜ Markable (sheetOf outline (now limits) (now words)) (now marks) × ListIn (sheetOf outline (now limits) (now words)) 16384 ⌝ }
+    requires { ⌜ Markable (sheetOf outline (now limits) (now words)) (now marks) × ListIn (sheetOf outline (now limits) (now words)) (ticketLoops * mostPoints) ⌝ }
     ensures { λ _. ⌜ LinesAre (sheetOf outline (now (limits .entry)) (now (words .entry))) (now (marks .exit)) × (length (now (marks .exit)) ≡ length (now (marks .entry))) ⌝ }
 {
-    let mut points = [0i64; 16384];
+    let mut points = [0i64; TICKET_LOOPS * POINTS];
     let count = sheet::list_points(outline, limits, words, &mut points);
     let needed = outline.accesses * count;
-    if needed <= 16384 {
-        let mut few = [0u16; 16384];
+    if needed <= FEW_NUMBERS {
+        let mut few = [0u16; FEW_NUMBERS];
         mark_by(outline, limits, words, &points, count, &mut few, marks);
         return;
     }
-    if needed <= 40960 {
-        let mut more = [0u16; 40960];
+    if needed <= MORE_NUMBERS {
+        let mut more = [0u16; MORE_NUMBERS];
         mark_by(outline, limits, words, &points, count, &mut more, marks);
         return;
     }
-    let mut numbers = [0u16; 81920];
+    let mut numbers = [0u16; NUMBERS];
     mark_by(outline, limits, words, &points, count, &mut numbers, marks);
 }
 
@@ -144,16 +157,16 @@ pub fn clear(marks: &mut [bool])
     }
 }
 
-// Makes the set of the vectors of the lines that are marked: a row of 729 marks for each source, sink and kind.
+// Makes the set of the vectors of the lines that are marked: a row of VECTORS marks for each source, sink and kind.
 pub fn directions_of(marks: &[bool], n: usize, depth: usize, set: &mut [bool])
-    requires { ⌜ Marks (now marks) n depth × (length (now set) ≡ 729) ⌝ }
+    requires { ⌜ Marks (now marks) n depth × (length (now set) ≡ vectorCount) ⌝ }
     ensures { λ _. ⌜ Shows (now (marks .entry)) n depth (now (set .exit)) ⌝ }
 {
-    let blocks = n * n * 3;
+    let blocks = n * n * KINDS;
     directions::clear(set, depth);
     let mut b = 0;
     while b < blocks {
-        directions::merge(set, &marks[b * 729..b * 729 + 729], depth);
+        directions::merge(set, &marks[b * VECTORS..b * VECTORS + VECTORS], depth);
         b += 1;
     }
 }

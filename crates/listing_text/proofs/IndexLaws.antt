@@ -10,8 +10,9 @@ use Rattle.integers.specs.Sign.{Sign, less, equal, greater}
 use Rattle.lists.specs.Membership.{Mem}
 use Rattle.lists.proofs.FlatMapLaws.{length-flatMap-even}
 use Rattle.lists.proofs.PartLaws.{row-fits}
-use Rattle.model.specs.Directions.{Kind, flow, kinds, Line, upFrom, signVectors, allLines}
-use Rattle.vectors.specs.Numbers.{digit, numberAfter, number, kindNumber, place}
+use Rattle.model.specs.Directions.{Kind, flow, kinds, Line, upFrom, signVectors, allLines, kindCount, vectorCount}
+use Rattle.model.specs.Grammar.{mostStatements}
+use Rattle.vectors.specs.Numbers.{digit, numberAfter, number, kindNumber, place, marksFor}
 use Rattle.vectors.specs.Candidates.{stride, middle}
 use Rattle.vectors.proofs.NumberLaws.{stride-positive, stride-half, number-lt, number-splits}
 use Rattle.listing_text.specs.Text.{lineAt, lineCount}
@@ -115,41 +116,41 @@ module _ (n d : ℕ) where
   kind-length : (s t : ℕ) (k : Kind) → length (ofKind s t k) ≡ stride d
   kind-length s t k = length-map (signVectors d) (λ v. record { kind = k; source = s; sink = t; vector = v }) ∙ signVectors-length d
 
-  sink-length : (s t : ℕ) → length (ofSink s t) ≡ 3 * stride d
+  sink-length : (s t : ℕ) → length (ofSink s t) ≡ kindCount * stride d
   unfolding kinds
   sink-length s t = length-flatMap-even (ofKind s t) (stride d) kinds (λ k m. kind-length s t k)
 
-  source-length : (s : ℕ) → length (ofSource s) ≡ n * (3 * stride d)
-  source-length s = length-flatMap-even (ofSink s) (3 * stride d) (upFrom 0 n) (λ t m. sink-length s t) ∙ ap (_* (3 * stride d)) (upFrom-length 0 n)
+  source-length : (s : ℕ) → length (ofSource s) ≡ n * (kindCount * stride d)
+  source-length s = length-flatMap-even (ofSink s) (kindCount * stride d) (upFrom 0 n) (λ t m. sink-length s t) ∙ ap (_* (kindCount * stride d)) (upFrom-length 0 n)
 
   pub lines-length : length (allLines n d) ≡ lineCount n d
   unfolding allLines
-  lines-length = length-flatMap-even ofSource (n * (3 * stride d)) (upFrom 0 n) (λ s m. source-length s) ∙ ap (_* (n * (3 * stride d))) (upFrom-length 0 n)
-      ∙ sym (rw (mul-assoc (n * n) 3 (stride d), mul-assoc n n (3 * stride d)))
+  lines-length = length-flatMap-even ofSource (n * (kindCount * stride d)) (upFrom 0 n) (λ s m. source-length s) ∙ ap (_* (n * (kindCount * stride d))) (upFrom-length 0 n)
+      ∙ sym (rw (mul-assoc (n * n) kindCount (stride d), mul-assoc n n (kindCount * stride d)))
 
   -- the place of a line among all
-  nested : (s t k w : ℕ) → ((s * n + t) * 3 + k) * stride d + w ≡ s * (n * (3 * stride d)) + (t * (3 * stride d) + (k * stride d + w))
-  nested s t k w = rw (add-mul ((s * n + t) * 3) k (stride d), mul-assoc (s * n + t) 3 (stride d), add-mul (s * n) t (3 * stride d), mul-assoc s n (3 * stride d)) (omega arith)
+  nested : (s t k w : ℕ) → ((s * n + t) * kindCount + k) * stride d + w ≡ s * (n * (kindCount * stride d)) + (t * (kindCount * stride d) + (k * stride d + w))
+  nested s t k w = rw (add-mul ((s * n + t) * kindCount) k (stride d), mul-assoc (s * n + t) kindCount (stride d), add-mul (s * n) t (kindCount * stride d), mul-assoc s n (kindCount * stride d)) (omega arith)
 
   abbrev none : Line
   none = record { kind = flow; source = 0; sink = 0; vector = [] }
 
-  pub line-is : (s t k w : ℕ) → s < n → t < n → k < 3 → w < stride d
-      → lineAt n d (((s * n + t) * 3 + k) * stride d + w) ≡ record { kind = getD kinds k flow; source = s; sink = t; vector = getD (signVectors d) w [] }
+  pub line-is : (s t k w : ℕ) → s < n → t < n → k < kindCount → w < stride d
+      → lineAt n d (((s * n + t) * kindCount + k) * stride d + w) ≡ record { kind = getD kinds k flow; source = s; sink = t; vector = getD (signVectors d) w [] }
   unfolding lineAt allLines kinds
   line-is s t k w a b c e =
-      let f = row-fits (stride d) k 3 c in let g = row-fits (3 * stride d) t n b in
+      let f = row-fits (stride d) k kindCount c in let g = row-fits (kindCount * stride d) t n b in
       rw (nested s t k w)
-      (flatMap-getD ofSource (n * (3 * stride d)) (upFrom 0 n) s (t * (3 * stride d) + (k * stride d + w)) 0 none (λ s m. source-length s) (let l = upFrom-length 0 n in omega arith) (omega arith)
-      ∙ ap (λ s. getD (ofSource s) (t * (3 * stride d) + (k * stride d + w)) none) (upFrom-getD 0 n s a ∙ zero-add s)
-      ∙ flatMap-getD (ofSink s) (3 * stride d) (upFrom 0 n) t (k * stride d + w) 0 none (λ t m. sink-length s t) (let l = upFrom-length 0 n in omega arith) (omega arith)
+      (flatMap-getD ofSource (n * (kindCount * stride d)) (upFrom 0 n) s (t * (kindCount * stride d) + (k * stride d + w)) 0 none (λ s m. source-length s) (let l = upFrom-length 0 n in omega arith) (omega arith)
+      ∙ ap (λ s. getD (ofSource s) (t * (kindCount * stride d) + (k * stride d + w)) none) (upFrom-getD 0 n s a ∙ zero-add s)
+      ∙ flatMap-getD (ofSink s) (kindCount * stride d) (upFrom 0 n) t (k * stride d + w) 0 none (λ t m. sink-length s t) (let l = upFrom-length 0 n in omega arith) (omega arith)
       ∙ ap (λ t. getD (ofSink s t) (k * stride d + w) none) (upFrom-getD 0 n t b ∙ zero-add t)
       ∙ flatMap-getD (ofKind s t) (stride d) kinds k w flow none (λ k m. kind-length s t k) c e
       ∙ map-getD (λ v. record { kind = getD kinds k flow; source = s; sink = t; vector = v }) (signVectors d) w [] none (let l = signVectors-length d in omega arith))
 
 -- ---- line i
 
-kind-number : (k : ℕ) → k < 3 → kindNumber (getD kinds k flow) ≡ k
+kind-number : (k : ℕ) → k < kindCount → kindNumber (getD kinds k flow) ≡ k
 unfolding kinds
 kind-number zero h = refl
 kind-number (suc zero) h = refl
@@ -158,25 +159,25 @@ kind-number (suc (suc (suc k))) h = absurd (omega arith)
 
 -- the block of i (source, sink and kind), its first part without the kind, and its vector's number
 pub record At (n d i : ℕ) : Type 0 where
-  pub block : i / stride d < n * n * 3
-  pub source : i / stride d / 3 / n < n
-  pub sink : i / stride d / 3 % n < n
+  pub block : i / stride d < n * n * kindCount
+  pub source : i / stride d / kindCount / n < n
+  pub sink : i / stride d / kindCount % n < n
   pub vector : i % stride d < stride d
-  pub line : lineAt n d i ≡ record { kind = getD kinds (i / stride d % 3) flow; source = i / stride d / 3 / n; sink = i / stride d / 3 % n; vector = getD (signVectors d) (i % stride d) [] }
+  pub line : lineAt n d i ≡ record { kind = getD kinds (i / stride d % kindCount) flow; source = i / stride d / kindCount / n; sink = i / stride d / kindCount % n; vector = getD (signVectors d) (i % stride d) [] }
   pub numbered : number (lineAt n d i .vector) ≡ i % stride d * stride (6 - d) + middle (6 - d)
   pub wide : length (lineAt n d i .vector) ≡ d
-  pub marked : place n (lineAt n d i) ≡ i / stride d * 729 + (i % stride d * stride (6 - d) + middle (6 - d))
+  pub marked : place n (lineAt n d i) ≡ i / stride d * vectorCount + (i % stride d * stride (6 - d) + middle (6 - d))
 
 pub line-at : (n d i : ℕ) → i < lineCount n d → At n d i
 unfolding place
 line-at n d i h =
-    let p = split i (stride d) (n * n * 3) h in
-    let q = split (i / stride d) 3 (n * n) (p .quotient) in
-    let r = split (i / stride d / 3) n n (q .quotient) in
-    let s = i / stride d / 3 / n in let t = i / stride d / 3 % n in let k = i / stride d % 3 in let w = i % stride d in
+    let p = split i (stride d) (n * n * kindCount) h in
+    let q = split (i / stride d) kindCount (n * n) (p .quotient) in
+    let r = split (i / stride d / kindCount) n n (q .quotient) in
+    let s = i / stride d / kindCount / n in let t = i / stride d / kindCount % n in let k = i / stride d % kindCount in let w = i % stride d in
     let a = r .is in let b = q .is in let c = p .is in
-    let blocks : (s * n + t) * 3 + k ≡ i / stride d = omega arith in
-    let whole : ((s * n + t) * 3 + k) * stride d + w ≡ i = rw blocks (sym c) in
+    let blocks : (s * n + t) * kindCount + k ≡ i / stride d = omega arith in
+    let whole : ((s * n + t) * kindCount + k) * stride d + w ≡ i = rw blocks (sym c) in
     let l = subst (λ j. lineAt n d j ≡ record { kind = getD kinds k flow; source = s; sink = t; vector = getD (signVectors d) w [] }) whole (line-is n d s t k w (r .quotient) (r .rest) (q .rest) (p .rest)) in
     let v = signVectors-number d w 0 (p .rest) in
     let e : number (getD (signVectors d) w []) ≡ w * stride (6 - d) + middle (6 - d) = number-splits (getD (signVectors d) w []) d (v .1) ∙ ap (λ z. z * stride (6 - d) + middle (6 - d)) (v .0 ∙ zero-times (stride d) w) in
@@ -195,7 +196,7 @@ line-at n d i h =
     zero-times m w = rw (zero-mul m, zero-add w)
 
 -- the number of its vector
-pub vector-small : (d w : ℕ) → d ≤ 6 → w < stride d → w * stride (6 - d) + middle (6 - d) < 729
+pub vector-small : (d w : ℕ) → d ≤ 6 → w < stride d → w * stride (6 - d) + middle (6 - d) < vectorCount
 vector-small d w h g =
     let v = signVectors-number d w 0 g in
     let a = number-lt (getD (signVectors d) w []) (let l = v .1 in omega arith) in
@@ -209,15 +210,16 @@ pub power-is : (d p : ℕ) → d ≤ 6 → p ≡ stride (6 - (6 - d)) → (p ≡
 power-is d p h e = let a : 6 - (6 - d) ≡ d = omega arith in let f : p ≡ stride d = e ∙ ap stride a in let g = stride-positive d in (f, omega arith)
 
 pub vector-is : (d i s p : ℕ) → d ≤ 6 → p ≡ stride d → s ≡ stride (6 - d)
-    → (i % p * s + (s - 1) / 2 ≡ i % stride d * stride (6 - d) + middle (6 - d)) × (i % p * s + (s - 1) / 2 < 729)
+    → (i % p * s + (s - 1) / 2 ≡ i % stride d * stride (6 - d) + middle (6 - d)) × (i % p * s + (s - 1) / 2 < vectorCount)
 vector-is d i s p h e f = let a = stride-half (6 - d) s f in let b = vector-small d (i % stride d) h (mod-lt i (stride-positive d)) in
     let g : i % p * s + (s - 1) / 2 ≡ i % stride d * stride (6 - d) + middle (6 - d) = rw (a, e, f) in (g, omega arith)
 
-pub count-small : (n p : ℕ) → n ≤ 4 → p ≤ 729 → (n * n ≤ 16) × (n * n * 3 * p ≤ 34992)
-count-small n p h g = let a : n * n ≤ 16 = mul-le-mul h h in let b : n * n * 3 ≤ 48 = omega arith in (a, mul-le-mul b g)
+pub count-small : (n p : ℕ) → n ≤ mostStatements → p ≤ vectorCount → (n * n ≤ mostStatements * mostStatements) × (n * n * kindCount * p ≤ marksFor mostStatements)
+count-small n p h g = let a : n * n ≤ mostStatements * mostStatements = mul-le-mul h h in
+    let b : n * n * kindCount ≤ mostStatements * mostStatements * kindCount = omega arith in (a, mul-le-mul b g)
 
 -- the marks of a block are as far apart as a block has lines for
-whole-block : (d : ℕ) → d ≤ 6 → stride d * stride (6 - d) ≡ 729
+whole-block : (d : ℕ) → d ≤ 6 → stride d * stride (6 - d) ≡ vectorCount
 unfolding stride
 whole-block zero h = refl
 whole-block (suc zero) h = refl
@@ -228,15 +230,15 @@ whole-block (suc (suc (suc (suc (suc zero))))) h = refl
 whole-block (suc (suc (suc (suc (suc (suc zero)))))) h = refl
 whole-block (suc (suc (suc (suc (suc (suc (suc d))))))) h = absurd (omega arith)
 
-pub mark-at : (n d i s : ℕ) → d ≤ 6 → s ≡ stride (6 - d) → At n d i → (place n (lineAt n d i) ≡ i * s + (s - 1) / 2) × (i * s + (s - 1) / 2 < n * n * 2187)
+pub mark-at : (n d i s : ℕ) → d ≤ 6 → s ≡ stride (6 - d) → At n d i → (place n (lineAt n d i) ≡ i * s + (s - 1) / 2) × (i * s + (s - 1) / 2 < marksFor n)
 mark-at n d i s h e a =
     let q = i / stride d in let r = i % stride d in
-    let x : i * s ≡ q * 729 + r * s = ap (_* s) (sym (div-add-mod' i (stride d))) ∙ add-mul (q * stride d) r s ∙ ap (_+ r * s) (mul-assoc q (stride d) s ∙ ap (q *_) (ap (stride d *_) e ∙ whole-block d h)) in
+    let x : i * s ≡ q * vectorCount + r * s = ap (_* s) (sym (div-add-mod' i (stride d))) ∙ add-mul (q * stride d) r s ∙ ap (_+ r * s) (mul-assoc q (stride d) s ∙ ap (q *_) (ap (stride d *_) e ∙ whole-block d h)) in
     let y : r * stride (6 - d) ≡ r * s = ap (r *_) (sym e) in
     let m = stride-half (6 - d) s e in
     let v = vector-small d r h (a .vector) in
     let b = a .block in
-    (a .marked ∙ (let z : q * 729 + (r * stride (6 - d) + middle (6 - d)) ≡ i * s + (s - 1) / 2 = omega arith in z), omega arith)
+    (a .marked ∙ (let z : q * vectorCount + (r * stride (6 - d) + middle (6 - d)) ≡ i * s + (s - 1) / 2 = omega arith in z), omega arith)
 
-pub parts-in : (n d i b : ℕ) → At n d i → b ≡ i / stride d → (0 < n) × (b / 3 / n < n) × (b / 3 % n < n)
+pub parts-in : (n d i b : ℕ) → At n d i → b ≡ i / stride d → (0 < n) × (b / kindCount / n < n) × (b / kindCount % n < n)
 parts-in n d i b a e = let s = a .source in rw e (omega arith, s, a .sink)

@@ -15,9 +15,10 @@ use Rattle.lists.proofs.FlatMapLaws.{flatMap-snoc, length-flatMap-even}
 use Rattle.lists.proofs.MembershipLaws.{take-mem}
 use Rattle.lists.proofs.PartLaws.{put-nil, length-put, put-put}
 use Rattle.lists.proofs.TestLaws.{select-mem}
-use Rattle.model.specs.Directions.{flow, kinds, Line, allLines}
+use Rattle.model.specs.Directions.{flow, kinds, Line, allLines, kindCount}
 use Rattle.model.specs.Listing.{letter, lineText}
 use Rattle.model.proofs.Listing.LineOrderLaws.{allLines-mem}
+use Rattle.model.specs.Grammar.{mostStatements}
 use Rattle.vectors.specs.Candidates.{stride, middle}
 use Rattle.listing_text.specs.Text.{marked, shown, lineCount, lineAt}
 use Rattle.listing_text.proofs.IndexLaws.{At, lines-length}
@@ -25,16 +26,16 @@ use Rattle.listing_text.proofs.TextLaws.{line-array, line-length}
 
 -- ---- the bytes of line i
 
-pub line-written : (n d i b v a x y p q r s t u : ℕ) → n ≤ 4 → d ≤ 6 → At n d i → b ≡ i / stride d → v ≡ i % stride d * stride (6 - d) + middle (6 - d)
-    → a ≡ letter (getD kinds (b % 3) flow) → x ≡ 49 + b / 3 / n → y ≡ 49 + b / 3 % n
+pub line-written : (n d i b v a x y p q r s t u : ℕ) → n ≤ mostStatements → d ≤ 6 → At n d i → b ≡ i / stride d → v ≡ i % stride d * stride (6 - d) + middle (6 - d)
+    → a ≡ letter (getD kinds (b % kindCount) flow) → x ≡ 49 + b / kindCount / n → y ≡ 49 + b / kindCount % n
     → p ≡ 60 + v / 243 → q ≡ 60 + v / 81 % 3 → r ≡ 60 + v / 27 % 3 → s ≡ 60 + v / 9 % 3 → t ≡ 60 + v / 3 % 3 → u ≡ 60 + v % 3
     → (length (set (a ∷ 32 ∷ x ∷ 32 ∷ y ∷ 32 ∷ p ∷ q ∷ r ∷ s ∷ t ∷ u ∷ 10 ∷ []) (6 + d) 10) ≡ 13)
     × (take (d + 7) (set (a ∷ 32 ∷ x ∷ 32 ∷ y ∷ 32 ∷ p ∷ q ∷ r ∷ s ∷ t ∷ u ∷ 10 ∷ []) (6 + d) 10) ≡ lineText (lineAt n d i))
 line-written n d i b v a x y p q r s t u hn hd at eb ev ea ex ey e₁ e₂ e₃ e₄ e₅ e₆ =
-    let k : lineAt n d i .kind ≡ getD kinds (b % 3) flow = ap (λ l. l .kind) (at .line) ∙ ap (λ z. getD kinds (z % 3) flow) (sym eb) in
-    let f : lineAt n d i .source ≡ b / 3 / n = ap (λ l. l .source) (at .line) ∙ ap (λ z. z / 3 / n) (sym eb) in
-    let g : lineAt n d i .sink ≡ b / 3 % n = ap (λ l. l .sink) (at .line) ∙ ap (λ z. z / 3 % n) (sym eb) in
-    let hf : b / 3 / n < n = rw eb (at .source) in let hg : b / 3 % n < n = rw eb (at .sink) in
+    let k : lineAt n d i .kind ≡ getD kinds (b % kindCount) flow = ap (λ l. l .kind) (at .line) ∙ ap (λ z. getD kinds (z % kindCount) flow) (sym eb) in
+    let f : lineAt n d i .source ≡ b / kindCount / n = ap (λ l. l .source) (at .line) ∙ ap (λ z. z / kindCount / n) (sym eb) in
+    let g : lineAt n d i .sink ≡ b / kindCount % n = ap (λ l. l .sink) (at .line) ∙ ap (λ z. z / kindCount % n) (sym eb) in
+    let hf : b / kindCount / n < n = rw eb (at .source) in let hg : b / kindCount % n < n = rw eb (at .sink) in
     line-array (lineAt n d i) d a x y v p q r s t u e₁ e₂ e₃ e₄ e₅ e₆ hd (at .wide) (ev ∙ sym (at .numbered)) (omega arith) (omega arith)
     (ea ∙ ap letter (sym k)) (omega arith) (omega arith)
 
@@ -116,7 +117,7 @@ module _ (m : List Bool) (n d : ℕ) where
     pub after : p ≡ a + length (before i) * (d + 7)
     pub bytes : o′ ≡ put o a (flatMap lineText (before i))
 
-  module _ (few : n ≤ 4) where
+  module _ (few : n ≤ mostStatements) where
     texts-length : (i : ℕ) → length (flatMap lineText (before i)) ≡ length (before i) * (d + 7)
     unfolding before
     texts-length i = length-flatMap-even lineText (d + 7) (before i) (λ l h.

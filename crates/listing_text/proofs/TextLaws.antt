@@ -8,7 +8,7 @@ use lib.ListN.{length, take, set, getD, replicate, length-append, length-map, le
 use lib.Seq.{take-at}
 use borrow.Author.Tests.{lt-ltb, le-ltb}
 use Rattle.integers.specs.Sign.{Sign, less, equal, greater}
-use Rattle.model.specs.Directions.{flow, kinds, Line}
+use Rattle.model.specs.Directions.{flow, kinds, Line, kindCount}
 use Rattle.model.specs.Listing.{digits, decimal, letter, signChar, lineText}
 use Rattle.vectors.specs.Numbers.{digit, numberAfter, number}
 use Rattle.vectors.proofs.NumberLaws.{digit-lt}
@@ -129,7 +129,7 @@ signs-text v d h e =
 
 -- ---- lines
 
-pub letter-is : (k x : ℕ) → k < 3 → (k ≡ 0 → x ≡ 70) → (k ≡ 1 → x ≡ 65) → (k ≡ 2 → x ≡ 79) → x ≡ letter (getD kinds k flow)
+pub letter-is : (k x : ℕ) → k < kindCount → (k ≡ 0 → x ≡ 70) → (k ≡ 1 → x ≡ 65) → (k ≡ 2 → x ≡ 79) → x ≡ letter (getD kinds k flow)
 unfolding letter kinds
 letter-is zero x h a b c = a refl
 letter-is (suc zero) x h a b c = b refl

@@ -18,7 +18,8 @@ use Rattle.model.specs.Points.{iterations}
 use Rattle.model.specs.Machine.{Accesses, accesses}
 use Rattle.model.specs.Directions.{Line, occurs, allLines, lines}
 use Rattle.model.specs.Listing.{decimal, lineText, headText, linesOf, listing}
-use Rattle.vectors.specs.Numbers.{place}
+use Rattle.model.specs.Grammar.{mostStatements}
+use Rattle.vectors.specs.Numbers.{place, marksFor}
 use Rattle.dependence.specs.Flat.{Flat, pointsOf, Describes, Searched}
 use Rattle.listing_text.specs.Text.{marked, shown, text, Field, Written}
 use Rattle.listing_text.proofs.LineLaws.{text-length}
@@ -67,7 +68,7 @@ module _ (m : List Bool) (s d n k a b c : ℕ) (A B C : List ℕ) (fa : Field A 
       let g₄ : o₃ ≡ put o 0 (fieldA ++ (fieldB ++ fieldC)) = g₃ ∙ ap (put o 0) (append-assoc fieldA fieldB fieldC) in
       join o o₃ o₄ (fieldA ++ (fieldB ++ fieldC)) (flatMap lineText (shown m s d)) e g₄ (omega arith) (omega arith) e₄ ∙ ap (put o 0) (sym text-is)
 
-pub size-fits : (k d : ℕ) → k ≤ 34992 → d ≤ 6 → k * (d + 7) ≤ 454896
+pub size-fits : (k d : ℕ) → k ≤ marksFor mostStatements → d ≤ 6 → k * (d + 7) ≤ marksFor mostStatements * 13
 size-fits k d h g = mul-le-mul h (let i : d + 7 ≤ 13 = omega arith in i)
 
 pub fits : (t o o′ : List ℕ) (n : ℕ) → length t ≡ n → n ≤ length o → o′ ≡ put o 0 t → Written t o o′ n

@@ -7,9 +7,10 @@ use lib.Dec.{leb}
 use lib.ListN.{length, getD, take}
 use Rattle.lists.specs.Parts.{put}
 use Rattle.lists.specs.Tests.{select}
-use Rattle.model.specs.Directions.{Line, flow, allLines}
+use Rattle.model.specs.Directions.{Line, flow, allLines, kindCount}
 use Rattle.model.specs.Listing.{decimal, lineText, headText}
-use Rattle.vectors.specs.Numbers.{place}
+use Rattle.model.specs.Grammar.{mostStatements}
+use Rattle.vectors.specs.Numbers.{place, marksFor}
 use Rattle.vectors.specs.Candidates.{stride}
 
 unfoldable pub marked : List Bool → ℕ → Line → Bool
@@ -24,7 +25,7 @@ text m n d points = headText d points (length (shown m n d)) ++ flatMap lineText
 
 -- how many lines there could be
 abbrev pub lineCount : ℕ → ℕ → ℕ
-lineCount n d = n * n * 3 * stride d
+lineCount n d = n * n * kindCount * stride d
 
 -- line i of all
 unfoldable pub lineAt : ℕ → ℕ → ℕ → Line
@@ -32,9 +33,9 @@ lineAt n d i = getD (allLines n d) i (record { kind = flow; source = 0; sink = 0
 
 -- n statements, d loops, and a mark for each line
 pub record Marks (m : List Bool) (n d : ℕ) : Type 0 where
-  pub statements : n ≤ 4
+  pub statements : n ≤ mostStatements
   pub shallow : d ≤ 6
-  pub room : n * n * 2187 ≤ length m
+  pub room : marksFor n ≤ length m
 
 -- a number and the byte after it, in the first bytes of six
 pub record Field (bytes : List ℕ) (len n end : ℕ) : Type 0 where

@@ -4,12 +4,15 @@ ghost use mathlib.Core.List.{flatMap};
 ghost use Prim.Native.Nat.{_+_, _*_, _-_, _/_, _%_, _≤_, _<_};
 ghost use lib.ListN.{length, getD, take};
 ghost use Rattle.lists.specs.Parts.{put};
-ghost use Rattle.model.specs.Directions.{flow, kinds};
+ghost use Rattle.model.specs.Directions.{flow, kinds, kindCount, vectorCount};
 ghost use Rattle.model.specs.Listing.{lineText};
 ghost use Rattle.model.specs.Listing.{letter as «letter-of»};
+ghost use Rattle.model.specs.Grammar.{mostStatements};
+ghost use Rattle.vectors.specs.Numbers.{marksFor};
 ghost use Rattle.vectors.specs.Candidates.{stride, middle};
 ghost use Rattle.listing_text.specs.Text.{marked, shown, lineCount, lineAt, Marks, Field, Written};
 ghost use Rattle.listing_text.specs.Text.{text as «text-of»};
+use model::KINDS;
 
 fn byte(x: usize) -> u8
     requires { ⌜ x < 256 ⌝ }
@@ -33,10 +36,10 @@ fn copy(out: &mut [u8], at: usize, src: &[u8])
 // ---- line i of all that there could be, by source, sink, kind and signs
 
 fn line_count(n: usize, depth: usize) -> usize
-    requires { ⌜ (n ≤ 4) × (depth ≤ 6) ⌝ }
-    ensures { λ r. ⌜ (r ≡ lineCount n depth) × (r ≤ 34992) ⌝ }
+    requires { ⌜ (n ≤ mostStatements) × (depth ≤ 6) ⌝ }
+    ensures { λ r. ⌜ (r ≡ lineCount n depth) × (r ≤ marksFor mostStatements) ⌝ }
 {
-    n * n * 3 * vectors::stride(6 - depth)
+    n * n * KINDS * vectors::stride(6 - depth)
 }
 
 // The number of its source, sink and kind.
@@ -50,13 +53,14 @@ fn block(depth: usize, i: usize) -> usize
 // The number of its vector.
 fn vector(depth: usize, i: usize) -> usize
     requires { ⌜ depth ≤ 6 ⌝ }
-    ensures { λ r. ⌜ (r ≡ i % stride depth * stride (6 - depth) + middle (6 - depth)) × (r < 729) ⌝ }
+    ensures { λ r. ⌜ (r ≡ i % stride depth * stride (6 - depth) + middle (6 - depth)) × (r < vectorCount) ⌝ }
 {
     let step = vectors::stride(depth);
     i % vectors::stride(6 - depth) * step + (step - 1) / 2
 }
 
-// Whether it is marked. A block of 729 marks holds the lines of one source, sink and kind, `step` places from one to the next: so they go on in the next block.
+// Whether it is marked. A block of VECTORS marks holds the lines of one source, sink and kind, `step` places from one to the next: so they go
+// on in the next block.
 fn mark(marks: &[bool], n: usize, depth: usize, i: usize) -> bool
     requires { ⌜ Marks (now marks) n depth × (i < lineCount n depth) ⌝ }
     ensures { λ r. ⌜ r ≡ marked (now (marks .entry)) n (lineAt n depth i) ⌝ }
@@ -66,7 +70,7 @@ fn mark(marks: &[bool], n: usize, depth: usize, i: usize) -> bool
 }
 
 fn letter(k: usize) -> u8
-    requires { ⌜ k < 3 ⌝ }
+    requires { ⌜ k < kindCount ⌝ }
     ensures { λ r. ⌜ r ≡ «letter-of» (getD kinds k flow) ⌝ }
 {
     if k == 0 {
@@ -80,17 +84,17 @@ fn letter(k: usize) -> u8
 
 // Its text, in the first depth + 7 bytes.
 fn line(n: usize, depth: usize, i: usize) -> [u8; 13]
-    requires { ⌜ (n ≤ 4) × (depth ≤ 6) × (i < lineCount n depth) ⌝ }
+    requires { ⌜ (n ≤ mostStatements) × (depth ≤ 6) × (i < lineCount n depth) ⌝ }
     ensures { λ r. ⌜ (length r ≡ 13) × (take (depth + 7) r ≡ lineText (lineAt n depth i)) ⌝ }
 {
     let b = block(depth, i);
     let v = vector(depth, i);
     let mut r = [
-        letter(b % 3),
+        letter(b % KINDS),
         b' ',
-        byte(49 + b / 3 / n),
+        byte(49 + b / KINDS / n),
         b' ',
-        byte(49 + b / 3 % n),
+        byte(49 + b / KINDS % n),
         b' ',
         byte(60 + v / 243),
         byte(60 + v / 81 % 3),
@@ -106,7 +110,7 @@ fn line(n: usize, depth: usize, i: usize) -> [u8; 13]
 
 // Writes it at p.
 fn write_line(out: &mut [u8], p: usize, n: usize, depth: usize, i: usize)
-    requires { ⌜ (n ≤ 4) × (depth ≤ 6) × (i < lineCount n depth) × (p + (depth + 7) ≤ length (now out)) ⌝ }
+    requires { ⌜ (n ≤ mostStatements) × (depth ≤ 6) × (i < lineCount n depth) × (p + (depth + 7) ≤ length (now out)) ⌝ }
     ensures { λ _. ⌜ now (out .exit) ≡ put (now (out .entry)) p (lineText (lineAt n depth i)) ⌝ }
 {
     let b = line(n, depth, i);
@@ -117,7 +121,7 @@ fn write_line(out: &mut [u8], p: usize, n: usize, depth: usize, i: usize)
 
 fn count(marks: &[bool], n: usize, depth: usize) -> usize
     requires { ⌜ Marks (now marks) n depth ⌝ }
-    ensures { λ r. ⌜ (r ≡ length (shown (now (marks .entry)) n depth)) × (r ≤ 34992) ⌝ }
+    ensures { λ r. ⌜ (r ≡ length (shown (now (marks .entry)) n depth)) × (r ≤ marksFor mostStatements) ⌝ }
 {
     let total = line_count(n, depth);
     let mut k = 0;

@@ -1,5 +1,5 @@
 -- Numbers of vectors. In order: base three, its bound, that lists of digits with one number are equal; the digits of a vector and of a number;
--- numbers of vectors of one depth are distinct, and each below 729 is that of a vector; which vectors point backwards.
+-- numbers of vectors of one depth are distinct, and each below vectorCount is that of a vector; which vectors point backwards.
 use mathlib.Core.Path.{_≡_, refl, sym, _∙_, ap, ap₂, subst}
 use mathlib.Core.List.{List, [], _∷_, map, List·Memᴰ·head, List·Memᴰ·tail}
 use Prim.Native.Nat.{ℕ, zero, suc, _+_, _*_, _/_, _%_, _^_, _≤_, _<_}
@@ -14,7 +14,7 @@ use Rattle.integers.specs.Sign.{Sign, less, equal, greater}
 use Rattle.lists.specs.Membership.{All}
 use Rattle.lists.proofs.MembershipLaws.{all-nil, all-cons}
 use Rattle.lists.proofs.PartLaws.{row-unique}
-use Rattle.model.specs.Directions.{backwards}
+use Rattle.model.specs.Directions.{backwards, vectorCount}
 use Rattle.preimages.specs.Numbers.{digit, digitsIn, base3, number, digitsOf, signOf, vectorOf, Digits}
 
 -- ---- base three
@@ -47,7 +47,7 @@ base3-injective (x ∷ d) (y ∷ e) l a b h =
     let r = row-unique (3 ^ length d) x y (base3 d) (base3 e) (base3-below d (rest-small a)) k (h ∙ ap (λ n. y * 3 ^ n + base3 e) (sym m)) in
     ap₂ _∷_ (r .0) (base3-injective d e m (rest-small a) (rest-small b) (r .1))
 
-pub digits-below : (d : List ℕ) → Digits d → base3 d < 729
+pub digits-below : (d : List ℕ) → Digits d → base3 d < vectorCount
 digits-below d h = rw (h .six) at (base3-below d (h .small))
 
 pub digits-unique : (d e : List ℕ) → Digits d → Digits e → base3 d ≡ base3 e → d ≡ e
@@ -97,7 +97,7 @@ digitsIn-injective (suc k) (s ∷ u) (t ∷ v) l h e =
     let q : digitsIn k u ≡ digitsIn k v = cc in
     ap₂ _∷_ (digit-injective s t p) (digitsIn-injective k u v (omega arith) (omega arith) q)
 
-pub number-below : (v : List Sign) → number v < 729
+pub number-below : (v : List Sign) → number v < vectorCount
 unfolding number
 number-below v = digits-below (digitsIn 6 v) (vector-digits v)
 
@@ -108,7 +108,7 @@ number-injective u v l h e = digitsIn-injective 6 u v l h (digits-unique (digits
 
 -- ---- the digits of a number
 
-pub number-digits : (n : ℕ) → n < 729 → Digits (digitsOf n)
+pub number-digits : (n : ℕ) → n < vectorCount → Digits (digitsOf n)
 unfolding digitsOf
 number-digits n h = record {
   six = refl;
@@ -131,7 +131,7 @@ pub digitsOf-number : (v : List Sign) → digitsOf (number v) ≡ digitsIn 6 v
 unfolding number
 digitsOf-number v = let h = number-below v in digits-unique (digitsOf (number v)) (digitsIn 6 v) (number-digits (number v) h) (vector-digits v) (base3-digitsOf (number v))
 
--- ---- a number below 729 is that of a vector, of any depth from which on its digits are those of =
+-- ---- a number below vectorCount is that of a vector, of any depth from which on its digits are those of =
 
 digit-signOf : (x : ℕ) → x < 3 → digit (signOf x) ≡ x
 unfolding signOf
@@ -151,7 +151,7 @@ digitsIn-signs (suc d) [] a l = refl
 digitsIn-signs zero (x ∷ xs) a l = ap₂ _∷_ (sym (l x (List·Memᴰ·head refl))) (digitsIn-signs zero xs (rest-small a) (λ y m. l y (List·Memᴰ·tail m)))
 digitsIn-signs (suc d) (x ∷ xs) a l = ap₂ _∷_ (digit-signOf x (a x (List·Memᴰ·head refl))) (digitsIn-signs d xs (rest-small a) l)
 
-pub number-vectorOf : (d n : ℕ) → n < 729 → Level d (digitsOf n) → number (vectorOf d n) ≡ n
+pub number-vectorOf : (d n : ℕ) → n < vectorCount → Level d (digitsOf n) → number (vectorOf d n) ≡ n
 unfolding number vectorOf
 number-vectorOf d n h l =
     let k = number-digits n h in
@@ -161,8 +161,8 @@ pub length-vectorOf : (d n : ℕ) → d ≤ 6 → length (vectorOf d n) ≡ d
 unfolding vectorOf digitsOf
 length-vectorOf d n h = length-take-le d (map signOf (digitsOf n)) h
 
--- every number below 729 is that of one vector of six signs
-pub number-six : (n : ℕ) → n < 729 → (v : List Sign) × (length v ≡ 6) × (number v ≡ n) × ((u : List Sign) → length u ≡ 6 → number u ≡ n → u ≡ v)
+-- every number below vectorCount is that of one vector of six signs
+pub number-six : (n : ℕ) → n < vectorCount → (v : List Sign) × (length v ≡ 6) × (number v ≡ n) × ((u : List Sign) → length u ≡ 6 → number u ≡ n → u ≡ v)
 number-six n h =
     let v = vectorOf 6 n in
     let l = length-vectorOf 6 n (omega arith) in

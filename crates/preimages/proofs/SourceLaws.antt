@@ -14,6 +14,7 @@ use Rattle.lists.specs.Tests.{any}
 use Rattle.lists.proofs.MembershipLaws.{all-getD-default, all-nil, all-cons}
 use Rattle.lists.proofs.TestLaws.{cond-cases}
 use Rattle.model.specs.Steps.{anySign, signedSign}
+use Rattle.model.specs.Directions.{vectorCount}
 use Rattle.preimages.specs.Numbers.{digit, digitsIn, base3, number, digitsOf, Digits, marked}
 use Rattle.preimages.specs.Sources.{Source, joined, joinedDigit, mayBeDigit, gave, gaveDigits, Signed, SkewSource, skewSource}
 use Rattle.preimages.proofs.NumberLaws.{digits-below, number-digits, digitsOf-number, vector-digits}
@@ -40,7 +41,7 @@ six-value (x ∷ y ∷ z ∷ u ∷ v ∷ w ∷ r ∷ d) e = absurd (omega arith)
 
 -- ---- a number changed by its digits
 
-pub these-digits : (d : List ℕ) (n : ℕ) → n < 729 → d ≡ digitsOf n → Digits d
+pub these-digits : (d : List ℕ) (n : ℕ) → n < vectorCount → d ≡ digitsOf n → Digits d
 these-digits d n h e = rw e (number-digits n h)
 
 vector-of : (d : List ℕ) (n : ℕ) → d ≡ digitsOf n → (v : List Sign) → number v ≡ n → d ≡ digitsIn 6 v
@@ -56,7 +57,7 @@ source-is g loops n r d x e k f h = record {
 
 -- ---- exchange, reversal and section
 
-module _ (d : List ℕ) (n a : ℕ) (below : n < 729) (e : d ≡ digitsOf n) where
+module _ (d : List ℕ) (n a : ℕ) (below : n < vectorCount) (e : d ≡ digitsOf n) where
   ok : Digits d
   ok = these-digits d n below e
 
@@ -80,7 +81,7 @@ module _ (d : List ℕ) (n a : ℕ) (below : n < 729) (e : d ≡ digitsOf n) whe
   turn-source r f = source-is (under a (onHead turned)) (a + 1) n r d turn e turn-digits f (λ v h l q. rw q (turned-digits 6 v a (omega arith) l))
 
 -- the code's digits, each as it was made
-module _ (d : List ℕ) (n a : ℕ) (below : n < 729) (e : d ≡ digitsOf n) (x : List ℕ) (f : x ≡ joinedDigits d a) where
+module _ (d : List ℕ) (n a : ℕ) (below : n < vectorCount) (e : d ≡ digitsOf n) (x : List ℕ) (f : x ≡ joinedDigits d a) where
   joined-small : (i : ℕ) → joinedDigit d a i < 3
   joined-small i = let k = these-digits d n below e in
       cond-cases S (ltb i a) _ _ (λ _. digit-below d i k)

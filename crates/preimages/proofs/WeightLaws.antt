@@ -6,6 +6,7 @@ use native.Mathlib.Omega.{arith}
 use lib.ListN.{getD, set}
 use Rattle.integers.specs.Sign.{turned}
 use Rattle.lists.specs.Place.{under, onHead, swapped}
+use Rattle.model.specs.Directions.{vectorCount}
 use Rattle.preimages.specs.Numbers.{base3, digitsOf}
 use Rattle.preimages.specs.Sources.{Source}
 use Rattle.preimages.specs.Weights.{ChangeIn}
@@ -113,7 +114,7 @@ module _ (n a b c d e f : ℕ) (h : six a b c d e f ≡ n) where
 
 -- ---- the digits of a number
 
-module _ (n : ℕ) (below : n < 729) where
+module _ (n : ℕ) (below : n < vectorCount) where
   digits : six (n / 243) (n / 81 % 3) (n / 27 % 3) (n / 9 % 3) (n / 3 % 3) (n % 3) ≡ n
   unfolding digitsOf
   digits = base3-digitsOf n

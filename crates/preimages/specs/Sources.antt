@@ -7,18 +7,18 @@ use lib.Dec.{eqb, ltb}
 use lib.ListN.{length, getD, set}
 use Rattle.integers.specs.Sign.{Sign, less, equal, greater}
 use Rattle.lists.specs.Tests.{any}
-use Rattle.model.specs.Directions.{bySign, sameSign}
+use Rattle.model.specs.Directions.{bySign, sameSign, vectorCount}
 use Rattle.model.specs.Steps.{anySign, sumSigns, signedSign}
 use Rattle.preimages.specs.Numbers.{digit, number, base3, Digits, marked}
 
 -- a number, and a nest of at most six loops that has the loops named
 pub record SourceIn (n loops : ℕ) : Type 0 where
-  pub below : n < 729
+  pub below : n < vectorCount
   pub few : loops ≤ 6
 
 -- r is the number of what g makes of a vector with number n, which has at least the loops named
 pub record Source (g : List Sign → List Sign) (loops n r : ℕ) : Type 0 where
-  pub below : r < 729
+  pub below : r < vectorCount
   pub same : (v : List Sign) → loops ≤ length v → length v ≤ 6 → number v ≡ n → r ≡ number (g v)
 
 -- ---- section
@@ -57,7 +57,7 @@ unfoldable pub skewSource : List Bool → ℕ → ℕ → Bool → List Sign →
 skewSource old a b c v = any (gave old v b (signedSign c (getD v a equal))) anySign
 
 pub record SkewSourceIn (a b n : ℕ) : Type 0 where
-  pub below : n < 729
+  pub below : n < vectorCount
   pub outer : a < b
   pub few : b < 6
 

@@ -4,15 +4,17 @@ ghost use mathlib.Core.Bool.{false};
 ghost use Prim.Native.Nat.{ℕ, _+_, _-_, _^_, _≤_, _<_};
 ghost use Rattle.integers.specs.Sign.{turned};
 ghost use Rattle.lists.specs.Place.{«under», onHead, swapped};
+ghost use Rattle.model.specs.Directions.{vectorCount};
 ghost use Rattle.preimages.specs.Numbers.{base3, digitsOf, Digits};
 ghost use Rattle.preimages.specs.Weights.{ChangeIn};
 ghost use Rattle.preimages.specs.Sources.{SourceIn, Source, joined, JoinedIn, joinedDigit, mayBeDigit, Signed, GaveIn, gaveDigits, SkewSourceIn, SkewSource};
+use model::VECTORS;
 
 // ---- numbers
 
 // The signs of the vector with number n, as digits: < is 0, = is 1, > is 2.
 fn digits(n: usize) -> [usize; 6]
-    requires { ⌜ n < 729 ⌝ }
+    requires { ⌜ n < vectorCount ⌝ }
     ensures { λ r. ⌜ r ≡ digitsOf n ⌝ }
 {
     [n / 243, n / 81 % 3, n / 27 % 3, n / 9 % 3, n / 3 % 3, n % 3]
@@ -108,7 +110,7 @@ fn signed(x: usize, plus: bool) -> usize
 }
 
 // Whether the vector with t at b was marked and may have d[b] there with s added.
-fn gave(old: &[bool; 729], d: [usize; 6], b: usize, s: usize, t: usize) -> bool
+fn gave(old: &[bool; VECTORS], d: [usize; 6], b: usize, s: usize, t: usize) -> bool
     requires { ⌜ GaveIn d b s t ⌝ }
     ensures { λ r. ⌜ r ≡ gaveDigits (now (old .entry)) d b s t ⌝ }
 {
@@ -121,7 +123,7 @@ fn gave(old: &[bool; 729], d: [usize; 6], b: usize, s: usize, t: usize) -> bool
 }
 
 // Whether the skew of loop b by loop a turns some marked vector into the one with number n.
-pub fn skew_source(old: &[bool; 729], n: usize, a: usize, b: usize, plus: bool) -> bool
+pub fn skew_source(old: &[bool; VECTORS], n: usize, a: usize, b: usize, plus: bool) -> bool
     requires { ⌜ SkewSourceIn a b n ⌝ }
     ensures { λ r. ⌜ SkewSource (now (old .entry)) a b plus n r ⌝ }
 {

@@ -23,7 +23,7 @@ use Rattle.model.specs.Machine.{Element, element, bodyAt}
 use Rattle.model.specs.Inside.{Earlier}
 use Rattle.model.specs.Shape.{WellFormed}
 use Rattle.model.specs.Quick.{Range, ranges}
-use Rattle.model.specs.Directions.{signs, earlier, Kind, Line}
+use Rattle.model.specs.Directions.{signs, earlier, Kind, Line, kindCount, vectorCount}
 use Rattle.model.specs.Listing.{linesOf}
 use Rattle.model.proofs.Points.PointLaws.{iterations-inside}
 use Rattle.model.proofs.Points.WithinLaws.{space-within}
@@ -123,9 +123,9 @@ module _ (P : Sheet) (h : SheetIn P) where
       place-here : placeOf (P .statements) (getD (pairsOf P rs .statements) a 0) (getD (pairsOf P rs .statements) b 0) (kindAt (pairsOf P rs) a b) 0 + number (signs (q .early) (q .late)) ≡ place (P .statements) l
       unfolding place
       place-here =
-          ap₂ (λ (x y : ℕ). ((x * P .statements + y) * 3 + kindAt (pairsOf P rs) a b) * 729 + 0 + number (signs (q .early) (q .late))) (source .statement) (sink .statement)
-          ∙ ap₂ (λ (x : ℕ) (v : List Sign). ((l .source * P .statements + l .sink) * 3 + x) * 729 + 0 + number v) kind-here (q .vector)
-          ∙ ap (_+ number (l .vector)) (add-zero (((l .source * P .statements + l .sink) * 3 + kindNumber (l .kind)) * 729))
+          ap₂ (λ (x y : ℕ). ((x * P .statements + y) * kindCount + kindAt (pairsOf P rs) a b) * vectorCount + 0 + number (signs (q .early) (q .late))) (source .statement) (sink .statement)
+          ∙ ap₂ (λ (x : ℕ) (v : List Sign). ((l .source * P .statements + l .sink) * kindCount + x) * vectorCount + 0 + number v) kind-here (q .vector)
+          ∙ ap (_+ number (l .vector)) (add-zero (((l .source * P .statements + l .sink) * kindCount + kindNumber (l .kind)) * vectorCount))
 
       marked-here : T (marked m (P .statements) l)
       unfolding marked

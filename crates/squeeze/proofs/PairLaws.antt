@@ -9,8 +9,10 @@ use native.Mathlib.Nat.{mul-le-mul}
 use native.Mathlib.Decide.{decLt}
 use lib.Dec.{ltb}
 use lib.ListN.{length, getD}
+use Rattle.model.specs.Grammar.{mostStatements, mostArrays}
+use Rattle.model.specs.Directions.{kindCount}
 use Rattle.banerjee.specs.Covers.{Covers, CoverIn}
-use Rattle.vectors.specs.Numbers.{placeOf}
+use Rattle.vectors.specs.Numbers.{placeOf, marksFor}
 use Rattle.dependence.proofs.FlatLaws.{block-fits}
 use Rattle.squeeze.specs.Covered.{Pairs, PairsIn, kindAt, PairCovered, CoveredFrom, CoveredTo}
 
@@ -24,23 +26,23 @@ module _ (F : Pairs) (m : List Bool) (p : PairsIn F m) (a b : ℕ) (la : a < len
   abbrev owner : ℕ
   owner = getD (F .owners) a 0
 
-  pub no-conflict : (k : ℕ) → k ≡ kindAt F a b → 3 ≤ k → PairCovered F m a b
+  pub no-conflict : (k : ℕ) → k ≡ kindAt F a b → kindCount ≤ k → PairCovered F m a b
   no-conflict k e h g = absurd (omega arith)
 
   pub other-array : (owner ≡ getD (F .owners) b 0 → ⊥) → PairCovered F m a b
   other-array h g e = absurd (h e)
 
   -- the number of dimensions is there
-  pub dimensions-read : (owner < 4) × (owner * 4 < length (F .arrays))
+  pub dimensions-read : (owner < mostArrays) × (owner * 4 < length (F .arrays))
   dimensions-read = let f = p .accesses .few in let g = p .accesses .there a la in (omega arith, omega arith)
 
-  few-places : F .body * F .body * 2187 ≤ 34992
+  few-places : marksFor (F .body) ≤ marksFor mostStatements
   few-places = let f = p .few in let g = mul-le-mul f f in omega arith
 
-  pub block-in : (k : ℕ) → k < 3 → (F .body * F .body * 2187 < 2 ^ 64) × (s < F .body) × (t < F .body) × (k < 3)
+  pub block-in : (k : ℕ) → k < kindCount → (marksFor (F .body) < 2 ^ 64) × (s < F .body) × (t < F .body) × (k < kindCount)
   block-in k h = let f = few-places in (omega arith, p .in-body a la, p .in-body b lb, h)
 
-  module _ (k base : ℕ) (e : k ≡ kindAt F a b) (h : k < 3) (q : base ≡ placeOf (F .body) s t k 0) where
+  module _ (k base : ℕ) (e : k ≡ kindAt F a b) (h : k < kindCount) (q : base ≡ placeOf (F .body) s t k 0) where
     pub cover-in : CoverIn (F .words) a b (getD (F .arrays) (owner * 4) 0) (F .depth) (F .ranges) base m
     cover-in =
         let w = p .accesses .words in

@@ -17,7 +17,7 @@ use Rattle.model.specs.Machine.{bodyAt}
 use Rattle.model.specs.Directions.{Line}
 use Rattle.model.specs.Listing.{linesOf}
 use Rattle.model.specs.Answer.{accepted}
-use Rattle.model.specs.Grammar.{extents}
+use Rattle.model.specs.Grammar.{extents, nestRoom}
 use Rattle.model.specs.Bounds.{subscriptAt, strays, inArrays}
 use Rattle.model.proofs.Points.ArrayLaws.{off-outside, arrays-inside, accepted-arrays}
 use Rattle.model.proofs.Points.PointLaws.{iterations-inside}
@@ -34,7 +34,7 @@ use Rattle.squeeze.specs.Squeezed.{limited}
 -- ---- a nest on flat slices
 
 module _ (s : List ℤ) (c : List ℕ) (depth : ℕ) (o : NestOk s c depth) where
-  sized : (k j n : ℕ) → k ≤ 6 → (j + n) * 8 ≤ 1536 → Sized k (limitsAt s k j n)
+  sized : (k j n : ℕ) → k ≤ 6 → (j + n) * 8 ≤ nestRoom → Sized k (limitsAt s k j n)
   unfolding limitAt
   sized k j n h g = limits-all (λ (l : Limit). length (l .coefficients) ≡ k) s k j n
       (λ i q. let w = o .words in let d = length-drop ((j + i) * 8 + 2) s in length-take-le k (drop ((j + i) * 8 + 2) s) (omega arith))

@@ -6,11 +6,13 @@ use Prim.Native.Nat.{ℕ, _*_, _≤_, _<_}
 use lib.Dec.{ltb}
 use lib.IntN.{ℤ}
 use lib.ListN.{length, getD}
+use Rattle.model.specs.Grammar.{mostStatements, arrayRoom}
+use Rattle.model.specs.Directions.{kindCount}
 use Rattle.elements.specs.Layout.{AccessesOk}
 use Rattle.extremes.specs.declared.Range.{Range}
 use Rattle.extremes.specs.Ranges.{RangesIn}
 use Rattle.banerjee.specs.Covers.{Covers}
-use Rattle.vectors.specs.Numbers.{placeOf}
+use Rattle.vectors.specs.Numbers.{placeOf, marksFor}
 use Rattle.dependence.specs.Flat.{kindOf}
 
 -- the words of all accesses, the array of each, the arrays, the loops and their ranges; of each access its statement and whether it writes; how many
@@ -35,8 +37,8 @@ pub record PairsIn (F : Pairs) (m : List Bool) : Type 0 where
   pub as-many-statements : length (F .statements) ≡ length (F .owners)
   pub as-many-writes : length (F .writes) ≡ length (F .owners)
   pub in-body : (a : ℕ) → a < length (F .owners) → getD (F .statements) a 0 < F .body
-  pub few : F .body ≤ 4
-  pub room : F .body * F .body * 2187 ≤ length m
+  pub few : F .body ≤ mostStatements
+  pub room : marksFor (F .body) ≤ length m
 
 -- access a as the source and access b as the sink
 abbrev pub kindAt : Pairs → ℕ → ℕ → ℕ
@@ -44,8 +46,8 @@ kindAt F a b = kindOf (getD (F .writes) a false) (getD (F .writes) b false)
 
 abbrev pub PairCovered : Pairs → List Bool → ℕ → ℕ → Type 0
 PairCovered F m a b =
-    kindAt F a b < 3 → getD (F .owners) a 0 ≡ getD (F .owners) b 0
-    → Covers (F .words) a b (getD (F .arrays) (getD (F .owners) a 0 * 4) 0) (F .depth) (F .ranges) (ltb (getD (F .statements) a 0) (getD (F .statements) b 0))
+    kindAt F a b < kindCount → getD (F .owners) a 0 ≡ getD (F .owners) b 0
+    → Covers (F .words) a b (getD (F .arrays) (getD (F .owners) a 0 * arrayRoom) 0) (F .depth) (F .ranges) (ltb (getD (F .statements) a 0) (getD (F .statements) b 0))
     (placeOf (F .body) (getD (F .statements) a 0) (getD (F .statements) b 0) (kindAt F a b) 0) m
 
 -- with every sink below n

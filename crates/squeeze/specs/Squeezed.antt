@@ -8,6 +8,7 @@ use lib.ListN.{length, getD}
 use Rattle.model.specs.Answer.{accepted}
 use Rattle.model.specs.Bounds.{admitted}
 use Rattle.model.specs.Quick.{ranges}
+use Rattle.vectors.specs.Numbers.{marksFor}
 use Rattle.extremes.specs.declared.Range.{Range}
 use Rattle.extremes.specs.Ranges.{rangesOf, RangesIn}
 use Rattle.dependence.specs.Flat.{Use, uses}
@@ -53,7 +54,7 @@ pub record RangesOn (P : Sheet) (rs : List Range) : Type 0 where
 
 -- n statements have this many marks
 abbrev pub Room : Sheet → List Bool → Type 0
-Room P m = P .statements * P .statements * 2187 ≤ length m
+Room P m = marksFor (P .statements) ≤ length m
 
 pub record CoverIn (P : Sheet) (rs : List Range) (m : List Bool) : Type 0 where
   pub sheet : SheetIn P

@@ -12,6 +12,11 @@ ghost use Rattle.squeeze.specs.Squeezed.{Recounted, SheetCovered, CoverI
 use admission::Counted;
 use corner::Part;
 use extremes::Range;
+use model::ACCESS_ROOM;
+use model::ARRAY_ROOM;
+use model::KINDS;
+use model::NEST_ROOM;
+use model::SIDES;
 use sheet::Outline;
 
 // ---- pairs of accesses, all lent as flat slices
@@ -34,7 +39,7 @@ fn pair_covered(
     ensures { λ r. ⌜ (r ≡ true → PairCovered (pairs (now (words .entry)) (now (owners .entry)) (now (arrays .entry)) depth ranges (now (statements .entry)) (now (writes .entry)) body) (now (marks .entry)) a b) ⌝ }
 {
     let k = dependence::kind(writes[a], writes[b]);
-    if 3 <= k {
+    if KINDS <= k {
         return true;
     }
     if owners[a] != owners[b] {
@@ -47,7 +52,7 @@ fn pair_covered(
         words,
         a,
         b,
-        arrays[owners[a] * 4],
+        arrays[owners[a] * ARRAY_ROOM],
         depth,
         ranges,
         s < t,
@@ -148,9 +153,9 @@ fn sheet_covered(
     let writes = uses.writes;
     let accesses = outline.accesses;
     covered(
-        &words[..accesses * 24],
+        &words[..accesses * ACCESS_ROOM],
         &owners[..accesses],
-        &extents[..outline.arrays * 4],
+        &extents[..outline.arrays * ARRAY_ROOM],
         outline.depth,
         ranges,
         &statements[..accesses],
@@ -192,7 +197,7 @@ fn copy(out: &mut [i16], from: &[i16])
     }
 }
 
-fn with_counts(outline: Outline, counts: [usize; 12]) -> Outline
+fn with_counts(outline: Outline, counts: [usize; SIDES]) -> Outline
     ensures { λ r. ⌜ Recounted outline counts r ⌝ }
 {
     let extents = outline.extents;
@@ -228,7 +233,7 @@ fn mark_part(
 {
     let depth = outline.depth;
     let mut counts = outline.counts;
-    let mut few = [0i16; 1536];
+    let mut few = [0i16; NEST_ROOM];
     copy(&mut few, limits);
     corner::cut_part(&mut few, &mut counts, depth, ranges, part);
     let narrow = with_counts(outline, counts);

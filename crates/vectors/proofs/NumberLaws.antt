@@ -1,4 +1,4 @@
--- Numbers of vectors. In order: digits; numbers of one length rise; numbers below 729; a vector is given by its number; the numbers of
+-- Numbers of vectors. In order: digits; numbers of one length rise; numbers below vectorCount; a vector is given by its number; the numbers of
 -- vectors of d loops; points in order have a number below 364.
 use mathlib.Core.Path.{_≡_, refl, ap, ap₂, _∙_, subst}
 use mathlib.Core.Bool.{true, false}
@@ -14,7 +14,7 @@ use mir.Val.{SFits, ofZ, toZ}
 use Rattle.integers.specs.Sign.{Sign, less, equal, greater, sign}
 use Rattle.integers.proofs.RangeLaws.{back}
 use Rattle.integers.proofs.SignLaws.{sign-self}
-use Rattle.model.specs.Directions.{signs, earlier, bySign}
+use Rattle.model.specs.Directions.{signs, earlier, bySign, vectorCount}
 use Rattle.model.specs.Inside.{Earlier}
 use Rattle.vectors.specs.Numbers.{digit, numberAfter, number}
 use Rattle.vectors.specs.Candidates.{stride, middle}
@@ -94,11 +94,11 @@ after-append (s ∷ v) w n = after-append v w (n * 3 + digit s)
 pub padded : (v : List Sign) → length v ≤ 6 → length (v ++ replicate (6 - length v) equal) ≡ 6
 padded v h = let a = length-append v (replicate (6 - length v) equal) in let b = length-replicate (6 - length v) equal in omega arith
 
-scaled-six : (k : ℕ) → k ≡ 6 → scaled k (0 + 1) ≡ 729
+scaled-six : (k : ℕ) → k ≡ 6 → scaled k (0 + 1) ≡ vectorCount
 unfolding scaled
 scaled-six k e = rw e
 
-pub number-lt : (v : List Sign) → length v ≤ 6 → number v < 729
+pub number-lt : (v : List Sign) → length v ≤ 6 → number v < vectorCount
 unfolding number
 number-lt v h = let w : List Sign = v ++ replicate (6 - length v) equal in let a = after-lt w 0 in let b = scaled-six (length w) (padded v h) in omega arith
 

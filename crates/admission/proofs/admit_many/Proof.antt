@@ -1,8 +1,10 @@
 -- `admit_many`: by the ranges, or by the points, which are not kept.
 use mathlib.Core.Path.{sym}
+use Prim.Native.Nat.{_*_}
 use Rattle.enclosure.proofs.InsideLaws.{stays-admitted}
 use Rattle.admission.proofs.AdmissionLaws.{list-in, admits-by}
 use borrow.Author.Needs.{needs}
+use Rattle.model.specs.Grammar.{ticketLoops, mostPoints}
 use Rattle.admission.proofs.admit_many.Statement.{statement}
 use Rattle.admission.proofs.admit_many.Tie as tie
 
@@ -16,7 +18,7 @@ slice-aggregate-list-points : tie.Need-slice-aggregate-list-points
 slice-aggregate-list-points c = search needs
 
 list-points-requires : tie.Need-list-points-requires
-list-points-requires c κs = let s = c .before .before .before in list-in _ 16384 (s .pre)
+list-points-requires c κs = let s = c .before .before .before in list-in _ (ticketLoops * mostPoints) (s .pre)
 
 slice-aggregate-find-stray : tie.Need-slice-aggregate-find-stray
 slice-aggregate-find-stray c = search needs

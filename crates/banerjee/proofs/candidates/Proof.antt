@@ -5,6 +5,7 @@ use native.Mathlib.Nat.{div-le-self}
 use Rattle.vectors.proofs.NumberLaws.{stride-positive}
 use Rattle.banerjee.proofs.CoverLaws.{some-quotient, candidates-own, candidates-before}
 use borrow.Author.Needs.{needs}
+use Rattle.model.specs.Directions.{vectorCount}
 use Rattle.banerjee.proofs.candidates.Statement.{statement}
 use Rattle.banerjee.proofs.candidates.Tie as tie
 
@@ -18,7 +19,7 @@ sub-before : tie.Need-sub-before
 sub-before c = let e = c .stride .ensures .0 in let h = stride-positive (6 - c .before .args .n) in let l = c .stride .ensures .1 in some-quotient (let z : 0 < c .stride .result = omega arith in z) l
 
 add-result : tie.Need-add-result
-add-result c = let h = div-le-self 729 (c .before .stride .result) in omega arith
+add-result c = let h = div-le-self vectorCount (c .before .stride .result) in omega arith
 
 returns : tie.Need-returns
 returns c = candidates-own (c .before .before .args .n) (c .before .before .args .own) (c .before .stride .ensures .0) (c .if1 .taken)

@@ -9,6 +9,8 @@ use mathlib.Core.List.{List}
 use lib.ListN.{length, length-replicate}
 use borrow.Author.Needs.{needs}
 use borrow.Author.Tests.{not-true, not-false}
+use Rattle.model.specs.Grammar.{mostPoints}
+use Rattle.model.specs.Directions.{vectorCount}
 use Rattle.vectors.proofs.DepthLaws.{depth-positive}
 use Rattle.chains.specs.Search.{Adds, found, LevelElse}
 use Rattle.chains.proofs.FullLaws.{Looking, look-begins, look-again, look-known, look-goes-on, left-early}
@@ -23,14 +25,14 @@ Inv-loop points depth from to own base next start marks₀ step end varying₀ k
 abbrev μ-loop : tie.MeasureT-loop
 μ-loop points depth from to own base next start marks₀ step end varying₀ known₀ v₀ spent₀ y₀ marks varying known v spent y = length from - y
 
-half-le : (s : ℕ) → s ≤ 729 → (s - 1) / 2 ≤ 364
+half-le : (s : ℕ) → s ≤ vectorCount → (s - 1) / 2 ≤ 364
 half-le s h = omega arith
 
 abbrev top : tie.At-loop Inv-loop μ-loop → tie.Start Inv-loop μ-loop
 top c = c .before .before .before .before .before .before .before .before .before
 
 -- no walk takes more steps than there are points
-light : (c : tie.After-slice-known2 Inv-loop μ-loop) → (let a = c .before .before .before .before .before .before .before in a .loop .spent + c .before .before .walk .result ≤ (a .loop .y + 1) * 4096)
+light : (c : tie.After-slice-known2 Inv-loop μ-loop) → (let a = c .before .before .before .before .before .before .before in a .loop .spent + c .before .before .walk .result ≤ (a .loop .y + 1) * mostPoints)
 light c = let a = c .before .before .before .before .before .before .before in let s = top a .args in let w = c .before .before .before .before .wide in
     let f = first-le (s .points .now) (s .depth) (s .from .now) (s .to .now) (s .own) (s .base) (s .next .now) (s .start .now) (s .marks .now) (a .loop .marks) (a .loop .spent) (a .loop .y) (w .result) (c .before .before .before .before .before .before .loop-test .taken) (w .ensures) (a .loop .inv .0) in
     let p = top a .pre .0 .few in let i = a .loop .inv .0 .light in let r = c .before .before .walk .ensures .0 in omega arith

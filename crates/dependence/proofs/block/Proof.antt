@@ -1,12 +1,13 @@
 -- `block`: the place of the first mark.
 use Prim.Native.Nat.{_+_, _*_, _≤_}
 use native.Mathlib.Omega.{arith}
-use Rattle.vectors.specs.Numbers.{placeOf}
+use Rattle.model.specs.Directions.{vectorCount}
+use Rattle.vectors.specs.Numbers.{placeOf, pairMarks}
 use Rattle.dependence.proofs.FlatLaws.{block-fits}
 use Rattle.dependence.proofs.block.Statement.{statement}
 use Rattle.dependence.proofs.block.Tie as tie
 
-fits : (c : tie.Start) → placeOf (c .args .body) (c .args .s) (c .args .t) (c .args .k) 0 + 729 ≤ c .args .body * c .args .body * 2187
+fits : (c : tie.Start) → placeOf (c .args .body) (c .args .s) (c .args .t) (c .args .k) 0 + vectorCount ≤ c .args .body * c .args .body * pairMarks
 fits c = let a = c .args in block-fits (a .body) (a .s) (a .t) (a .k) (c .pre .1) (c .pre .2) (c .pre .3)
 
 mul-result : tie.Need-mul-result

@@ -5,6 +5,7 @@ use native.Mathlib.Omega.{arith}
 use Rattle.dependence.specs.Flat.{Flat, flat}
 use Rattle.dependence.proofs.FlatLaws.{lent-clear}
 use borrow.Author.Needs.{needs}
+use Rattle.model.specs.Grammar.{mostPoints}
 use Rattle.dependence.proofs.dependences_in_large.Statement.{statement}
 use Rattle.dependence.proofs.dependences_in_large.Tie as tie
 
@@ -42,7 +43,7 @@ slice-aggregate-from-all-6 : tie.Need-slice-aggregate-from-all-6
 slice-aggregate-from-all-6 c = search needs
 
 from-all-requires-2 : tie.Need-from-all-requires-2
-from-all-requires-2 c κs = let s = c .before .before .before .before .before .before .before .before .before .before in (s .pre .0, lent-clear (nest s) (s .args .elements) 4096 16384 (s .pre .1) (s .pre .0 .few) (s .pre .1 .few) (omega arith))
+from-all-requires-2 c κs = let s = c .before .before .before .before .before .before .before .before .before .before in (s .pre .0, lent-clear (nest s) (s .args .elements) mostPoints 16384 (s .pre .1) (s .pre .0 .few) (s .pre .1 .few) (omega arith))
 
 same-length-2 : tie.Need-same-length-2
 same-length-2 c = search needs

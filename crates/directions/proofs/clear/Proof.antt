@@ -5,6 +5,7 @@ use mathlib.Core.List.{List}
 use Prim.Native.Nat.{_-_, _<_}
 use native.Mathlib.Omega.{arith}
 use Rattle.integers.specs.Sign.{Sign}
+use Rattle.model.specs.Directions.{vectorCount}
 use Rattle.vectors.proofs.DepthLaws.{depth-positive}
 use Rattle.directions.proofs.SetLaws.{none-marked, Filling, fill-first, fill-next, fill-all}
 use Rattle.directions.proofs.clear.Statement.{statement}
@@ -17,7 +18,7 @@ abbrev Inv-loop : tie.InvT-loop
 Inv-loop marks₀ depth step n₀ marks n = Filling nothing depth marks₀ marks n
 
 abbrev μ-loop : tie.MeasureT-loop
-μ-loop marks₀ depth step n₀ marks n = 729 - n
+μ-loop marks₀ depth step n₀ marks n = vectorCount - n
 
 abbrev start : tie.After-stride Inv-loop μ-loop → tie.Start Inv-loop μ-loop
 start c = c .before .before

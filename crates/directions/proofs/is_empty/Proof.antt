@@ -2,6 +2,7 @@
 use mathlib.Core.Path.{_≡_}
 use Prim.Native.Nat.{ℕ, _-_, _<_}
 use native.Mathlib.Omega.{arith}
+use Rattle.model.specs.Directions.{vectorCount}
 use Rattle.vectors.proofs.DepthLaws.{OfDepth, depth-positive, depth-first, depth-next}
 use Rattle.directions.proofs.EmptyLaws.{NoneBelow, none-first, none-next, none-at-all}
 use Rattle.directions.proofs.is_empty.Statement.{statement}
@@ -11,7 +12,7 @@ abbrev Inv-loop : tie.InvT-loop
 Inv-loop marks depth step n₀ n = OfDepth depth n × NoneBelow marks depth n
 
 abbrev μ-loop : tie.MeasureT-loop
-μ-loop marks depth step n₀ n = 729 - n
+μ-loop marks depth step n₀ n = vectorCount - n
 
 abbrev start : tie.After-stride Inv-loop μ-loop → tie.Start Inv-loop μ-loop
 start c = c .before .before

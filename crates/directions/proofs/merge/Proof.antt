@@ -6,6 +6,7 @@ use Prim.Native.Nat.{_-_, _≤_, _<_}
 use native.Mathlib.Omega.{arith}
 use lib.ListN.{getD}
 use Rattle.integers.specs.Sign.{Sign}
+use Rattle.model.specs.Directions.{vectorCount}
 use Rattle.preimages.specs.Numbers.{number, marked}
 use Rattle.vectors.proofs.DepthLaws.{depth-positive}
 use Rattle.directions.proofs.SetLaws.{Filling, fill-first, fill-next, fill-all, merged-row}
@@ -19,7 +20,7 @@ abbrev Inv-loop : tie.InvT-loop
 Inv-loop marks₀ row depth step n₀ marks n = Filling (both marks₀ row) depth marks₀ marks n
 
 abbrev μ-loop : tie.MeasureT-loop
-μ-loop marks₀ row depth step n₀ marks n = 729 - n
+μ-loop marks₀ row depth step n₀ marks n = vectorCount - n
 
 abbrev start : tie.After-stride Inv-loop μ-loop → tie.Start Inv-loop μ-loop
 start c = c .before .before .before

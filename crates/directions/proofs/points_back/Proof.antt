@@ -1,6 +1,7 @@
 -- `points_back`: n is a number of the depth beyond 364, and none that was passed is marked.
 use Prim.Native.Nat.{_-_, _<_}
 use native.Mathlib.Omega.{arith}
+use Rattle.model.specs.Directions.{vectorCount}
 use Rattle.vectors.proofs.DepthLaws.{OfDepth, depth-positive, depth-middle, depth-next}
 use Rattle.directions.proofs.BackLaws.{NoneBack, none-first, none-next, one-back, no-back}
 use Rattle.directions.proofs.points_back.Statement.{statement}
@@ -10,7 +11,7 @@ abbrev Inv-loop : tie.InvT-loop
 Inv-loop marks depth step n₀ n = (364 < n) × OfDepth depth n × NoneBack marks depth n
 
 abbrev μ-loop : tie.MeasureT-loop
-μ-loop marks depth step n₀ n = 729 - n
+μ-loop marks depth step n₀ n = vectorCount - n
 
 abbrev start : tie.After-stride Inv-loop μ-loop → tie.Start Inv-loop μ-loop
 start c = c .before .before

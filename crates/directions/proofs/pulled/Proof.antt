@@ -7,6 +7,7 @@ use native.Mathlib.Omega.{arith}
 use lib.ListN.{replicate, length-replicate}
 use borrow.Author.Needs.{needs}
 use Rattle.integers.specs.Sign.{Sign}
+use Rattle.model.specs.Directions.{vectorCount}
 use Rattle.vectors.proofs.DepthLaws.{depth-positive}
 use Rattle.directions.specs.Changes.{came}
 use Rattle.directions.proofs.SetLaws.{Filling, fill-first, fill-next, fill-all}
@@ -14,10 +15,10 @@ use Rattle.directions.proofs.pulled.Statement.{statement}
 use Rattle.directions.proofs.pulled.Tie as tie
 
 abbrev Inv-loop : tie.InvT-loop
-Inv-loop change depth old marks₀ step n₀ marks n = Filling (came old change) depth (replicate 729 false) marks n
+Inv-loop change depth old marks₀ step n₀ marks n = Filling (came old change) depth (replicate vectorCount false) marks n
 
 abbrev μ-loop : tie.MeasureT-loop
-μ-loop change depth old marks₀ step n₀ marks n = 729 - n
+μ-loop change depth old marks₀ step n₀ marks n = vectorCount - n
 
 abbrev start : tie.After-stride Inv-loop μ-loop → tie.Start Inv-loop μ-loop
 start c = c .before .before .before
@@ -40,8 +41,8 @@ sub-n c = positive c
 loop-holds : tie.Need-loop-holds Inv-loop μ-loop
 loop-holds c =
     let s = start c in
-    subst (λ m. Filling (wanted s) (s .args .depth) (replicate 729 false) m ((c .stride .result - 1) / 2)) (sym (c .before .no-marks .ensures))
-    (fill-first (wanted s) (s .args .depth) (replicate 729 false) (s .pre .few) (c .stride .result) (c .stride .ensures .0) (length-replicate 729 false))
+    subst (λ m. Filling (wanted s) (s .args .depth) (replicate vectorCount false) m ((c .stride .result - 1) / 2)) (sym (c .before .no-marks .ensures))
+    (fill-first (wanted s) (s .args .depth) (replicate vectorCount false) (s .pre .few) (c .stride .result) (c .stride .ensures .0) (length-replicate vectorCount false))
 
 comes-requires : tie.Need-comes-requires Inv-loop μ-loop
 comes-requires c κs =
@@ -66,7 +67,7 @@ loop-again c =
     let l = c .before .before .before .loop in
     let few = s .pre .few in
     let inside = s .pre .inside in
-    fill-next (wanted s) (s .args .depth) (replicate 729 false) few (a .stride .result) (a .stride .ensures .0) (l .marks) (l .n) (l .inv) (c .comes .result)
+    fill-next (wanted s) (s .args .depth) (replicate vectorCount false) few (a .stride .result) (a .stride .ensures .0) (l .marks) (l .n) (l .inv) (c .comes .result)
     (c .before .before .loop-test .taken) (λ v k. c .comes .ensures v (omega arith) (omega arith))
 
 returns : tie.Need-returns Inv-loop μ-loop
@@ -76,7 +77,7 @@ returns c =
     let l = c .before .loop in
     record {
       depth = refl;
-      marks = fill-all (wanted s) (s .args .depth) (replicate 729 false) (s .pre .few) (a .stride .result) (a .stride .ensures .0) (l .marks) (l .n) (l .inv) (c .loop-test .left);
+      marks = fill-all (wanted s) (s .args .depth) (replicate vectorCount false) (s .pre .few) (a .stride .result) (a .stride .ensures .0) (l .marks) (l .n) (l .inv) (c .loop-test .left);
     }
 
 pub pulled-spec : {M : Type 1} → statement M

@@ -1,8 +1,10 @@
 -- `find_many`: 9, or the lines by the points.
+use Prim.Native.Nat.{_*_}
 use native.Mathlib.Omega.{arith}
 use Rattle.admission.proofs.AdmissionLaws.{list-in}
 use Rattle.finding.proofs.FindingLaws.{finds-refused, finds-fine, markable}
 use borrow.Author.Needs.{needs}
+use Rattle.model.specs.Grammar.{ticketLoops, mostPoints}
 use Rattle.finding.proofs.find_many.Statement.{statement}
 use Rattle.finding.proofs.find_many.Tie as tie
 
@@ -22,7 +24,7 @@ clear-requires : tie.Need-clear-requires
 clear-requires c κs = search needs
 
 mark-many-requires : tie.Need-mark-many-requires
-mark-many-requires c κs = let s = c .before .before .before .before .before .before .before .before .before in let a = c .before .before .before .before .before .before .before .admit-many in let z = c .before .before .before .clear in let r = s .pre .2 in (markable _ (a .result) (a .ensures) (c .before .before .before .before .before .enum-told .given .1) (s .pre .0) _ (z .ensures .0) (omega (arith, z .ensures .1)), list-in _ 16384 (s .pre .1))
+mark-many-requires c κs = let s = c .before .before .before .before .before .before .before .before .before in let a = c .before .before .before .before .before .before .before .admit-many in let z = c .before .before .before .clear in let r = s .pre .2 in (markable _ (a .result) (a .ensures) (c .before .before .before .before .before .enum-told .given .1) (s .pre .0) _ (z .ensures .0) (omega (arith, z .ensures .1)), list-in _ (ticketLoops * mostPoints) (s .pre .1))
 
 same-length : tie.Need-same-length
 same-length c = search needs

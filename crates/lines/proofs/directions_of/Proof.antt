@@ -4,6 +4,8 @@ use Prim.Native.Nat.{_+_, _*_, _-_, _≤_, _<_}
 use native.Mathlib.Omega.{arith}
 use lib.ListN.{length}
 use borrow.Author.Needs.{needs}
+use Rattle.model.specs.Grammar.{mostStatements}
+use Rattle.model.specs.Directions.{kindCount, vectorCount}
 use Rattle.lines.proofs.DirectionLaws.{blocks-few, row-ends, row-length, Merging, merge-none, merge-next, merge-all}
 use Rattle.lines.proofs.directions_of.Statement.{statement}
 use Rattle.lines.proofs.directions_of.Tie as tie
@@ -17,7 +19,7 @@ abbrev μ-loop : tie.MeasureT-loop
 abbrev top : tie.At-loop Inv-loop μ-loop → tie.Start Inv-loop μ-loop
 top c = c .before .before .before .before .before .before .before
 
-ends : (c : tie.In-loop Inv-loop μ-loop) → (c .before .loop .b < 48) × (c .before .loop .b * 729 + 729 ≤ length (top (c .before) .args .marks .now))
+ends : (c : tie.In-loop Inv-loop μ-loop) → (c .before .loop .b < mostStatements * mostStatements * kindCount) × (c .before .loop .b * vectorCount + vectorCount ≤ length (top (c .before) .args .marks .now))
 ends c = let s = top (c .before) in row-ends (s .args .marks .now) (s .args .n) (s .args .depth) (s .pre .0) (c .before .loop .b) (c .loop-test .taken)
 
 mul-blocks : tie.Need-mul-blocks Inv-loop μ-loop

@@ -4,7 +4,7 @@ use mathlib.Core.Bool.{false}
 use Prim.Native.Nat.{_+_, _*_, _-_, _/_, _<_}
 use native.Mathlib.Omega.{arith}
 use lib.ListN.{length, getD}
-use Rattle.vectors.specs.Numbers.{place}
+use Rattle.vectors.specs.Numbers.{place, marksFor}
 use Rattle.vectors.proofs.NumberLaws.{stride-positive}
 use Rattle.listing_text.specs.Text.{lineAt, marked}
 use Rattle.listing_text.proofs.IndexLaws.{line-at, mark-at}
@@ -13,7 +13,7 @@ use Rattle.listing_text.proofs.mark.Statement.{statement}
 use Rattle.listing_text.proofs.mark.Tie as tie
 
 at : (c : tie.After-stride) → (let s = c .before .before in let n = s .args .n in let i = s .args .i in let p = c .stride .result in
-    (place n (lineAt n (s .args .depth) i) ≡ i * p + (p - 1) / 2) × (i * p + (p - 1) / 2 < n * n * 2187))
+    (place n (lineAt n (s .args .depth) i) ≡ i * p + (p - 1) / 2) × (i * p + (p - 1) / 2 < marksFor n))
 at c = let s = c .before .before in mark-at (s .args .n) (s .args .depth) (s .args .i) (c .stride .result) (s .pre .0 .shallow) (c .stride .ensures .0) (line-at (s .args .n) (s .args .depth) (s .args .i) (s .pre .1))
 
 inside : (c : tie.After-stride) → (let s = c .before .before in s .args .i * c .stride .result + (c .stride .result - 1) / 2 < length (s .args .marks .now))

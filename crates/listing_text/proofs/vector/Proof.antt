@@ -6,6 +6,7 @@ use Rattle.vectors.specs.Candidates.{stride, middle}
 use Rattle.vectors.proofs.NumberLaws.{stride-positive}
 use Rattle.listing_text.proofs.IndexLaws.{power-is, vector-is}
 use borrow.Author.Needs.{needs}
+use Rattle.model.specs.Directions.{vectorCount}
 use Rattle.listing_text.proofs.vector.Statement.{statement}
 use Rattle.listing_text.proofs.vector.Tie as tie
 
@@ -13,7 +14,7 @@ abbrev power : (c : tie.After-stride2) → (c .stride2 .result ≡ stride (c .be
 power c = power-is (c .before .before .args .depth) (c .stride2 .result) (c .before .before .pre) (c .stride2 .ensures .0)
 
 whole : (c : tie.After-stride2) → (let d = c .before .before .args .depth in let i = c .before .before .args .i in let s = c .before .stride .result in let p = c .stride2 .result in
-    (i % p * s + (s - 1) / 2 ≡ i % stride d * stride (6 - d) + middle (6 - d)) × (i % p * s + (s - 1) / 2 < 729))
+    (i % p * s + (s - 1) / 2 ≡ i % stride d * stride (6 - d) + middle (6 - d)) × (i % p * s + (s - 1) / 2 < vectorCount))
 whole c = vector-is (c .before .before .args .depth) (c .before .before .args .i) (c .before .stride .result) (c .stride2 .result) (c .before .before .pre) (power c .0) (c .before .stride .ensures .0)
 
 stride-requires : tie.Need-stride-requires

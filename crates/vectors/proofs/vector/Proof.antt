@@ -3,7 +3,7 @@ use mathlib.Core.Path.{_≡_}
 use Prim.Native.Nat.{_+_, _*_, _-_, _/_, _<_}
 use native.Mathlib.Omega.{arith}
 use lib.ListN.{length}
-use Rattle.model.specs.Directions.{signs}
+use Rattle.model.specs.Directions.{signs, vectorCount}
 use Rattle.vectors.specs.Numbers.{number}
 use Rattle.vectors.proofs.NumberLaws.{stride-positive}
 use Rattle.vectors.proofs.VectorLaws.{number-padded}
@@ -12,7 +12,7 @@ use Rattle.vectors.proofs.vector.Statement.{statement}
 use Rattle.vectors.proofs.vector.Tie as tie
 
 whole : (c : tie.After-digits) → (let s = c .before in let w = c .digits .result in let t = s .args .step in
-    (w * t + (t - 1) / 2 ≡ number (signs (s .args .p .now) (s .args .q .now))) × (w * t + (t - 1) / 2 < 729))
+    (w * t + (t - 1) / 2 ≡ number (signs (s .args .p .now) (s .args .q .now))) × (w * t + (t - 1) / 2 < vectorCount))
 whole c = let s = c .before in number-padded (s .args .p .now) (s .args .q .now) (s .pre .0) (c .digits .result) (s .args .step) (c .digits .ensures) (s .pre .1)
 
 digits-requires : tie.Need-digits-requires
