@@ -20,7 +20,6 @@ use Rattle.sheet.specs.Sheets.{Sheet, extentsIn, sizesIn, ownersIn, wordsIn, st
 use Rattle.sheet.proofs.SheetLaws.{owners-count, sizes-count}
 use Rattle.writing.specs.Writing.{Writable, Written}
 use Rattle.lengths.specs.Slices.{statementAt, statementsAt, nestAt, SlicesIn}
-use Rattle.lengths.specs.Lengths.{ArraysIn}
 use Rattle.encoding.specs.declared.Encoded.{Encoded}
 use Rattle.encoding.specs.declared.Encoded.the-variants.{Complete, TooShort}
 use Rattle.encoding.specs.Encodable.{StatementsIn, Encodable, SheetEncodable}
@@ -29,25 +28,22 @@ use Rattle.encoding.proofs.StatementLaws.{first, second, third, fourth,
 
 -- ---- sections
 
-module _ (s : List ℤ) (c : List ℕ) (n : ℕ) (a ms rs es o : List ℕ) (w : List ℤ) where
+module _ (s : List ℤ) (c : List ℕ) (n : ℕ) (v a ms rs es o : List ℕ) (w : List ℤ) where
   abbrev loops : List ℤ
   loops = counted loopWords (loopsFrom s c 0 n)
 
   abbrev arrays : List ℤ
-  arrays = counted arrayWords (arraysOf a)
+  arrays = counted arrayWords (arraysOf v)
 
   abbrev statements : List ℤ
   statements = counted statementWords (statementsAt w o a n rs es 0 0 ms)
 
-  module _ (p : SlicesIn s c n a ms rs es o w) where
-    pub arrays-in : ArraysIn a
-    arrays-in = record { few = p .accesses .few; dimensions = p .accesses .dimensions }
-
+  module _ (p : SlicesIn s c n v a ms rs es o w) where
     pub statements-in : StatementsIn w o a n ms rs es
     statements-in = let t = p .all-accesses in
         record { accesses = p .accesses; all-accesses = omega arith; each = p .each; few = p .few-statements; rules = p .rules; constants = p .constants }
 
-  module _ {out : List ℕ} {at : ℕ} (h : Writable out at (nestWords (nestAt s c n a ms rs es o w))) where
+  module _ {out : List ℕ} {at : ℕ} (h : Writable out at (nestWords (nestAt s c n v a ms rs es o w))) where
     pub loops-room : Writable out at loops
     unfolding nestWords nestAt
     loops-room = first loops arrays statements (pos 0 ∷ []) h
@@ -67,7 +63,7 @@ module _ (s : List ℤ) (c : List ℕ) (n : ℕ) (a ms rs es o : List ℕ) (w : 
           unfolding nestWords nestAt
           steps-room = fourth loops arrays statements (pos 0 ∷ []) h v₁ v₂ v₃
 
-          pub sections-written : {o₄ : List ℕ} {t : ℕ} → Written o₃ o₄ r (pos 0 ∷ []) t → Written out o₄ at (nestWords (nestAt s c n a ms rs es o w)) t
+          pub sections-written : {o₄ : List ℕ} {t : ℕ} → Written o₃ o₄ r (pos 0 ∷ []) t → Written out o₄ at (nestWords (nestAt s c n v a ms rs es o w)) t
           unfolding nestWords nestAt
           sections-written v₄ = four loops arrays statements (pos 0 ∷ []) h v₁ v₂ v₃ v₄
 
@@ -98,13 +94,14 @@ module _ (P : Sheet) where
   statements-same k i (m ∷ ms) = ap (statementAt (wordsIn P) (ownersIn P) (extentsIn P) (P .depth) k m (getD (P .rules) i 0) (getD (P .constants) i 0) ∷_) (statements-same (k + m) (suc i) ms)
 
   -- the nest of its slices
-  nest-same : nestAt (P .limits) (P .counts) (P .depth) (extentsIn P) (sizesIn P) (P .rules) (P .constants) (ownersIn P) (wordsIn P) ≡ nestOf P
+  nest-same : nestAt (P .limits) (P .counts) (P .depth) (extentsIn P) (extentsIn P) (sizesIn P) (P .rules) (P .constants) (ownersIn P) (wordsIn P) ≡ nestOf P
   unfolding nestAt nestOf
   nest-same = ap (λ ss. record { loops = loopsFrom (P .limits) (P .counts) 0 (P .depth); arrays = arraysOf (extentsIn P); statements = ss }) (statements-same 0 0 (sizesIn P))
 
-  slices-in : SheetIn P → SlicesIn (P .limits) (P .counts) (P .depth) (extentsIn P) (sizesIn P) (P .rules) (P .constants) (ownersIn P) (wordsIn P)
+  slices-in : SheetIn P → SlicesIn (P .limits) (P .counts) (P .depth) (extentsIn P) (extentsIn P) (sizesIn P) (P .rules) (P .constants) (ownersIn P) (wordsIn P)
   slices-in p = let n = sizes-count P p in let f = p .few-statements in let r = p .rules-length in let e = p .constants-length in record {
     nest = p .nest;
+    written = record { few = p .accesses-ok .few; dimensions = p .accesses-ok .dimensions };
     accesses = p .accesses-ok;
     all-accesses = p .all-accesses ∙ sym (owners-count P p);
     each = p .each;
@@ -113,12 +110,12 @@ module _ (P : Sheet) where
     constants = omega arith;
   }
 
-  pub sheet-encodable : SheetEncodable P → Encodable (P .limits) (P .counts) (P .depth) (extentsIn P) (sizesIn P) (P .rules) (P .constants) (ownersIn P) (wordsIn P)
+  pub sheet-encodable : SheetEncodable P → Encodable (P .limits) (P .counts) (P .depth) (extentsIn P) (extentsIn P) (sizesIn P) (P .rules) (P .constants) (ownersIn P) (wordsIn P)
   sheet-encodable p = record {
     held = slices-in (p .sheet);
     small = subst (λ N. All Small (nestWords N)) (sym nest-same) (subst (All Small) (nest-sections (nestOf P))
         (all-append Small (nestSections (nestOf P)) (pos 0 ∷ []) (nest-small (nestOf P) (omega arith) (omega arith) (p .ranges) (p .formed)) (all-cons Small (omega arith) (all-nil Small))));
   }
 
-  pub sheet-encodes : (o o′ : List ℕ) (r : Encoded) → Encodes (nestAt (P .limits) (P .counts) (P .depth) (extentsIn P) (sizesIn P) (P .rules) (P .constants) (ownersIn P) (wordsIn P)) o o′ r → Encodes (nestOf P) o o′ r
+  pub sheet-encodes : (o o′ : List ℕ) (r : Encoded) → Encodes (nestAt (P .limits) (P .counts) (P .depth) (extentsIn P) (extentsIn P) (sizesIn P) (P .rules) (P .constants) (ownersIn P) (wordsIn P)) o o′ r → Encodes (nestOf P) o o′ r
   sheet-encodes o o′ r h = subst (λ N. Encodes N o o′ r) nest-same h

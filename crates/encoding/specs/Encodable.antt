@@ -31,9 +31,10 @@ pub record StatementsIn (w : List ℤ) (o a : List ℕ) (n : ℕ) (ms rs es : Li
   pub rules : length ms ≤ length rs
   pub constants : length ms ≤ length es
 
-pub record Encodable (s : List ℤ) (c : List ℕ) (n : ℕ) (a ms rs es o : List ℕ) (w : List ℤ) : Type 0 where
-  pub held : SlicesIn s c n a ms rs es o w
-  pub small : All Small (nestWords (nestAt s c n a ms rs es o w))
+-- the arrays on v are written, and the extents on a say how the accesses stand
+pub record Encodable (s : List ℤ) (c : List ℕ) (n : ℕ) (v a ms rs es o : List ℕ) (w : List ℤ) : Type 0 where
+  pub held : SlicesIn s c n v a ms rs es o w
+  pub small : All Small (nestWords (nestAt s c n v a ms rs es o w))
 
 -- every nest of up to 6 loops and 16 limits a side whose numbers are in their ranges
 pub record SheetEncodable (P : Sheet) : Type 0 where

@@ -16,16 +16,16 @@ pub enum Encoded {
 }
 
 // All arrays behind their count, each as it stands: the number of its dimensions, its extents.
-fn put_arrays(out: &mut [u8], at: usize, extents: &[usize]) -> usize
-    requires { ⌜ Writable (now out) at (counted arrayWords (arraysOf (now extents))) × ArraysIn (now extents) ⌝ }
-    ensures { λ r. ⌜ Written (now (out .entry)) (now (out .exit)) at (counted arrayWords (arraysOf (now (extents .entry)))) r ⌝ }
+fn put_arrays(out: &mut [u8], at: usize, arrays: &[usize]) -> usize
+    requires { ⌜ Writable (now out) at (counted arrayWords (arraysOf (now arrays))) × ArraysIn (now arrays) ⌝ }
+    ensures { λ r. ⌜ Written (now (out .entry)) (now (out .exit)) at (counted arrayWords (arraysOf (now (arrays .entry)))) r ⌝ }
 {
-    let count = extents.len() / 4;
+    let count = arrays.len() / 4;
     let mut next = writing::put_natural(out, at, count);
     let mut i = 0;
     while i < count {
-        let n = extents[i * 4];
-        next = writing::put_naturals(out, next, extents, i * 4, n + 1);
+        let n = arrays[i * 4];
+        next = writing::put_naturals(out, next, arrays, i * 4, n + 1);
         i += 1;
     }
     next
@@ -144,6 +144,7 @@ fn put_nest(
     limits: &[i16],
     counts: &[usize],
     n: usize,
+    arrays: &[usize],
     extents: &[usize],
     sizes: &[usize],
     rules: &[usize],
@@ -151,11 +152,11 @@ fn put_nest(
     owners: &[usize],
     words: &[i16],
 ) -> usize
-    requires { ⌜ Writable (now out) 0 (nestWords (nestAt (now limits) (now counts) n (now extents) (now sizes) (now rules) (now constants) (now owners) (now words))) × SlicesIn (now limits) (now counts) n (now extents) (now sizes) (now rules) (now constants) (now owners) (now words) ⌝ }
-    ensures { λ r. ⌜ Written (now (out .entry)) (now (out .exit)) 0 (nestWords (nestAt (now (limits .entry)) (now (counts .entry)) n (now (extents .entry)) (now (sizes .entry)) (now (rules .entry)) (now (constants .entry)) (now (owners .entry)) (now (words .entry)))) r ⌝ }
+    requires { ⌜ Writable (now out) 0 (nestWords (nestAt (now limits) (now counts) n (now arrays) (now extents) (now sizes) (now rules) (now constants) (now owners) (now words))) × SlicesIn (now limits) (now counts) n (now arrays) (now extents) (now sizes) (now rules) (now constants) (now owners) (now words) ⌝ }
+    ensures { λ r. ⌜ Written (now (out .entry)) (now (out .exit)) 0 (nestWords (nestAt (now (limits .entry)) (now (counts .entry)) n (now (arrays .entry)) (now (extents .entry)) (now (sizes .entry)) (now (rules .entry)) (now (constants .entry)) (now (owners .entry)) (now (words .entry)))) r ⌝ }
 {
     let second = writing::put_loops(out, 0, limits, counts, n);
-    let third = put_arrays(out, second, extents);
+    let third = put_arrays(out, second, arrays);
     let fourth = put_statements(
         out,
         third,
@@ -170,11 +171,13 @@ fn put_nest(
     writing::put_natural(out, fourth, 0)
 }
 
-// The bytes of a nest of n loops from the buffer's start on; where they do not fit, nothing is written.
+// The bytes of a nest of n loops in which these arrays are written, from the buffer's start on; where they do not fit, nothing is written.
+// An array's extents say how many subscripts an access has.
 pub fn encode_slices(
     limits: &[i16],
     counts: &[usize],
     n: usize,
+    arrays: &[usize],
     extents: &[usize],
     sizes: &[usize],
     rules: &[usize],
@@ -183,10 +186,10 @@ pub fn encode_slices(
     words: &[i16],
     out: &mut [u8],
 ) -> Encoded
-    requires { ⌜ Encodable (now limits) (now counts) n (now extents) (now sizes) (now rules) (now constants) (now owners) (now words) ⌝ }
-    ensures { λ r. ⌜ Encodes (nestAt (now (limits .entry)) (now (counts .entry)) n (now (extents .entry)) (now (sizes .entry)) (now (rules .entry)) (now (constants .entry)) (now (owners .entry)) (now (words .entry))) (now (out .entry)) (now (out .exit)) r ⌝ }
+    requires { ⌜ Encodable (now limits) (now counts) n (now arrays) (now extents) (now sizes) (now rules) (now constants) (now owners) (now words) ⌝ }
+    ensures { λ r. ⌜ Encodes (nestAt (now (limits .entry)) (now (counts .entry)) n (now (arrays .entry)) (now (extents .entry)) (now (sizes .entry)) (now (rules .entry)) (now (constants .entry)) (now (owners .entry)) (now (words .entry))) (now (out .entry)) (now (out .exit)) r ⌝ }
 {
-    let length = lengths::encoded_length(counts, n, extents, owners, sizes.len());
+    let length = lengths::encoded_length(counts, n, arrays, extents, owners, sizes.len());
     if out.len() < length {
         return Encoded::TooShort(length);
     }
@@ -195,6 +198,7 @@ pub fn encode_slices(
         limits,
         counts,
         n,
+        arrays,
         extents,
         sizes,
         rules,
@@ -212,6 +216,7 @@ pub fn encode_sheet(outline: Outline, limits: &[i16], words: &[i16], out: &mut [
 {
     let counts = outline.counts;
     let depth = outline.depth;
+    let written = outline.extents;
     let extents = outline.extents;
     let sizes = outline.sizes;
     let rules = outline.rules;
@@ -222,6 +227,7 @@ pub fn encode_sheet(outline: Outline, limits: &[i16], words: &[i16], out: &mut [
         limits,
         &counts,
         depth,
+        &written[..outline.arrays * 4],
         &extents[..outline.arrays * 4],
         &sizes[..outline.statements],
         &rules,

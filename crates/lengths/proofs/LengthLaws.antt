@@ -118,7 +118,7 @@ module _ (w : List ℤ) (o a : List ℕ) (n : ℕ) where
 
 -- ---- the nest
 
-module _ (s : List ℤ) (c : List ℕ) (n : ℕ) (a ms rs es o : List ℕ) (w : List ℤ) (p : SlicesIn s c n a ms rs es o w) where
+module _ (s : List ℤ) (c : List ℕ) (n : ℕ) (v a ms rs es o : List ℕ) (w : List ℤ) (p : SlicesIn s c n v a ms rs es o w) where
   all-statements : length (counted statementWords (statementsAt w o a n rs es 0 0 ms)) ≡ length ms * 3 + sums (accessLength o a n) 0 (length o) + 1
   unfolding counted
   all-statements =
@@ -127,17 +127,21 @@ module _ (s : List ℤ) (c : List ℕ) (n : ℕ) (a ms rs es o : List ℕ) (w : 
       ∙ sums-same (g w o a n) (accessLength o a n) 0 (length o) (λ m b. access-length w o a n (p .accesses) (0 + m) (omega arith)) in
       omega arith
 
-  pub length-in : LengthIn c n a o (length ms)
+  pub length-in : LengthIn c n v a o (length ms)
   length-in = let q = p .nest in let r = p .accesses in record {
     loops = record { counts = q .counts; shallow = q .shallow; lower = λ k h. q .lower-count k h .1; upper = λ k h. q .upper-count k h .1 };
+    written = p .written;
     owners = record { arrays = record { few = r .few; dimensions = r .dimensions }; many = r .many; shallow = r .shallow; there = r .there };
     few = p .few-statements;
   }
 
-  pub nest-length : nestLength c n a o (length ms) * 2 ≡ length (encode (nestAt s c n a ms rs es o w))
+  nest-length : nestLength c n v a o (length ms) * 2 ≡ length (encode (nestAt s c n v a ms rs es o w))
   unfolding nestLength nestWords nestAt
   nest-length =
-      let L = counted loopWords (loopsFrom s c 0 n) in let R = counted arrayWords (arraysOf a) in let S = counted statementWords (statementsAt w o a n rs es 0 0 ms) in
-      let x = loops-length s c n (p .nest) in let y = arrays-long a (p .accesses .dimensions) in let z = all-statements in
+      let L = counted loopWords (loopsFrom s c 0 n) in let R = counted arrayWords (arraysOf v) in let S = counted statementWords (statementsAt w o a n rs es 0 0 ms) in
+      let x = loops-length s c n (p .nest) in let y = arrays-long v (p .written .dimensions) in let z = all-statements in
       let d = length-append L (R ++ (S ++ (pos 0 ∷ []))) in let f = length-append R (S ++ (pos 0 ∷ [])) in let h = length-append S (pos 0 ∷ []) in
-      let e = encode-length (nestAt s c n a ms rs es o w) in omega arith
+      let e = encode-length (nestAt s c n v a ms rs es o w) in omega arith
+
+  pub length-is : {r : ℕ} → r ≡ nestLength c n v a o (length ms) * 2 → r ≡ length (encode (nestAt s c n v a ms rs es o w))
+  length-is e = e ∙ nest-length

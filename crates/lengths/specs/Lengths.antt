@@ -21,10 +21,11 @@ arrayLength a i = getD a (i * 4) 0 + 1
 unfoldable pub accessLength : List ℕ → List ℕ → ℕ → ℕ → ℕ
 accessLength o a n k = getD a (getD o k 0 * 4) 0 * (n + 1) + 1
 
--- all sections behind their counts, m statements with rule, constant and count of reads each, and the count of steps
-unfoldable pub nestLength : List ℕ → ℕ → List ℕ → List ℕ → ℕ → ℕ
-nestLength c depth a o m =
-    sums (loopLength c) 0 depth + sums (arrayLength a) 0 (length a / 4) + sums (accessLength o a depth) 0 (length o) + (m * 3 + 4)
+-- all sections behind their counts, m statements with rule, constant and count of reads each, and the count of steps; the arrays on v are
+-- written, and the extents on a say how many subscripts an access has
+unfoldable pub nestLength : List ℕ → ℕ → List ℕ → List ℕ → List ℕ → ℕ → ℕ
+nestLength c depth v a o m =
+    sums (loopLength c) 0 depth + sums (arrayLength v) 0 (length v / 4) + sums (accessLength o a depth) 0 (length o) + (m * 3 + 4)
 
 -- ---- what is asked
 
@@ -44,7 +45,8 @@ pub record OwnersIn (o a : List ℕ) (n : ℕ) : Type 0 where
   pub shallow : n ≤ 6
   pub there : (k : ℕ) → k < length o → getD o k 0 < length a / 4
 
-pub record LengthIn (c : List ℕ) (depth : ℕ) (a o : List ℕ) (m : ℕ) : Type 0 where
+pub record LengthIn (c : List ℕ) (depth : ℕ) (v a o : List ℕ) (m : ℕ) : Type 0 where
   pub loops : CountsIn c depth
+  pub written : ArraysIn v
   pub owners : OwnersIn o a depth
   pub few : m ≤ 4

@@ -10,6 +10,7 @@ use Rattle.model.specs.Ticket.{Statement, Nest}
 use Rattle.model.specs.Store.{sum}
 use Rattle.bounds.specs.Flat.{loopsFrom, NestOk}
 use Rattle.elements.specs.Layout.{arraysOf, accessAt, accessesFrom, AccessesOk}
+use Rattle.lengths.specs.Lengths.{ArraysIn}
 
 -- the statement of m accesses from access k on
 unfoldable pub statementAt : List ℤ → List ℕ → List ℕ → ℕ → ℕ → ℕ → ℕ → ℕ → Statement
@@ -25,15 +26,17 @@ unfoldable pub statementsAt : List ℤ → List ℕ → List ℕ → ℕ → Lis
 statementsAt w o a n rs es k i [] = []
 statementsAt w o a n rs es k i (m ∷ ms) = statementAt w o a n k m (getD rs i 0) (getD es i 0) ∷ statementsAt w o a n rs es (k + m) (suc i) ms
 
-unfoldable pub nestAt : List ℤ → List ℕ → ℕ → List ℕ → List ℕ → List ℕ → List ℕ → List ℕ → List ℤ → Nest
-nestAt s c n a ms rs es o w = record {
+-- the arrays on v are written, and the extents on a say how the accesses stand
+unfoldable pub nestAt : List ℤ → List ℕ → ℕ → List ℕ → List ℕ → List ℕ → List ℕ → List ℕ → List ℕ → List ℤ → Nest
+nestAt s c n v a ms rs es o w = record {
   loops = loopsFrom s c 0 n;
-  arrays = arraysOf a;
+  arrays = arraysOf v;
   statements = statementsAt w o a n rs es 0 0 ms;
 }
 
-pub record SlicesIn (s : List ℤ) (c : List ℕ) (n : ℕ) (a ms rs es o : List ℕ) (w : List ℤ) : Type 0 where
+pub record SlicesIn (s : List ℤ) (c : List ℕ) (n : ℕ) (v a ms rs es o : List ℕ) (w : List ℤ) : Type 0 where
   pub nest : NestOk s c n
+  pub written : ArraysIn v
   pub accesses : AccessesOk w o a n
   pub all-accesses : sum ms ≡ length o
   pub each : All (λ m. 1 ≤ m) ms

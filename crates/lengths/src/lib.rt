@@ -61,19 +61,21 @@ fn accesses_words(owners: &[usize], extents: &[usize], n: usize) -> usize
     total
 }
 
-// How many bytes a nest has. These are the bytes of its encoding (proofs/LengthLaws: nest-length).
+// How many bytes a nest has in which these arrays are written; an array's extents say how many subscripts an access has. These are the bytes
+// of its encoding (proofs/LengthLaws: length-is).
 pub fn encoded_length(
     counts: &[usize],
     depth: usize,
+    arrays: &[usize],
     extents: &[usize],
     owners: &[usize],
     statements: usize,
 ) -> usize
-    requires { ⌜ LengthIn (now counts) depth (now extents) (now owners) statements ⌝ }
-    ensures { λ r. ⌜ r ≡ nestLength (now (counts .entry)) depth (now (extents .entry)) (now (owners .entry)) statements * 2 ⌝ }
+    requires { ⌜ LengthIn (now counts) depth (now arrays) (now extents) (now owners) statements ⌝ }
+    ensures { λ r. ⌜ r ≡ nestLength (now (counts .entry)) depth (now (arrays .entry)) (now (extents .entry)) (now (owners .entry)) statements * 2 ⌝ }
 {
     let loops = loops_words(counts, depth);
-    let arrays = arrays_words(extents);
+    let written = arrays_words(arrays);
     let accesses = accesses_words(owners, extents, depth);
-    (loops + arrays + accesses + (statements * 3 + 4)) * 2
+    (loops + written + accesses + (statements * 3 + 4)) * 2
 }
