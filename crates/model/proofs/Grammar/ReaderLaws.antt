@@ -52,27 +52,32 @@ module _ {A : Type 0} {P : A → List ℤ → Type 0} where
   pub done-meets : (a : A) → P a [] → Meets (done a) P
   done-meets a h = record { from = λ b k r. done-at a h }
 
-module _ {A B : Type 0} {P : A → Type 0} {f : A → List ℤ} {Q : B → List ℤ → Type 0} where
-  -- the rest knows the words of the first value
-  pub bind-at : {b : List ℕ} {k : ℕ} {m : Reader A} {g : A → Reader B}
-      → MeetsAt b k m (As P f) → ((a : A) → P a → Spells b k (f a) → MeetsAt b (k + length (f a)) (g a) (λ c vs. Q c (f a ++ vs))) → MeetsAt b k (m >>= g) Q
+module _ {A B : Type 0} {P : A → List ℤ → Type 0} {Q : B → List ℤ → Type 0} where
+  -- the rest knows the first value and its words
+  pub bind-with : {b : List ℕ} {k : ℕ} {m : Reader A} {g : A → Reader B}
+      → MeetsAt b k m P → ((a : A) (ws : List ℤ) → P a ws → Spells b k ws → MeetsAt b (k + length ws) (g a) (λ c vs. Q c (ws ++ vs))) → MeetsAt b k (m >>= g) Q
   unfolding _>>=_
-  bind-at {b} {k} {m} {g} h rest = record {
-    leads = leads-bind (Met (As P f) b k) (Explained b) (Met Q b k) (m b k) (λ r. g (r .value) b (r .next)) (h .leads) (λ r e t.
-        let v = r .value in
-        let n : k + length (f v) ≡ r .next = sym (t .next ∙ ap (λ ws. k + length ws) (t .holds .words)) in
-        let s : Spells b k (f v) = subst (Spells b k) (t .holds .words) (t .spelled) in
-        leads-map (Met (λ c vs. Q c (f v ++ vs)) b (k + length (f v))) (Explained b) (g v b (r .next)) (joined v s)
-        (subst (λ j. Leads (Met (λ c vs. Q c (f v ++ vs)) b (k + length (f v))) (Explained b) (g v b j)) n (rest v (t .holds .holds) s .leads)));
+  bind-with {b} {k} {m} {g} h rest = record {
+    leads = leads-bind (Met P b k) (Explained b) (Met Q b k) (m b k) (λ r. g (r .value) b (r .next)) (h .leads) (λ r e t.
+        let us = t .words in
+        leads-map (Met (λ c vs. Q c (us ++ vs)) b (k + length us)) (Explained b) (g (r .value) b (r .next)) (joined us (t .spelled))
+        (subst (λ j. Leads (Met (λ c vs. Q c (us ++ vs)) b (k + length us)) (Explained b) (g (r .value) b j)) (sym (t .next)) (rest (r .value) us (t .holds) (t .spelled) .leads)));
   }
     where
-      joined : (v : A) → Spells b k (f v) → (r : Read B) → Met (λ c vs. Q c (f v ++ vs)) b (k + length (f v)) r → Met Q b k r
-      joined v s r u = record {
-        words = f v ++ u .words;
-        spelled = spells-append b k (f v) (u .words) s (u .spelled);
-        next = let n = u .next in let l = length-append (f v) (u .words) in omega arith;
+      joined : (us : List ℤ) → Spells b k us → (r : Read B) → Met (λ c vs. Q c (us ++ vs)) b (k + length us) r → Met Q b k r
+      joined us s r u = record {
+        words = us ++ u .words;
+        spelled = spells-append b k us (u .words) s (u .spelled);
+        next = let n = u .next in let l = length-append us (u .words) in omega arith;
         holds = u .holds;
       }
+
+module _ {A B : Type 0} {P : A → Type 0} {f : A → List ℤ} {Q : B → List ℤ → Type 0} where
+  -- where f gives the words
+  pub bind-at : {b : List ℕ} {k : ℕ} {m : Reader A} {g : A → Reader B}
+      → MeetsAt b k m (As P f) → ((a : A) → P a → Spells b k (f a) → MeetsAt b (k + length (f a)) (g a) (λ c vs. Q c (f a ++ vs))) → MeetsAt b k (m >>= g) Q
+  bind-at {b} {k} {m} {g} h rest = bind-with h (λ a ws t s.
+      subst (λ us. MeetsAt b (k + length us) (g a) (λ c vs. Q c (us ++ vs))) (sym (t .words)) (rest a (t .holds) (subst (Spells b k) (t .words) s)))
 
   pub bind : {m : Reader A} {g : A → Reader B} → Meets m (As P f) → ((a : A) → P a → Meets (g a) (λ c vs. Q c (f a ++ vs))) → Meets (m >>= g) Q
   bind h rest = record { from = λ b k r. bind-at (h .from b k r) (λ a t s. rest a t .from b (k + length (f a)) (spells-reach b k (f a) r s)) }
