@@ -5,3 +5,4 @@ pub mod FlatMapLaws
 pub mod PlaceLaws
 pub mod TestLaws
 pub mod PartLaws
+pub mod CopyLaws

@@ -7,13 +7,14 @@ use native.Mathlib.Omega.{arith}
 use native.Mathlib.Numerals.{add-one}
 use lib.IntN.{ℤ, pos}
 use lib.ListN.{length, getD, take, drop, set, length-drop}
-use lib.Seq.{take-suc, take-length, take-suc-set, take-take, length-take-le, drop-cons, getD-drop}
+use lib.Seq.{take-suc, take-suc-set, take-take, length-take-le, drop-cons, getD-drop}
 use mir.Syntax.{w16, w32}
 use mir.Val.{SFits, toZ, ofZ}
 use mir.Facts.{toZ-ofZ}
 use Rattle.lists.specs.Parts.{put}
 use Rattle.lists.specs.Tests.{all}
-use Rattle.lists.proofs.PartLaws.{length-put, set-put}
+use Rattle.lists.proofs.PartLaws.{length-put}
+use Rattle.lists.proofs.CopyLaws.{copy-more}
 use Rattle.lists.proofs.TestLaws.{true-T}
 use Rattle.integers.specs.Difference.{size}
 use Rattle.integers.specs.Affine.{Within}
@@ -71,21 +72,10 @@ module _ (o row : List ℤ) (at : ℕ) (p : (at + length row ≤ length o) × Wi
   narrow-in j = rw (number-read (getD row j (pos 0)) (near j)) (near j)
 
   module _ (out : List ℤ) (j : ℕ) (e : out ≡ put o at (take j row)) where
-    pub row-room : j ≤ length row → length out ≡ length o
-    row-room h = let n = length-take-le j row h in let q = p .0 in ap length e ∙ length-put o at (take j row) (omega arith)
-
     pub row-more : j < length row → {z : ℤ} → z ≡ toZ w32 (ofZ w32 (getD row j (pos 0))) → set out (at + j) (toZ w16 (ofZ w16 z)) ≡ put o at (take (j + 1) row)
     row-more h q =
-        let n : length (take j row) ≡ j = length-take-le j row (omega arith) in
-        let g = p .0 in
         ap (set out (at + j)) (ap (λ (x : ℤ). toZ w16 (ofZ w16 x)) q ∙ number-written (getD row j (pos 0)) (near j))
-        ∙ ap (λ (w : List ℤ). set w (at + j) (getD row j (pos 0))) e
-        ∙ ap (λ (m : ℕ). set (put o at (take j row)) (at + m) (getD row j (pos 0))) (sym n)
-        ∙ set-put o at (take j row) (getD row j (pos 0)) (omega arith)
-        ∙ ap (put o at) (sym (take-suc row j (pos 0) h) ∙ ap (λ (m : ℕ). take m row) (sym (add-one j)))
-
-    pub row-done : j ≡ length row → out ≡ put o at row
-    row-done h = e ∙ ap (put o at) (ap (λ (m : ℕ). take m row) h ∙ take-length row)
+        ∙ copy-more o row at (p .0) out j e (pos 0) h
 
 -- ---- words tried
 

@@ -44,7 +44,7 @@ mul-extents-3 : tie.Need-mul-extents-3 Inv-loop μ-loop
 mul-extents-3 c = search needs
 
 slice-write-extents-2 : tie.Need-slice-write-extents-2 Inv-loop μ-loop
-slice-write-extents-2 c = let s = c .before .before .before in let l = c .before .loop in let n = shape-room (s .args .extents .now) (s .args .i) (s .args .shape) (s .pre) (l .d) (l .extents) (l .inv .0) (l .inv .1) in let f = s .pre .fits in let g = s .pre .within .few in omega arith
+slice-write-extents-2 c = let s = c .before .before .before in let l = c .before .loop in let n = shape-room (s .args .extents .now) (s .args .i) (s .args .shape) (s .pre) (l .d) (l .extents) (l .inv .1) (l .inv .0) in let f = s .pre .fits in let g = s .pre .within .few in omega arith
 
 add-d : tie.Need-add-d Inv-loop μ-loop
 add-d c = search needs
@@ -53,13 +53,13 @@ loop-less : tie.Need-loop-less Inv-loop μ-loop
 loop-less c = search needs
 
 loop-again : tie.Need-loop-again Inv-loop μ-loop
-loop-again c = let s = c .before .before .before in let l = c .before .loop in (omega arith, shape-more (s .args .extents .now) (s .args .i) (s .args .shape) (s .pre) (l .d) (l .extents) (c .loop-test .taken) (l .inv .1))
+loop-again c = let s = c .before .before .before in let l = c .before .loop in (omega arith, shape-more (s .args .extents .now) (s .args .i) (s .args .shape) (s .pre) (l .d) (l .extents) (l .inv .1) (c .loop-test .taken))
 
 same-length : tie.Need-same-length Inv-loop μ-loop
-same-length c = let s = c .before .before .before in let l = c .before .loop in shape-room (s .args .extents .now) (s .args .i) (s .args .shape) (s .pre) (l .d) (l .extents) (l .inv .0) (l .inv .1)
+same-length c = let s = c .before .before .before in let l = c .before .loop in shape-room (s .args .extents .now) (s .args .i) (s .args .shape) (s .pre) (l .d) (l .extents) (l .inv .1) (l .inv .0)
 
 returns : tie.Need-returns Inv-loop μ-loop
-returns c = let s = c .before .before .before in let l = c .before .loop in shape-done (s .args .extents .now) (s .args .i) (s .args .shape) (s .pre) (l .d) (l .extents) (l .inv .0) (c .loop-test .left) (l .inv .1)
+returns c = let s = c .before .before .before in let l = c .before .loop in shape-done (s .args .extents .now) (s .args .i) (s .args .shape) (s .pre) (l .d) (l .extents) (l .inv .1) (l .inv .0) (c .loop-test .left)
 
 pub lay-shape-spec : {M : Type 1} → statement M
 lay-shape-spec =

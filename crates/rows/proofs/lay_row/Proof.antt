@@ -5,7 +5,8 @@ use native.Mathlib.Omega.{arith}
 use lib.ListN.{length, take}
 use Rattle.lists.specs.Parts.{put}
 use Rattle.lists.proofs.PartLaws.{put-nil}
-use Rattle.rows.proofs.RowLaws.{narrow-in, row-room, row-more, row-done}
+use Rattle.lists.proofs.CopyLaws.{copy-room, copy-done}
+use Rattle.rows.proofs.RowLaws.{narrow-in, row-more}
 use Rattle.rows.proofs.lay_row.Statement.{statement}
 use Rattle.rows.proofs.lay_row.Tie as tie
 
@@ -34,7 +35,7 @@ mul-t11 : tie.Need-mul-t11 Inv-loop μ-loop
 mul-t11 c = omega arith
 
 slice-set-from-words : tie.Need-slice-set-from-words Inv-loop μ-loop
-slice-set-from-words c = let s = c .before .before .before .before in let l = c .before .before .before .loop in let n = row-room (s .args .words .now) (s .args .row .now) (s .args .at) (s .pre) (l .words) (l .j) (l .inv .1) (l .inv .0) in omega arith
+slice-set-from-words c = let s = c .before .before .before .before in let l = c .before .before .before .loop in let n = copy-room (s .args .words .now) (s .args .row .now) (s .args .at) (s .pre .0) (l .words) (l .j) (l .inv .1) (l .inv .0) in omega arith
 
 add-j : tie.Need-add-j Inv-loop μ-loop
 add-j c = omega arith
@@ -49,10 +50,10 @@ loop-again c =
     (omega arith, row-more (s .args .words .now) (s .args .row .now) (s .args .at) (s .pre) (l .words) (l .j) (l .inv .1) (c .before .before .loop-test .taken) (c .narrow .ensures))
 
 same-length : tie.Need-same-length Inv-loop μ-loop
-same-length c = let s = c .before .before in let l = c .before .loop in row-room (s .args .words .now) (s .args .row .now) (s .args .at) (s .pre) (l .words) (l .j) (l .inv .1) (l .inv .0)
+same-length c = let s = c .before .before in let l = c .before .loop in copy-room (s .args .words .now) (s .args .row .now) (s .args .at) (s .pre .0) (l .words) (l .j) (l .inv .1) (l .inv .0)
 
 returns : tie.Need-returns Inv-loop μ-loop
-returns c = let s = c .before .before in let l = c .before .loop in row-done (s .args .words .now) (s .args .row .now) (s .args .at) (s .pre) (l .words) (l .j) (l .inv .1) (omega (arith, l .inv .0, c .loop-test .left))
+returns c = let s = c .before .before in let l = c .before .loop in copy-done (s .args .words .now) (s .args .row .now) (s .args .at) (s .pre .0) (l .words) (l .j) (l .inv .1) (omega (arith, l .inv .0, c .loop-test .left))
 
 pub lay-row-spec : {M : Type 1} → statement M
 lay-row-spec =
