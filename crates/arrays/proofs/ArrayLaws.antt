@@ -1,19 +1,18 @@
--- The number of elements of an array, extent by extent, and its bound.
+-- The number of elements of an array, extent by extent, and its bound; then the array from its extents and the test of its elements.
 use mathlib.Core.Path.{_≡_, refl, sym, ap, _∙_}
-use mathlib.Core.List.{List, [], _∷_, _++_, append-nil}
+use mathlib.Core.List.{List, [], _∷_, _++_}
 use Prim.Native.Nat.{ℕ, zero, suc, _+_, _*_, _-_, _<_, _≤_}
 use native.Mathlib.Omega.{arith}
 use native.Mathlib.Numerals.{add-one}
-use native.Mathlib.Nat.{mul-assoc, mul-le-mul, sub-zero}
+use native.Mathlib.Nat.{mul-assoc, mul-le-mul}
 use lib.Dec.{leb}
 use borrow.Author.Tests.{le-leb, lt-leb}
 use lib.ListN.{length, take, set}
 use lib.Seq.{take-suc-set}
 use Rattle.model.specs.Answer as Answer
 use Rattle.model.specs.Answer.{accepted, refused, require}
-use Rattle.model.specs.Grammar.{_>>=_, _>>_, must, done, count, natural, times, elements, arraysFrom}
-use Rattle.reading.proofs.ReaderLaws.{after-value, after-refusal, regrouped, before, before-none, before-one}
-use Rattle.arrays.specs.Arrays.{shape}
+use Rattle.model.specs.Grammar.{_>>=_, _>>_, must, done, elements, shape, array}
+use Rattle.reading.proofs.ReaderLaws.{after-value, after-refusal}
 
 elements-snoc : (xs : List ℕ) (x : ℕ) → elements (xs ++ (x ∷ [])) ≡ elements xs * x
 unfolding elements
@@ -43,40 +42,22 @@ most-three (suc (suc zero)) h = omega arith
 most-three (suc (suc (suc zero))) h = omega arith
 most-three (suc (suc (suc (suc k)))) h = absurd (omega arith)
 
--- ---- the section, one array after another
+-- ---- one array after others of t elements
 
-one-array : (t n : ℕ) (b : List ℕ) (k : ℕ)
-    → arraysFrom t (suc n) b k ≡ (shape >>= (λ a. must (leb (t + elements a) 16384) 5 >> (arraysFrom (t + elements a) n >>= (λ rest. done (a ∷ rest))))) b k
-unfolding arraysFrom shape
-one-array t n b k = regrouped (count 1 3) (λ d. times d (natural 1 4096)) _ b k
+module _ (t : ℕ) (b : List ℕ) (k : ℕ) where
+  pub array-no : (q p : ℕ) → shape b k ≡ refused q p → array t b k ≡ refused q p
+  unfolding array
+  array-no q p e = after-refusal shape _ b k q p e
 
-module _ (b : List ℕ) (n i k t : ℕ) (vs : List (List ℕ)) where
-  left : i < n → n - i ≡ suc (n - (i + 1))
-  left h = omega arith
+  module _ (a : List ℕ) (j : ℕ) (e : shape b k ≡ accepted (record { value = a; next = j })) where
+    tested : array t b k ≡ (must (leb (t + elements a) 16384) 5 >> done a) b j
+    unfolding array
+    tested = after-value shape _ b k a j e
 
-  pub arrays-more : (a : List ℕ) (j : ℕ) → i < n → shape b k ≡ accepted (record { value = a; next = j }) → t + elements a ≤ 16384
-      → before vs (arraysFrom t (n - i) b k) ≡ before (vs ++ (a ∷ [])) (arraysFrom (t + elements a) (n - (i + 1)) b j)
-  arrays-more a j h e f = rw (left h) (ap (before vs) (one-array t (n - (i + 1)) b k ∙ after-value shape _ b k a j e ∙ step) ∙ before-one vs a (arraysFrom (t + elements a) (n - (i + 1)) b j))
-    where
-      step : (must (leb (t + elements a) 16384) 5 >> (arraysFrom (t + elements a) (n - (i + 1)) >>= (λ rest. done (a ∷ rest)))) b j
-          ≡ Answer._>>=_ (arraysFrom (t + elements a) (n - (i + 1)) b j) (λ r. accepted (record { value = a ∷ r .value; next = r .next }))
-      step = unfold _>>_ _>>=_ must done Answer._>>=_ require in rw (le-leb (t + elements a) 16384 f)
+    pub array-fits : t + elements a ≤ 16384 → array t b k ≡ accepted (record { value = a; next = j })
+    unfolding _>>_ _>>=_ must done Answer._>>=_ require
+    array-fits h = tested ∙ rw (le-leb (t + elements a) 16384 h)
 
-  pub arrays-full : (a : List ℕ) (j : ℕ) → i < n → shape b k ≡ accepted (record { value = a; next = j }) → 16384 < t + elements a
-      → before vs (arraysFrom t (n - i) b k) ≡ refused 5 (j - 1)
-  unfolding before Answer._>>=_
-  arrays-full a j h e f = rw (left h) (ap (before vs) (one-array t (n - (i + 1)) b k ∙ after-value shape _ b k a j e ∙ step))
-    where
-      step : (must (leb (t + elements a) 16384) 5 >> (arraysFrom (t + elements a) (n - (i + 1)) >>= (λ rest. done (a ∷ rest)))) b j ≡ refused 5 (j - 1)
-      step = unfold _>>_ _>>=_ must Answer._>>=_ require in rw (lt-leb (t + elements a) 16384 f)
-
-  pub arrays-no : (q p : ℕ) → i < n → shape b k ≡ refused q p → before vs (arraysFrom t (n - i) b k) ≡ refused q p
-  unfolding before Answer._>>=_
-  arrays-no q p h e = rw (left h) (ap (before vs) (one-array t (n - (i + 1)) b k ∙ after-refusal shape _ b k q p e))
-
-  pub arrays-done : n ≤ i → before vs (arraysFrom t (n - i) b k) ≡ accepted (record { value = vs; next = k })
-  unfolding arraysFrom before Answer._>>=_ done
-  arrays-done h = let z : n - i ≡ 0 = omega arith in rw z (ap (λ l. accepted (record { value = l; next = k })) (append-nil vs))
-
-pub arrays-start : (b : List ℕ) (n k : ℕ) → arraysFrom 0 n b k ≡ before [] (arraysFrom 0 (n - 0) b k)
-arrays-start b n k = rw (sub-zero n) (sym (before-none _))
+    pub array-full : 16384 < t + elements a → array t b k ≡ refused 5 (j - 1)
+    unfolding _>>_ _>>=_ must Answer._>>=_ require
+    array-full h = tested ∙ rw (lt-leb (t + elements a) 16384 h)

@@ -1,7 +1,7 @@
 -- Arrays read and laid one after another: a section under way, then its end.
-use mathlib.Core.Path.{_≡_, refl, sym, ap, ap₂, _∙_}
+use mathlib.Core.Path.{_≡_, refl, sym, ap, ap₂, _∙_, fun-ext}
 use mathlib.Core.List.{List, [], _∷_, _++_, map, map-append}
-use Prim.Native.Nat.{ℕ, _+_, _*_, _-_, _≤_, _<_}
+use Prim.Native.Nat.{ℕ, zero, suc, _+_, _*_, _-_, _≤_, _<_}
 use native.Mathlib.Omega.{arith}
 use lib.ListN.{length, take, length-append, length-map}
 use Rattle.lists.specs.Membership.{All}
@@ -9,40 +9,40 @@ use Rattle.lists.specs.Parts.{put}
 use Rattle.lists.proofs.MembershipLaws.{all-nil, all-cons, all-append}
 use Rattle.model.specs.Answer.{accepted, refused}
 use Rattle.model.specs.Grammar as Grammar
-use Rattle.model.specs.Grammar.{count, elements, total, arraysFrom}
-use Rattle.model.specs.Ranges.{ArrayRanges, CountRange, WordRange}
+use Rattle.model.specs.Grammar.{Reader, _>>=_, done, count, elements, total, shape, array, arraysFrom}
+use Rattle.model.specs.Ranges.{ArrayRanges}
 use Rattle.model.proofs.Answers.AnswerLaws.{leads-accepted}
-use Rattle.model.proofs.Grammar.ReaderLaws.{one, counted-meets, times-meets, natural-meets}
+use Rattle.model.proofs.Grammar.ArrayReading.{total-snoc, shape-meets}
 use Rattle.reading.specs.Refusals.{answer, Reached}
 use Rattle.reading.specs.declared.Status.{Status}
-use Rattle.reading.proofs.ReaderLaws.{after-value, after-refusal, before}
+use Rattle.reading.proofs.ReaderLaws.{after-value, after-refusal, before, repeated, repeated-start, repeated-more, repeated-no, repeated-done}
 use Rattle.elements.specs.Layout.{arraysOf}
 use Rattle.arrays.specs.Laid.{layRows, shapeWords}
-use Rattle.arrays.specs.Arrays.{shape, ReadsArrays}
+use Rattle.arrays.specs.Arrays.{ReadsArrays}
 use Rattle.arrays.proofs.RowLaws.{rows-more}
 use Rattle.arrays.proofs.ArrayBack.{laid-length, arrays-same}
-use Rattle.arrays.proofs.ArrayLaws.{arrays-start, arrays-more, arrays-full, arrays-no, arrays-done}
 
 -- what the grammar says of an array
 pub shape-read : (b : List ℕ) (k : ℕ) (a : List ℕ) (next : ℕ) → Reached b k → shape b k ≡ accepted (record { value = a; next = next }) → ArrayRanges a
-unfolding shape
-shape-read b k a next r e =
-    let h = leads-accepted _ _ (counted-meets one CountRange.dimensions (λ n _. times-meets n (natural-meets WordRange.extent)) .from b k (record { first = r .counted; there = r .there }) .leads) e .holds .holds in
-    record { dimensions = h .few; extents = h .holds }
+shape-read b k a next r e = leads-accepted _ _ (shape-meets .from b k (record { first = r .counted; there = r .there }) .leads) e .holds .holds
+
+-- the number of elements with one array more
+abbrev adds : ℕ → List ℕ → ℕ
+adds t a = t + elements a
+
+repeats : (t n : ℕ) → arraysFrom t n ≡ repeated array adds n t
+unfolding arraysFrom repeated
+repeats t zero = refl
+repeats t (suc n) = ap (λ (g : List ℕ → Reader (List (List ℕ))). array t >>= (λ a. g a >>= (λ rest. done (a ∷ rest)))) (fun-ext (λ a. repeats (t + elements a) n))
 
 module _ (b : List ℕ) (k : ℕ) where
   pub no-count : (n p : ℕ) → count 1 4 b k ≡ refused n p → Grammar.arrays b k ≡ refused n p
   unfolding Grammar.arrays
   no-count n p e = after-refusal (count 1 4) _ b k n p e
 
-  counted : (n : ℕ) → count 1 4 b k ≡ accepted (record { value = n; next = k + 1 }) → Grammar.arrays b k ≡ arraysFrom 0 n b (k + 1)
+  counted : (n : ℕ) → count 1 4 b k ≡ accepted (record { value = n; next = k + 1 }) → Grammar.arrays b k ≡ repeated array adds n 0 b (k + 1)
   unfolding Grammar.arrays
-  counted n e = after-value (count 1 4) _ b k n (k + 1) e
-
-total-snoc : (l : List (List ℕ)) (a : List ℕ) → total (l ++ (a ∷ [])) ≡ total l + elements a
-unfolding total
-total-snoc [] a = omega arith
-total-snoc (x ∷ l) a = let r = total-snoc l a in omega arith
+  counted n e = after-value (count 1 4) _ b k n (k + 1) e ∙ ap (λ (r : Reader (List (List ℕ))). r b (k + 1)) (repeats 0 n)
 
 -- k of n arrays are read and laid, with `many` elements, and the rest goes on from `next`
 pub record Filling (b : List ℕ) (at n : ℕ) (o w : List ℕ) (many next k : ℕ) : Type 0 where
@@ -55,7 +55,7 @@ pub record Filling (b : List ℕ) (at n : ℕ) (o w : List ℕ) (many next k : �
   pub bounded : many ≤ 16384
   pub laid : w ≡ layRows 4 o 0 (map shapeWords arrays)
   pub ranges : All ArrayRanges arrays
-  pub so : Grammar.arrays b at ≡ before arrays (arraysFrom many (n - k) b next)
+  pub so : Grammar.arrays b at ≡ before arrays (repeated array adds (n - k) many b next)
 
 module _ (b : List ℕ) (at n : ℕ) (o : List ℕ) (z : length o ≡ 16) where
   pub filling-starts : count 1 4 b at ≡ accepted (record { value = n; next = at + 1 }) → n ≤ 4 → Reached b (at + 1) → Filling b at n o o 0 (at + 1) 0
@@ -70,7 +70,7 @@ module _ (b : List ℕ) (at n : ℕ) (o : List ℕ) (z : length o ≡ 16) where
     bounded = omega arith;
     laid = refl;
     ranges = all-nil ArrayRanges;
-    so = counted b at n e ∙ arrays-start b n (at + 1);
+    so = counted b at n e ∙ repeated-start array adds b n (at + 1) 0;
   }
 
   module _ (w : List ℕ) (many next k : ℕ) (f : Filling b at n o w many next k) where
@@ -83,9 +83,9 @@ module _ (b : List ℕ) (at n : ℕ) (o : List ℕ) (z : length o ≡ 16) where
     pub filling-same : arraysOf (take (k * 4) w) ≡ f .arrays
     filling-same = arrays-same o z (f .arrays) k (f .number) few (f .ranges) w (f .laid)
 
-    module _ (a : List ℕ) (m to : ℕ) (h : k < n) (e : shape b next ≡ accepted (record { value = a; next = to })) (x : m ≡ elements a) where
-      pub filling-more : (v : List ℕ) → v ≡ put w (k * 4) (shapeWords a) → many + m ≤ 16384 → Reached b to → Filling b at n o v (many + m) to (k + 1)
-      filling-more v q g r =
+    module _ (a : List ℕ) (m to : ℕ) (h : k < n) (e : array many b next ≡ accepted (record { value = a; next = to })) (x : m ≡ elements a) where
+      pub filling-more : (v : List ℕ) → v ≡ put w (k * 4) (shapeWords a) → ArrayRanges a → many + m ≤ 16384 → Reached b to → Filling b at n o v (many + m) to (k + 1)
+      filling-more v q s g r =
           let F = map shapeWords (f .arrays) in
           let i : k ≡ 0 + length F = omega (arith, length-map (f .arrays) shapeWords, f .number) in
           record {
@@ -97,18 +97,15 @@ module _ (b : List ℕ) (at n : ℕ) (o : List ℕ) (z : length o ≡ 16) where
             total-is = let y = f .total-is in let l = total-snoc (f .arrays) a in omega arith;
             bounded = g;
             laid = q ∙ ap₂ (λ y t. put y (t * 4) (shapeWords a)) (f .laid) i ∙ sym (rows-more 4 o 0 F (shapeWords a)) ∙ ap (layRows 4 o 0) (sym (map-append shapeWords (f .arrays) (a ∷ [])));
-            ranges = all-append ArrayRanges (f .arrays) (a ∷ []) (f .ranges) (all-cons ArrayRanges (shape-read b next a to (f .reached) e) (all-nil ArrayRanges));
-            so = f .so ∙ arrays-more b n k next many (f .arrays) a to h e (omega arith) ∙ ap (λ y. before (f .arrays ++ (a ∷ [])) (arraysFrom (many + y) (n - (k + 1)) b to)) (sym x);
+            ranges = all-append ArrayRanges (f .arrays) (a ∷ []) (f .ranges) (all-cons ArrayRanges s (all-nil ArrayRanges));
+            so = f .so ∙ repeated-more array adds b n k next many (f .arrays) a to h e ∙ ap (λ y. before (f .arrays ++ (a ∷ [])) (repeated array adds (n - (k + 1)) (many + y) b to)) (sym x);
           }
 
-      pub filling-full : 16384 < many + m → Grammar.arrays b at ≡ refused 5 (to - 1)
-      filling-full g = f .so ∙ arrays-full b n k next many (f .arrays) a to h e (omega arith)
-
-    pub filling-no : (q p : ℕ) → k < n → shape b next ≡ refused q p → Grammar.arrays b at ≡ refused q p
-    filling-no q p h e = f .so ∙ arrays-no b n k next many (f .arrays) q p h e
+    pub filling-no : (q p : ℕ) → k < n → array many b next ≡ refused q p → Grammar.arrays b at ≡ refused q p
+    filling-no q p h e = f .so ∙ repeated-no array adds b n k next many (f .arrays) q p h e
 
     pub filling-done : n ≤ k → Grammar.arrays b at ≡ accepted (record { value = f .arrays; next = next })
-    filling-done h = f .so ∙ arrays-done b n k next many (f .arrays) h
+    filling-done h = f .so ∙ repeated-done array adds b n k next many (f .arrays) h
 
     -- the arrays so far, whether the section ends here or is refused
     pub filling-gives : (s : Status) (j : ℕ) → answer s (f .arrays) j ≡ Grammar.arrays b at → Reached b j → ReadsArrays b at o w (record { status = s; count = k; next = j })

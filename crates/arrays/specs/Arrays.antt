@@ -6,9 +6,10 @@ use Prim.Native.Nat.{ℕ, _+_, _*_, _≤_}
 use lib.ListN.{length, take}
 use Rattle.lists.specs.Membership.{All}
 use Rattle.model.specs.Grammar as Grammar
-use Rattle.model.specs.Grammar.{Reader, _>>=_, count, natural, times, elements, total}
+use Rattle.model.specs.Grammar.{elements, total, shape, array}
 use Rattle.model.specs.Ranges.{ArrayRanges}
 use Rattle.reading.specs.Refusals.{Reads}
+use Rattle.reading.specs.declared.Status.the-variants.{Fine}
 use Rattle.elements.specs.Layout.{arraysOf}
 use Rattle.arrays.specs.Laid.{layRows, shapeWords}
 use Rattle.arrays.specs.declared.Shape.{Shape}
@@ -25,17 +26,20 @@ pub record ShapeIn (a : Shape) : Type 0 where
   pub few : a .dimensions ≤ 3
   pub room : length (a .extents) ≡ 3
 
-unfoldable pub shape : Reader (List ℕ)
-shape = do
-  d ← count 1 3
-  times d (natural 1 4096)
-
 pub record ReadsShape (b : List ℕ) (k : ℕ) (r : ShapeRead) : Type 0 where
   pub reads : Reads (shape b k) b (r .status) (shapeOf (r .shape)) (r .next)
   pub within : ShapeIn (r .shape)
   pub total : r .elements ≡ elements (shapeOf (r .shape))
   -- 4096 × 4096 × 4096
   pub bounded : r .elements ≤ 68719476736
+
+-- after arrays of t elements
+pub record ReadsArray (t : ℕ) (b : List ℕ) (k : ℕ) (r : ShapeRead) : Type 0 where
+  pub reads : Reads (array t b k) b (r .status) (shapeOf (r .shape)) (r .next)
+  pub within : ShapeIn (r .shape)
+  pub total : r .elements ≡ elements (shapeOf (r .shape))
+  pub ranges : r .status ≡ Fine → ArrayRanges (shapeOf (r .shape))
+  pub room : r .status ≡ Fine → t + r .elements ≤ 16384
 
 -- an array can be laid; `room` is the number of words
 pub record LayShapeIn (room i : ℕ) (a : Shape) : Type 0 where

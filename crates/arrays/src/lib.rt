@@ -1,12 +1,12 @@
 // The arrays of a ticket, read onto a flat slice (`elements`, specs/Layout). `at` is the number of a word, from 1.
 ghost use mathlib.Core.Path.{_≡_};
-ghost use Prim.Native.Nat.{_*_};
+ghost use Prim.Native.Nat.{_*_, _≤_};
 ghost use lib.ListN.{length};
 ghost use Rattle.lists.specs.Parts.{put};
 ghost use Rattle.reading.specs.Refusals.{Reached};
 ghost use Rattle.reading.specs.declared.Status.the-variants.{Refused};
 ghost use Rattle.arrays.specs.Laid.{shapeWords};
-ghost use Rattle.arrays.specs.Arrays.{shapeOf, LayShapeIn, ReadsShape, ReadsArrays};
+ghost use Rattle.arrays.specs.Arrays.{shapeOf, LayShapeIn, ReadsShape, ReadsArray, ReadsArrays};
 use reading::Natural;
 use reading::Refusal;
 use reading::Status;
@@ -81,6 +81,24 @@ pub fn read_shape(s: &[u8], at: usize) -> ShapeRead
     }
 }
 
+// An array after others of `total` elements; all together have at most 16,384.
+pub fn read_array(s: &[u8], at: usize, total: usize) -> ShapeRead
+    requires { ⌜ Reached (now s) at × (total ≤ 16384) ⌝ }
+    ensures { λ r. ⌜ ReadsArray total (now (s .entry)) at r ⌝ }
+{
+    let one = read_shape(s, at);
+    let status = one.status;
+    match status {
+        Status::Fine => {
+            if 16384 < total + one.elements {
+                return no_shape(Refusal::TooManyElements(one.next - 1), at);
+            }
+            one
+        }
+        Status::Refused(_) => one,
+    }
+}
+
 // Array i of all.
 fn lay_shape(extents: &mut [usize], i: usize, shape: Shape)
     requires { ⌜ LayShapeIn (length (now extents)) i shape ⌝ }
@@ -97,7 +115,7 @@ fn lay_shape(extents: &mut [usize], i: usize, shape: Shape)
     }
 }
 
-// A count from 1 to 4 and as many arrays, with at most 16,384 elements together, tested after each.
+// A count from 1 to 4 and as many arrays.
 pub fn read_arrays(s: &[u8], at: usize, extents: &mut [usize]) -> ArraysRead
     requires { ⌜ Reached (now s) at × (length (now extents) ≡ 16) ⌝ }
     ensures { λ r. ⌜ ReadsArrays (now (s .entry)) at (now (extents .entry)) (now (extents .exit)) r ⌝ }
@@ -116,21 +134,14 @@ pub fn read_arrays(s: &[u8], at: usize, extents: &mut [usize]) -> ArraysRead
     let mut next = at + 1;
     let mut k = 0;
     while k < count {
-        let one = read_shape(s, next);
+        let one = read_array(s, next, total);
         let status = one.status;
         match status {
             Status::Fine => {
-                total = total + one.elements;
-                next = one.next;
-                if 16384 < total {
-                    return ArraysRead {
-                        status: Status::Refused(Refusal::TooManyElements(next - 1)),
-                        count: k,
-                        next: next,
-                    };
-                }
                 let shape = one.shape;
                 lay_shape(extents, k, shape);
+                total += one.elements;
+                next = one.next;
                 k += 1;
             }
             Status::Refused(r) => {

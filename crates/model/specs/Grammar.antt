@@ -193,13 +193,23 @@ unfoldable pub total : List (List ℕ) → ℕ
 total [] = 0
 total (a ∷ rest) = elements a + total rest
 
--- t is the number of elements of the arrays before; 5 is overfull
+-- the extents of one array
+unfoldable pub shape : Reader (List ℕ)
+shape = do
+  d ← count 1 mostDimensions
+  times d (natural 1 4096)
+
+-- one after arrays of t elements; 5 is overfull
+unfoldable pub array : ℕ → Reader (List ℕ)
+array t = do
+  a ← shape
+  must (leb (t + elements a) 16384) 5
+  done a
+
 unfoldable pub arraysFrom : ℕ → ℕ → Reader (List (List ℕ))
 arraysFrom t zero = done []
 arraysFrom t (suc n) = do
-  d ← count 1 mostDimensions
-  a ← times d (natural 1 4096)
-  must (leb (t + elements a) 16384) 5
+  a ← array t
   rest ← arraysFrom (t + elements a) n
   done (a ∷ rest)
 

@@ -7,11 +7,11 @@ use native.Mathlib.Omega.{arith}
 use lib.ListN.{length, take, length-set}
 use Rattle.model.specs.Answer.{accepted, refused}
 use Rattle.model.specs.Grammar as Grammar
-use Rattle.model.specs.Grammar.{count, natural, times}
+use Rattle.model.specs.Grammar.{count, natural, times, shape}
 use Rattle.reading.specs.Refusals.{Reached}
 use Rattle.reading.specs.Words.{naturalAnswer, OnNatural}
 use Rattle.reading.proofs.ReaderLaws.{seen, known-of, refused-here, after-value, after-refusal, before, times-start, times-no, row-more, row-done}
-use Rattle.arrays.specs.Arrays.{shapeOf, shape}
+use Rattle.arrays.specs.Arrays.{shapeOf}
 use Rattle.arrays.proofs.ArrayLaws.{elements-next, elements-all, most, most-next, most-three}
 use Rattle.arrays.proofs.read_shape.Statement.{statement}
 use Rattle.arrays.proofs.read_shape.Tie as tie

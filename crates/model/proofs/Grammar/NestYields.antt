@@ -13,7 +13,7 @@ use Rattle.lists.proofs.MembershipLaws.{length-one}
 use Rattle.lists.proofs.FlatMapLaws.{flatMap-alone}
 use Rattle.lists.proofs.TestLaws.{cond-cases}
 use Rattle.model.specs.Ticket.{Limit, Loop, Subscript, Access, Statement, Nest}
-use Rattle.model.specs.Grammar.{number, times, limit, side, loop, loopsFrom, loops, elements, total, arraysFrom, arrays, extents, subscript, access, statement, statements, nest, mostStatements}
+use Rattle.model.specs.Grammar.{number, times, limit, side, loop, loopsFrom, loops, elements, total, shape, array, arraysFrom, arrays, extents, subscript, access, statement, statements, nest, mostStatements}
 use Rattle.model.specs.Encode.{counted, limitWords, loopWords, arrayWords, accessWords, statementWords}
 use Rattle.model.specs.Shape.{Sized, Shaped, Fits, FitsAll, WellFormed}
 use Rattle.model.specs.Ranges.{InRange, nestSections, Small, LimitRanges, LoopRanges, ArrayRanges, SubscriptRanges, AccessRanges, StatementRanges, NestRanges}
@@ -52,13 +52,20 @@ yields-loops d m N f r s = yields-counted _ loopWords N f (yields-loopsFrom m 0 
 
 -- ---- arrays
 
+yields-shape : (a : List ℕ) → ArrayRanges a → Yields shape (arrayWords a) a
+unfolding shape arrayWords
+yields-shape a q = yields-counted _ one a (q .dimensions) (yields-times one a (λ n i. yields-natural (q .extents n i)))
+
+yields-array : (t : ℕ) (a : List ℕ) → ArrayRanges a → t + elements a ≤ 16384 → Yields (array t) (arrayWords a) a
+unfolding array
+yields-array t a q h = yields-cast (append-nil (arrayWords a)) (yields-bind _ (yields-shape a q)
+    (yields-must (leb (t + elements a) 16384) 5 (le→leb (t + elements a) 16384 h) (yields-done a)))
+
 yields-arraysFrom : (t : ℕ) (as′ : List (List ℕ)) → All ArrayRanges as′ → t + total as′ ≤ 16384 → Yields (arraysFrom t (length as′)) (flatMap arrayWords as′) as′
-unfolding arraysFrom flatMap total arrayWords counted
+unfolding arraysFrom flatMap total
 yields-arraysFrom t [] r h = yields-done []
-yields-arraysFrom t (a ∷ as′) r h = let q = r a (List·Memᴰ·head refl) in
-    yields-bind _ (yields-count (q .dimensions)) (yields-bind _ (yields-times one a (λ n i. yields-natural (q .extents n i)))
-    (yields-must (leb (t + elements a) 16384) 5 (le→leb (t + elements a) 16384 (omega arith))
-    (yields-last (a ∷_) (yields-arraysFrom (t + elements a) as′ (λ x i. r x (List·Memᴰ·tail i)) (omega arith)))))
+yields-arraysFrom t (a ∷ as′) r h = yields-bind _ (yields-array t a (r a (List·Memᴰ·head refl)) (omega arith))
+    (yields-last (a ∷_) (yields-arraysFrom (t + elements a) as′ (λ x i. r x (List·Memᴰ·tail i)) (omega arith)))
 
 pub yields-arrays : (as′ : List (List ℕ)) → InRange 1 4 (length as′) → All ArrayRanges as′ → total as′ ≤ 16384 → Yields arrays (counted arrayWords as′) as′
 unfolding arrays
