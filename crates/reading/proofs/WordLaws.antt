@@ -14,7 +14,12 @@ use lib.Seq.{drop-cons}
 use Rattle.model.specs.Answer as Answer
 use Rattle.model.specs.Answer.{Answer, accepted, refused, require}
 use Rattle.model.specs.Words.{signed, firstWord, wordAt}
-use Rattle.model.specs.Grammar.{_>>=_, _>>_, done, word, must, mustAt, between, count, within, natural, number, loopNumber}
+use Rattle.model.specs.Grammar.{Read, _>>=_, _>>_, done, word, must, mustAt, between, count, within, natural, number, loopNumber}
+use Rattle.reading.specs.Refusals.{refusal, Reached}
+use Rattle.reading.specs.Words.{Ranged, ReadNatural}
+use Rattle.reading.specs.declared.Refusal.{Refusal}
+use Rattle.reading.specs.declared.Natural.{Natural}
+use Rattle.reading.specs.declared.Natural.the-variants as Natural
 
 -- ---- a word is there, or torn
 
@@ -149,3 +154,13 @@ module _ (b : List ℕ) (k : ℕ) (e : wordAt b k ≡ refused 1 k) where
   pub loop-torn : (step : ℕ) (ok : ℤ → Bool) → loopNumber step ok b k ≡ refused 1 k
   unfolding loopNumber number _>>=_ Answer._>>=_
   loop-torn step ok = rw (within-torn (negsuc 32766) (pos 32767))
+
+-- ---- a number by the bits of its word
+
+module _ (v : ℕ) (outside : Refusal) {m : Answer (Read ℕ)} {b : List ℕ} {k lo hi : ℕ} where
+  -- m answers what `in_range` does
+  pub ranged-read : ((n : ℕ) → natAbs (signed v) ≡ n → between (pos lo) (pos hi) (signed v) ≡ true → m ≡ accepted (record { value = n; next = k + 1 }))
+      → (between (pos lo) (pos hi) (signed v) ≡ false → m ≡ refusal outside)
+      → Reached b (k + 1) → (r : Natural) → Ranged v lo hi outside r → ReadNatural m lo hi b k r
+  ranged-read inside beyond h (Natural.Value n) t = record { same = sym (inside n (sym (t .0)) (t .3)); known = record { low = t .1; high = t .2; reached = h } }
+  ranged-read inside beyond h (Natural.Refused r) t = record { same = ap refusal (t .0) ∙ sym (beyond (t .1)); known = tt }

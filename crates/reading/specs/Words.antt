@@ -1,12 +1,14 @@
 -- What reading a word gives: the model's answer, and on a value its range and that the word is there.
 use mathlib.Core.Path.{_≡_}
+use mathlib.Core.Bool.{true, false}
 use mathlib.Core.List.{List}
 use Prim.Native.Nat.{ℕ, _+_, _≤_}
-use lib.IntN.{ℤ}
+use lib.IntN.{ℤ, pos, natAbs}
 use Rattle.model.specs.Answer.{Answer, accepted, refused}
 use Rattle.model.specs.Words.{signed, wordAt}
-use Rattle.model.specs.Grammar.{Read, number}
+use Rattle.model.specs.Grammar.{Read, between, number}
 use Rattle.reading.specs.Refusals.{refusal, Reached}
+use Rattle.reading.specs.declared.Refusal.{Refusal}
 use Rattle.reading.specs.declared.Bits.{Bits}
 use Rattle.reading.specs.declared.Bits.the-variants as Bits
 use Rattle.reading.specs.declared.Natural.{Natural}
@@ -42,6 +44,11 @@ pub record InRange (lo hi : ℕ) (b : List ℕ) (k v : ℕ) : Type 0 where
 abbrev pub OnNatural : ℕ → ℕ → List ℕ → ℕ → Natural → Type 0
 OnNatural lo hi b k (Natural.Value v) = InRange lo hi b k v
 OnNatural lo hi b k (Natural.Refused r) = Unit {0}
+
+-- of a word's bits v: the number, or the refusal where it is out of range
+abbrev pub Ranged : ℕ → ℕ → ℕ → Refusal → Natural → Type 0
+Ranged v lo hi outside (Natural.Value n) = (n ≡ natAbs (signed v)) × (lo ≤ n) × (n ≤ hi) × (between (pos lo) (pos hi) (signed v) ≡ true)
+Ranged v lo hi outside (Natural.Refused r) = (r ≡ outside) × (between (pos lo) (pos hi) (signed v) ≡ false)
 
 -- m is the model's answer
 pub record ReadNatural (m : Answer (Read ℕ)) (lo hi : ℕ) (b : List ℕ) (k : ℕ) (r : Natural) : Type 0 where

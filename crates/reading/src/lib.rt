@@ -6,7 +6,7 @@ ghost use lib.ListN.{length, take};
 ghost use Rattle.model.specs.Words.{signed};
 ghost use Rattle.model.specs.Grammar.{count, natural, number, loopNumber, times, between};
 ghost use Rattle.reading.specs.Refusals.{numberOf, placeOf, firstOf, Reached, Reads};
-ghost use Rattle.reading.specs.Words.{ReadBits, ReadNatural, ReadNumber};
+ghost use Rattle.reading.specs.Words.{ReadBits, Ranged, ReadNatural, ReadNumber};
 
 // Document 01's numbers 1 to 16 in their order, with the place: a word, a step, a loop or a statement.
 pub enum Refusal {
@@ -142,22 +142,28 @@ pub fn signed_of(v: u16) -> i32
     }
 }
 
+// The number of a word's bits, from lo to hi; else the refusal.
+fn in_range(v: u16, lo: usize, hi: usize, outside: Refusal) -> Natural
+    requires { ⌜ hi < 32768 ⌝ }
+    ensures { λ r. ⌜ Ranged v lo hi outside r ⌝ }
+{
+    let n = v as usize;
+    if n < lo {
+        return Natural::Refused(outside);
+    }
+    if hi < n {
+        return Natural::Refused(outside);
+    }
+    Natural::Value(n)
+}
+
 // A count from lo to hi.
 pub fn read_count(s: &[u8], at: usize, lo: usize, hi: usize) -> Natural
     requires { ⌜ Reached (now s) at × (hi < 32768) ⌝ }
     ensures { λ r. ⌜ ReadNatural (count lo hi (now (s .entry)) at) lo hi (now (s .entry)) at r ⌝ }
 {
     match bits_at(s, at) {
-        Bits::Value(v) => {
-            let n = v as usize;
-            if n < lo {
-                return Natural::Refused(Refusal::CountOutOfRange(at));
-            }
-            if hi < n {
-                return Natural::Refused(Refusal::CountOutOfRange(at));
-            }
-            Natural::Value(n)
-        }
+        Bits::Value(v) => in_range(v, lo, hi, Refusal::CountOutOfRange(at)),
         Bits::Torn => Natural::Refused(Refusal::Truncated(at)),
     }
 }
@@ -168,16 +174,7 @@ pub fn read_natural(s: &[u8], at: usize, lo: usize, hi: usize) -> Natural
     ensures { λ r. ⌜ ReadNatural (natural lo hi (now (s .entry)) at) lo hi (now (s .entry)) at r ⌝ }
 {
     match bits_at(s, at) {
-        Bits::Value(v) => {
-            let n = v as usize;
-            if n < lo {
-                return Natural::Refused(Refusal::WordOutOfRange(at));
-            }
-            if hi < n {
-                return Natural::Refused(Refusal::WordOutOfRange(at));
-            }
-            Natural::Value(n)
-        }
+        Bits::Value(v) => in_range(v, lo, hi, Refusal::WordOutOfRange(at)),
         Bits::Torn => Natural::Refused(Refusal::Truncated(at)),
     }
 }
@@ -192,14 +189,7 @@ pub fn read_loop_number(s: &[u8], at: usize, step: usize, lo: usize, hi: usize) 
             if w == 32768 {
                 return Natural::Refused(Refusal::WordOutOfRange(at));
             }
-            let n = w as usize;
-            if n < lo {
-                return Natural::Refused(Refusal::LoopOutOfNest(step));
-            }
-            if hi < n {
-                return Natural::Refused(Refusal::LoopOutOfNest(step));
-            }
-            Natural::Value(n)
+            in_range(w, lo, hi, Refusal::LoopOutOfNest(step))
         }
         Bits::Torn => Natural::Refused(Refusal::Truncated(at)),
     }

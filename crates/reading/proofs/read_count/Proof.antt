@@ -1,9 +1,8 @@
--- `read_count`: the range is tested on the bits.
+-- `read_count`: the word, then its range.
 use mathlib.Core.Path.{sym}
-use native.Mathlib.Omega.{arith}
 use Rattle.reading.specs.Words.{bitsAnswer, OnBits}
 use Rattle.reading.proofs.ReaderLaws.{seen, known-of}
-use Rattle.reading.proofs.WordLaws.{in-range, below-range, above-range, low-value, count-value, count-no, count-torn}
+use Rattle.reading.proofs.WordLaws.{count-value, count-no, count-torn, ranged-read}
 use borrow.Author.Needs.{needs}
 use Rattle.reading.proofs.read_count.Statement.{statement}
 use Rattle.reading.proofs.read_count.Tie as tie
@@ -14,38 +13,23 @@ bits-at-requires c κs = search needs
 enum-known-v : tie.Need-enum-known-v
 enum-known-v c = search needs
 
-cast-n : tie.Need-cast-n
-cast-n c = search needs
-
-returns : tie.Need-returns
-returns c =
-    let e = seen (bitsAnswer _) (c .before .before .v .given .1) (c .before .before .before .before .bits-at .ensures .same) in
-    record { same = sym (count-no _ _ _ e _ _ (below-range _ _ _ (c .if1 .taken) (c .before .before .before .before .before .before .pre .1))); known = tt }
-
-returns-2 : tie.Need-returns-2
-returns-2 c =
-    let e = seen (bitsAnswer _) (c .before .before .before .v .given .1) (c .before .before .before .before .before .bits-at .ensures .same) in
-    record { same = sym (count-no _ _ _ e _ _ (above-range _ _ _ (c .if2 .taken))); known = tt }
+in-range-requires : tie.Need-in-range-requires
+in-range-requires c κs = search needs
 
 enum-told : tie.Need-enum-told
 enum-told c = search needs
 
-returns-3 : tie.Need-returns-3
-returns-3 c =
-    let e = seen (bitsAnswer _) (c .before .before .before .v .given .1) (c .before .before .before .before .before .bits-at .ensures .same) in
-    let p = c .before .if1 .left in
-    let q = c .if2 .left in
-    record {
-      same = sym (count-value _ _ _ e _ _ _ (low-value _ (omega arith)) (in-range _ _ _ p q (c .before .before .before .before .before .before .before .pre .1)));
-      known = record { low = p; high = q; reached = known-of (OnBits _ _) (c .before .before .before .v .given .1) (c .before .before .before .before .before .bits-at .ensures .known) };
-    }
+returns : tie.Need-returns
+returns c = let g = c .before .before .v .given .1 in
+    let r = c .before .before .before .before .bits-at .ensures in
+    let e = seen (bitsAnswer _) g (r .same) in
+    ranged-read _ _ (count-value _ _ _ e _ _) (count-no _ _ _ e _ _) (known-of (OnBits _ _) g (r .known)) _ (c .in-range .ensures)
 
-returns-4 : tie.Need-returns-4
-returns-4 c =
-    let e = seen (bitsAnswer _) (c .enum-told .given .1) (c .before .before .bits-at .ensures .same) in
+returns-2 : tie.Need-returns-2
+returns-2 c = let e = seen (bitsAnswer _) (c .enum-told .given .1) (c .before .before .bits-at .ensures .same) in
     record { same = sym (count-torn _ _ e _ _); known = tt }
 
 pub read-count-spec : {M : Type 1} → statement M
 read-count-spec =
     tie.close
-    (tie.spec bits-at-requires enum-known-v cast-n returns returns-2 enum-told returns-3 returns-4)
+    (tie.spec bits-at-requires enum-known-v in-range-requires enum-told returns returns-2)
