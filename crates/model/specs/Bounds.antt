@@ -10,7 +10,7 @@ use Rattle.integers.specs.Affine.{affine}
 use Rattle.lists.specs.Tests.{any}
 use Rattle.model.specs.Answer.{Answer, accepted, require, _>>_}
 use Rattle.model.specs.Ticket.{Loop, Subscript, Access, Statement, Nest}
-use Rattle.model.specs.Grammar.{extents}
+use Rattle.model.specs.Grammar.{extents, mostPoints}
 use Rattle.model.specs.Points.{partialPoints, iterations}
 
 -- the last index of a point
@@ -34,7 +34,7 @@ survey far crowded m most N k (suc n) =
 
 -- 7, far index, and 8, crowded
 unfoldable pub space : List Loop → Answer (Unit {0})
-space N = survey 7 8 32767 4096 N 1 (length N)
+space N = survey 7 8 32767 mostPoints N 1 (length N)
 
 -- 13, sprawl, of a new nest
 unfoldable pub sprawl : List Loop → Answer (Unit {0})

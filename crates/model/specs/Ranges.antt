@@ -14,6 +14,7 @@ use Rattle.model.specs.Words.{wordAt}
 use Rattle.model.specs.Ticket.{Limit, Loop, Subscript, Access, Statement, Step, exchange, reversal, skew, section, Nest, Ticket}
 use Rattle.model.specs.Grammar.{between, total, depthAfter, mostStatements}
 use Rattle.model.specs.Encode.{counted, loopWords, arrayWords, statementWords}
+use Rattle.model.specs.Grammar.{mostReads, mostArrays, mostDimensions, ticketLoops, mostLoops, ticketLimits}
 
 -- ---- ranges
 
@@ -39,7 +40,7 @@ pub record LoopRanges (m : ℕ) (L : Loop) : Type 0 where
   pub upper : All LimitRanges (L .upper)
 
 pub record ArrayRanges (a : List ℕ) : Type 0 where
-  pub dimensions : InRange 1 3 (length a)
+  pub dimensions : InRange 1 mostDimensions (length a)
   pub extents : All (InRange 1 4096) a
 
 pub record SubscriptRanges (s : Subscript) : Type 0 where
@@ -54,17 +55,17 @@ pub record StatementRanges (s : Statement) : Type 0 where
   pub rule : s .rule ≤ 3
   pub constant : s .constant ≤ 32767
   pub one-write : length (s .writes) ≡ 1
-  pub few-reads : length (s .reads) ≤ 4
+  pub few-reads : length (s .reads) ≤ mostReads
   pub copy-reads : s .rule ≡ 3 → 1 ≤ length (s .reads)
   pub copy-constant : s .rule ≡ 3 → s .constant ≡ 0
   pub writes : All AccessRanges (s .writes)
   pub reads : All AccessRanges (s .reads)
 
--- at most d loops and m limits a side: 4 and 4 in a ticket, 6 and 16 in a written nest
+-- at most d loops and m limits a side: ticketLoops and ticketLimits in a ticket, mostLoops and mostLimits in a written nest
 pub record NestRanges (d m : ℕ) (N : Nest) : Type 0 where
   pub few-loops : InRange 1 d (length (N .loops))
   pub loops : All (LoopRanges m) (N .loops)
-  pub few-arrays : InRange 1 4 (length (N .arrays))
+  pub few-arrays : InRange 1 mostArrays (length (N .arrays))
   pub arrays : All ArrayRanges (N .arrays)
   pub room : total (N .arrays) ≤ 16384
   pub few-statements : InRange 1 mostStatements (length (N .statements))
@@ -75,14 +76,14 @@ abbrev pub StepThere : ℕ → Step → Type 0
 StepThere m (exchange a) = suc a < m
 StepThere m (reversal a) = a < m
 StepThere m (skew a d c) = suc (a + d) < m
-StepThere m (section a w) = (a < m) × (m < 6) × InRange 2 256 w
+StepThere m (section a w) = (a < m) × (m < mostLoops) × InRange 2 256 w
 
 abbrev pub StepsThere : ℕ → List Step → Type 0
 StepsThere m [] = Unit {0}
 StepsThere m (t ∷ ts) = StepThere m t × StepsThere (depthAfter t m) ts
 
 pub record TicketRanges (T : Ticket) : Type 0 where
-  pub nest : NestRanges 4 4 (T .nest)
+  pub nest : NestRanges ticketLoops ticketLimits (T .nest)
   pub few-steps : length (T .steps) ≤ 8
   pub steps : StepsThere (length (T .nest .loops)) (T .steps)
 
@@ -129,8 +130,8 @@ pub data CountRange : ℕ → ℕ → Type 0 where
   -- loops, limits of a side, arrays, and reads under rule 3
   toFour : CountRange 1 4
   statements : CountRange 1 mostStatements
-  dimensions : CountRange 1 3
-  reads : CountRange 0 4
+  dimensions : CountRange 1 mostDimensions
+  reads : CountRange 0 mostReads
   steps : CountRange 0 8
 
 -- the ranges of other words
@@ -143,7 +144,7 @@ pub data WordRange : ℤ → ℤ → Type 0 where
   constant : WordRange (pos 0) (pos 32767)
   -- a statement's constant under rule 3, and words that a step does not use
   nought : WordRange (pos 0) (pos 0)
-  array : {n : ℕ} → InRange 1 4 n → WordRange (pos 1) (pos n)
+  array : {n : ℕ} → InRange 1 mostArrays n → WordRange (pos 1) (pos n)
   kind : WordRange (pos 1) (pos 4)
   direction : WordRange (negsuc 0) (pos 1)
   width : WordRange (pos 2) (pos 256)
@@ -164,7 +165,7 @@ pub data BadLoop (b : List ℕ) (m q : ℕ) (w : ℤ) : Type 0 where
   -- a skew's b, after its a
   notInside : (a : ℕ) → WordIs b (q - 1) (pos a) → w ≤ℤ pos a → BadLoop b m q w
   -- a section of a nest of six loops
-  seventh : m ≡ 6 → BadLoop b m q w
+  seventh : m ≡ mostLoops → BadLoop b m q w
 
 -- the words of a ticket up to these arrays: the loops, the count n of arrays, the arrays
 abbrev pub upTo : List Loop → ℕ → List (List ℕ) → List ℤ
@@ -183,4 +184,4 @@ pub data Explained (b : List ℕ) : ℕ → ℕ → Type 0 where
   -- the words up to p are the loops and the arrays so far
   overfull : {p : ℕ} (N : List Loop) (n : ℕ) (as′ : List (List ℕ)) → All ArrayRanges as′ → Spells b 1 (upTo N n as′) → p ≡ length (upTo N n as′) → 16384 < total as′ → Explained b 5 p
   -- at step p, that finds m loops
-  offNest : {p m q : ℕ} {w : ℤ} → InRange 1 8 p → InRange 1 6 m → WordIs b q w → BadLoop b m q w → Explained b 6 p
+  offNest : {p m q : ℕ} {w : ℤ} → InRange 1 8 p → InRange 1 mostLoops m → WordIs b q w → BadLoop b m q w → Explained b 6 p
