@@ -40,7 +40,7 @@ module _ (w : List ℤ) (i j d n : ℕ) (b : List Range) (g : RegionIn w i j d n
     dimension-in = record { sums = record { source = one (g .sums .source); sink = one (g .sums .sink) }; ranges = g .ranges }
       where
         one : {o : ℕ} → SubscriptsIn w o d → SubscriptsIn w (o + t) 1
-        one {o} s = let a = s .inside in record { small = s .small; inside = omega arith; room = s .room; few = omega arith }
+        one {o} s = let a = s .inside in record { small = s .small; inside = omega arith; few = omega arith }
 
     pub dimension-excluded : Excluded w (i + t) (j + t) 1 n b u → Impossible w i j d n b u
     dimension-excluded x p q h e = x p q h (difference-zero w n (i + t) (j + t) 1 p q (dimension-in .sums) (g .ranges .few) (iteration-long n b (g .ranges) p (h .source)) (iteration-long n b (g .ranges) q (h .sink)) same)
@@ -123,7 +123,7 @@ module _ (w : List ℤ) (a b d n : ℕ) (r : List Range) (base : ℕ) (m : List 
 module _ (w : List ℤ) (a b d n : ℕ) (r : List Range) (own : Bool) (base : ℕ) (m : List Bool) (g : CoverIn w a b d n r base m) where
   pub region-in : RegionIn w (a * 3) (b * 3) d n r
   region-in = let x = g .source in let y = g .sink in record {
-    sums = record { source = record { small = g .small; inside = omega arith; room = g .room; few = g .dimensions }; sink = record { small = g .small; inside = omega arith; room = g .room; few = g .dimensions } };
+    sums = record { source = record { small = g .small; inside = omega arith; few = g .dimensions }; sink = record { small = g .small; inside = omega arith; few = g .dimensions } };
     ranges = g .ranges;
   }
 

@@ -47,8 +47,8 @@ small-divisor (x ∷ l) m h = go (natAbs x) (let s = h x (List·Memᴰ·head ref
 
 pub pair-of : (w : List ℤ) (i j n : ℕ) (b : List Range) → RegionIn w i j 1 n b → (k : ℕ) → k ≤ n → PairIn w i j k
 pair-of w i j n b g k h = let f = g .ranges .few in let x = g .sums .source .inside in let y = g .sums .sink .inside in record {
-  first = record { small = g .sums .source .small; inside = omega arith; room = g .sums .source .room; few = omega arith };
-  second = record { small = g .sums .sink .small; inside = omega arith; room = g .sums .sink .room; few = omega arith };
+  first = record { small = g .sums .source .small; inside = omega arith; few = omega arith };
+  second = record { small = g .sums .sink .small; inside = omega arith; few = omega arith };
 }
 
 module _ (w : List ℤ) (k i j : ℕ) (h : PairIn w i j k) where

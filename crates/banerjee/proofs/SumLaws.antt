@@ -104,7 +104,7 @@ difference-zero w n i j (suc m) p q s f a b e =
     (difference-zero w n i j m p q (record { source = fewer (s .source); sink = fewer (s .sink) }) f a b (λ t h. e t (omega arith))) (e m (omega arith))
   where
     fewer : {o : ℕ} → SubscriptsIn w o (suc m) → SubscriptsIn w o m
-    fewer {o} r = let u = r .inside in let h = r .few in record { small = r .small; inside = omega arith; room = r .room; few = omega arith }
+    fewer {o} r = let u = r .inside in let h = r .few in record { small = r .small; inside = omega arith; few = omega arith }
 
 pub equal-pairs : (w : List ℤ) (n i j d : ℕ) (p q : List ℤ) → map (subscriptAt p) (formsFrom w n i d) ≡ map (subscriptAt q) (formsFrom w n j d)
     → (t : ℕ) → t < d → subscriptAt p (formAt w n (i + t)) ≡ subscriptAt q (formAt w n (j + t))

@@ -26,7 +26,6 @@ pub cover-in : CoverIn (replicate 48 (pos 1)) 0 1 3 6 (replicate 6 four) 0 (repl
 unfolding rangesOf
 cover-in = let w = length-replicate 48 (pos 1) in let m = length-replicate vectorCount false in record {
   small = within-ones 48;
-  room = omega arith;
   source = omega arith;
   sink = omega arith;
   dimensions = omega arith;

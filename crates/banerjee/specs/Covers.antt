@@ -10,7 +10,7 @@ use Rattle.integers.specs.Affine.{Within}
 use Rattle.model.specs.Bounds.{subscriptAt}
 use Rattle.model.specs.Directions.{signs, earlier, vectorCount}
 use Rattle.model.proofs.Quick.QuickRangeLaws.{InRanges}
-use Rattle.model.specs.Grammar.{accessRoom, mostWords}
+use Rattle.model.specs.Grammar.{accessRoom}
 use Rattle.elements.specs.Layout.{formsFrom}
 use Rattle.extremes.specs.declared.Range.{Range}
 use Rattle.extremes.specs.Ranges.{rangesOf, RangesIn}
@@ -33,7 +33,6 @@ candidates n own = cond own ((vectorCount / stride (6 - n) - 1) / 2 + 1) ((vecto
 -- two accesses among the words, and vectorCount marks
 pub record CoverIn (w : List ℤ) (a b d n : ℕ) (r : List Range) (base : ℕ) (m : List Bool) : Type 0 where
   pub small : Within 32767 w
-  pub room : length w ≤ mostWords
   pub source : a * accessRoom + d * 8 ≤ length w
   pub sink : b * accessRoom + d * 8 ≤ length w
   pub dimensions : d ≤ 3

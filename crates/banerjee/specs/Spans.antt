@@ -10,6 +10,7 @@ use Rattle.integers.specs.Sign.{sign}
 use Rattle.model.specs.Bounds.{subscriptAt}
 use Rattle.model.specs.Directions.{signs}
 use Rattle.model.proofs.Quick.QuickRangeLaws.{InRange, InRanges}
+use Rattle.model.specs.Grammar.{mostLoops}
 use Rattle.elements.specs.Layout.{formsFrom}
 use Rattle.extremes.specs.declared.Range.{Range}
 use Rattle.extremes.specs.Ranges.{rangeAs, rangesOf, NearRange, RangesIn}
@@ -66,7 +67,7 @@ pub record RegionIn (w : List ℤ) (i j m n : ℕ) (b : List Range) : Type 0 whe
 -- the coefficients of loop k − 1, its range, and a sign's digit
 pub record TermIn (w : List ℤ) (i j m k : ℕ) (r : Range) (s : ℕ) : Type 0 where
   pub sums : SumsIn w i j m
-  pub loop : k ≤ 6
+  pub loop : k ≤ mostLoops
   pub range : NearRange (rangeAs r)
   pub digit : s < 3
 

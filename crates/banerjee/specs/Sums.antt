@@ -4,7 +4,6 @@ use Prim.Native.Nat.{ℕ, zero, suc, _+_, _*_, _≤_}
 use lib.IntN.{ℤ, pos, _+ℤ_, _-ℤ_, _*ℤ_}
 use lib.ListN.{length, getD}
 use Rattle.integers.specs.Affine.{Within}
-use Rattle.model.specs.Grammar.{mostWords}
 
 -- coefficient k of m subscripts from subscript i on, summed: 0 is the constant, and k is of loop k − 1
 unfoldable pub coefficientSum : List ℤ → ℕ → ℕ → ℕ → ℤ
@@ -25,7 +24,6 @@ difference w i j m n p q = (coefficientSum w i 0 m -ℤ coefficientSum w j 0 m) 
 pub record SubscriptsIn (w : List ℤ) (i m : ℕ) : Type 0 where
   pub small : Within 32767 w
   pub inside : (i + m) * 8 ≤ length w
-  pub room : length w ≤ mostWords
   pub few : m ≤ 3
 
 -- and as many from subscript j on

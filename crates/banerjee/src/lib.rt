@@ -4,6 +4,7 @@
 // Words, ranges and marks are flat, as crates elements, extremes and vectors have them.
 use bounds::Whole;
 use extremes::Range;
+use model::LOOPS;
 use model::VECTORS;
 ghost use mathlib.Core.Path.{_≡_};
 ghost use mathlib.Core.Bool.{true};
@@ -11,6 +12,7 @@ ghost use Prim.Native.Nat.{_≤_, _<_};
 ghost use lib.IntN.{_+ℤ_, _-ℤ_, _*ℤ_};
 ghost use lib.Signed.{leZ};
 ghost use Rattle.integers.specs.Difference.{size};
+ghost use Rattle.model.specs.Grammar.{mostLoops};
 ghost use Rattle.extremes.specs.Ranges.{rangeAs, NearRange, RangesIn};
 ghost use Rattle.banerjee.specs.Sums.{coefficientSum, SubscriptsIn, SumsIn};
 ghost use Rattle.banerjee.specs.Spans.{SpanIn, CornerIn, Filled, Widened, Spans, TermIn, PairIn, RegionIn, Extent, Excluded, Skips, Vacant, Impossible};
@@ -30,7 +32,7 @@ fn plus(sum: Whole, x: i64) -> Whole
 
 // Coefficient k of m subscripts from subscript i on, summed; 0 is the constant.
 fn coefficient(words: &[i16], i: usize, m: usize, k: usize) -> Whole
-    requires { ⌜ SubscriptsIn (now words) i m × (k ≤ 6) ⌝ }
+    requires { ⌜ SubscriptsIn (now words) i m × (k ≤ mostLoops) ⌝ }
     ensures { λ r. ⌜ (r .value ≡ coefficientSum (now (words .entry)) i k m) × (size (r .value) ≤ 98301) ⌝ }
 {
     let mut sum = Whole { value: 0 };
@@ -172,7 +174,7 @@ fn extent(
     j: usize,
     m: usize,
     n: usize,
-    ranges: [Range; 6],
+    ranges: [Range; LOOPS],
     u: usize,
 ) -> Range
     requires { ⌜ RegionIn (now words) i j m n ranges ⌝ }
@@ -196,7 +198,7 @@ fn excludes(
     j: usize,
     m: usize,
     n: usize,
-    ranges: [Range; 6],
+    ranges: [Range; LOOPS],
     u: usize,
 ) -> bool
     requires { ⌜ RegionIn (now words) i j m n ranges ⌝ }
@@ -223,7 +225,7 @@ fn skips(r: Range, g: u64) -> bool
 
 // Whether the difference of two subscripts leaps over 0. The terms of the outer loops sum to a multiple of the greatest common divisor of their
 // coefficients; the constants and the inner loops, added one by one, must leave room for one.
-fn leaps(words: &[i16], i: usize, j: usize, n: usize, ranges: [Range; 6], u: usize) -> bool
+fn leaps(words: &[i16], i: usize, j: usize, n: usize, ranges: [Range; LOOPS], u: usize) -> bool
     requires { ⌜ RegionIn (now words) i j 1 n ranges ⌝ }
     ensures { λ r. ⌜ (r ≡ true → Excluded (now (words .entry)) i j 1 n ranges u) ⌝ }
 {
@@ -248,7 +250,7 @@ fn some_leap(
     j: usize,
     d: usize,
     n: usize,
-    ranges: [Range; 6],
+    ranges: [Range; LOOPS],
     u: usize,
 ) -> bool
     requires { ⌜ RegionIn (now words) i j d n ranges ⌝ }
@@ -273,7 +275,7 @@ fn is_single(r: Range) -> bool
 }
 
 // Whether no iterations have vector u: a sign other than = wants two values.
-fn vacant(n: usize, ranges: [Range; 6], u: usize) -> bool
+fn vacant(n: usize, ranges: [Range; LOOPS], u: usize) -> bool
     requires { ⌜ RangesIn n ranges ⌝ }
     ensures { λ r. ⌜ (r ≡ true → Vacant n ranges u) ⌝ }
 {
@@ -299,7 +301,7 @@ fn impossible(
     j: usize,
     d: usize,
     n: usize,
-    ranges: [Range; 6],
+    ranges: [Range; LOOPS],
     u: usize,
 ) -> bool
     requires { ⌜ RegionIn (now words) i j d n ranges ⌝ }
@@ -325,7 +327,7 @@ fn impossible(
 
 // How many vectors of n loops come before that of = alone, and that one if `own`.
 fn candidates(n: usize, own: bool) -> usize
-    requires { ⌜ n ≤ 6 ⌝ }
+    requires { ⌜ n ≤ mostLoops ⌝ }
     ensures { λ r. ⌜ r ≡ «candidates-of» n own ⌝ }
 {
     let before = (VECTORS / vectors::stride(n) - 1) / 2;
@@ -340,7 +342,7 @@ pub fn covers(
     b: usize,
     d: usize,
     n: usize,
-    ranges: [Range; 6],
+    ranges: [Range; LOOPS],
     own: bool,
     base: usize,
     marks: &[bool],

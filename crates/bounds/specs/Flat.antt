@@ -10,7 +10,7 @@ use lib.Signed.{_<ℤ_}
 use lib.ListN.{length, getD, take, drop}
 use Rattle.integers.specs.Affine.{Within}
 use Rattle.model.specs.Ticket.{Limit, Loop}
-use Rattle.model.specs.Grammar.{mostSides, nestRoom, mostLimits}
+use Rattle.model.specs.Grammar.{mostSides, nestRoom, mostLimits, mostLoops}
 
 -- limit j of the nest, of a loop with k loops outside
 unfoldable pub limitAt : List ℤ → ℕ → ℕ → Limit
@@ -37,7 +37,7 @@ Positive s j n = (i : ℕ) → i < n → pos 0 <ℤ getD s ((j + i) * 8) (pos 0)
 pub record NestOk (s : List ℤ) (c : List ℕ) (depth : ℕ) : Type 0 where
   pub words : length s ≡ nestRoom
   pub counts : length c ≡ mostSides
-  pub shallow : depth ≤ 6
+  pub shallow : depth ≤ mostLoops
   pub small : Within 32767 s
   pub lower-count : (k : ℕ) → k < depth → (1 ≤ getD c (k * 2) 0) × (getD c (k * 2) 0 ≤ mostLimits)
   pub upper-count : (k : ℕ) → k < depth → (1 ≤ getD c (k * 2 + 1) 0) × (getD c (k * 2 + 1) 0 ≤ mostLimits)

@@ -10,7 +10,7 @@ use Rattle.integers.specs.Division.{floorDiv, ceilDiv}
 use Rattle.integers.specs.Affine.{Within}
 use Rattle.model.specs.Ticket.{Limit, Loop}
 use Rattle.model.specs.Points.{value, largest, smallest, firstIndex, lastIndex}
-use Rattle.model.specs.Grammar.{mostSides, nestLimits, nestRoom}
+use Rattle.model.specs.Grammar.{mostSides, nestLimits, nestRoom, mostLoops}
 use Rattle.bounds.specs.Flat.{limitsAt, Positive}
 
 -- within ±2^35, as the value of every limit is at indices within ±100,000
@@ -33,7 +33,7 @@ lastFrom s j n outer = smallest (map (floorAt outer) (limitsAt s (length outer) 
 
 -- indices outside a loop that were admitted
 pub record Outside (outer : List ℤ) : Type 0 where
-  pub few : length outer ≤ 6
+  pub few : length outer ≤ mostLoops
   pub near : Within 100000 outer
 
 pub record LimitIn (s : List ℤ) (j : ℕ) (outer : List ℤ) : Type 0 where
@@ -58,7 +58,7 @@ pub record SideIn (s : List ℤ) (j n : ℕ) (outer : List ℤ) : Type 0 where
 -- the loop that stands inside the indices outer
 pub record RangeIn (s : List ℤ) (c : List ℕ) (outer : List ℤ) : Type 0 where
   pub counts : length c ≡ mostSides
-  pub deep : length outer < 6
+  pub deep : length outer < mostLoops
   pub lower : SideIn s (length outer * 32) (getD c (length outer * 2) 0) outer
   pub upper : SideIn s (length outer * 32 + 16) (getD c (length outer * 2 + 1) 0) outer
 

@@ -81,7 +81,6 @@ module _ {w : List ℤ} {o a sizes : List ℕ} {points : List ℤ} {depth count 
           pub stray-in : StrayIn w ((first + i) * 3 + d) (getD a (getD o (first + i) 0 * 4 + 1 + d) 0) points depth count
           stray-in = let k = there in let f = flat in let v = p .accesses .words in let u = p .accesses .many in record {
             inside = omega arith;
-            long = omega arith;
             small = p .accesses .small;
             extents = p .accesses .extents (getD o (first + i) 0 * 4 + 1 + d);
             stored = p .stored;

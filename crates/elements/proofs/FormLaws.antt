@@ -239,7 +239,6 @@ module _ {w : List ℤ} {o a : List ℕ} {n k : ℕ} (ok : AccessesOk w o a n) (
       near = subst (Within 134246399) (sym e) (within-more (formTo w o a k d) (form-near d) (near d (omega arith)));
       extents = ok .extents (getD o k 0 * 4 + 1 + d);
       inside = omega arith;
-      room = omega arith;
       small = ok .small;
     }
       where

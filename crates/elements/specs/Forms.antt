@@ -7,7 +7,7 @@ use lib.IntN.{ℤ, pos, natAbs, _+ℤ_, _*ℤ_}
 use lib.Signed.{_≤ℤ_}
 use lib.ListN.{length, getD, take, drop, set, replicate}
 use Rattle.integers.specs.Affine.{affine, Within, AffineIn}
-use Rattle.model.specs.Grammar.{mostWords, arrayRoom}
+use Rattle.model.specs.Grammar.{arrayRoom, mostLoops}
 use Rattle.bounds.specs.Ranges.{Narrow}
 use Rattle.elements.specs.Layout.{AccessesOk}
 
@@ -40,7 +40,6 @@ pub record FoldIn (f : List ℤ) (extent : ℕ) (w : List ℤ) (j : ℕ) : Type 
   pub near : Within 134246399 f
   pub extents : extent ≤ 4096
   pub inside : j * 8 + 8 ≤ length w
-  pub room : length w ≤ mostWords
   pub small : Within 32767 w
 
 pub record FormIn (w : List ℤ) (o a : List ℕ) (k b : ℕ) : Type 0 where
@@ -52,7 +51,7 @@ pub record FormIn (w : List ℤ) (o a : List ℕ) (k b : ℕ) : Type 0 where
 -- a form at a point where its value is small
 pub record ValueIn (f point : List ℤ) : Type 0 where
   pub words : length f ≡ 8
-  pub few : length point ≤ 6
+  pub few : length point ≤ mostLoops
   pub lent : AffineIn (getD f 0 (pos 0)) (take (length point) (drop 1 f)) point
   pub narrow : Narrow (valueAt f point)
 

@@ -9,7 +9,7 @@ use lib.IntN.{ℤ, pos}
 use lib.ListN.{length, getD, take, drop}
 use Rattle.integers.specs.Affine.{Within}
 use Rattle.model.specs.Ticket.{Subscript, Access}
-use Rattle.model.specs.Grammar.{mostAccesses, accessRoom, arrayRoom, mostExtents}
+use Rattle.model.specs.Grammar.{mostAccesses, accessRoom, arrayRoom, mostExtents, mostLoops}
 
 unfoldable pub extentsAt : List ℕ → ℕ → List ℕ
 extentsAt a i = take (getD a (i * arrayRoom) 0) (drop (i * arrayRoom + 1) a)
@@ -57,7 +57,7 @@ pub record AccessesOk (w : List ℤ) (o a : List ℕ) (n : ℕ) : Type 0 where
   pub words : length w ≡ length o * accessRoom
   pub many : length o ≤ mostAccesses
   pub few : length a ≤ mostExtents
-  pub shallow : n ≤ 6
+  pub shallow : n ≤ mostLoops
   pub small : Within 32767 w
   pub dimensions : (i : ℕ) → i < length a / arrayRoom → getD a (i * arrayRoom) 0 ≤ 3
   pub extents : (j : ℕ) → getD a j 0 ≤ 4096

@@ -14,7 +14,7 @@ use Rattle.model.specs.Answer.{Answer, accepted, refused, require, _>>_}
 use Rattle.model.specs.Ticket.{Access, Statement}
 use Rattle.model.specs.Bounds.{subscriptAt, strays, accessesOf, inArrays}
 use Rattle.model.specs.Store.{sum}
-use Rattle.model.specs.Grammar.{mostAccesses, mostWords, mostStatements, mostPoints}
+use Rattle.model.specs.Grammar.{mostStatements, mostPoints, mostLoops}
 use Rattle.elements.specs.Layout.{formAt, arraysOf, bodiesFrom, AccessesOk}
 
 -- not from 0 to extent − 1
@@ -23,14 +23,13 @@ off extent x = ltZ x (pos 0) || leZ (pos extent) x
 
 -- stored points that were admitted
 pub record RowsIn (points : List ℤ) (depth count : ℕ) : Type 0 where
-  pub few : depth ≤ 6
+  pub few : depth ≤ mostLoops
   pub bound : count ≤ mostPoints
   pub room : count * depth ≤ length points
   pub near : All (Within 100000) (rows depth count points)
 
 pub record StrayIn (w : List ℤ) (j extent : ℕ) (points : List ℤ) (depth count : ℕ) : Type 0 where
   pub inside : j * 8 + 8 ≤ length w
-  pub long : length w ≤ mostWords
   pub small : Within 32767 w
   pub extents : extent ≤ 4096
   pub stored : RowsIn points depth count

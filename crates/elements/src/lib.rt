@@ -7,7 +7,7 @@ ghost use lib.ListN.{length};
 ghost use Rattle.lists.specs.Parts.{rows, put};
 ghost use Rattle.integers.specs.Difference.{size};
 ghost use Rattle.integers.specs.Affine.{Within};
-ghost use Rattle.model.specs.Grammar.{elements, total, mostWords};
+ghost use Rattle.model.specs.Grammar.{elements, total};
 ghost use Rattle.model.specs.Store.{base};
 ghost use Rattle.bounds.specs.Ranges.{Narrow};
 ghost use Rattle.elements.specs.Layout.{extentsAt, arraysOf, ArrayIn};
@@ -38,7 +38,7 @@ fn leaves(form: &[i64], extent: usize, point: &[i64]) -> bool
 
 // The words of subscript j of all as a form, which is made once and lent for every point.
 fn words_at(words: &[i16], j: usize) -> [i64; 8]
-    requires { ⌜ (j * 8 + 8 ≤ length (now words)) × (length (now words) ≤ mostWords) × Within 32767 (now words) ⌝ }
+    requires { ⌜ (j * 8 + 8 ≤ length (now words)) × Within 32767 (now words) ⌝ }
     ensures { λ r. ⌜ r ≡ wordsAt (now (words .entry)) j ⌝ }
 {
     let at = j * 8;

@@ -63,7 +63,6 @@ module _ {w : List ℤ} {o a : List ℕ} {n : ℕ} {b : List Range} (p : Accesse
   subscript-in d g = let f = flat in let v = p .accesses .words in let u = p .accesses .many in record {
     small = p .accesses .small;
     inside = omega arith;
-    room = omega arith;
     extents = p .accesses .extents (getD o k 0 * 4 + 1 + d);
     ranges = p .ranges;
   }

@@ -15,10 +15,11 @@ use bounds::Ends;
 use extremes::Range;
 use model::ACCESS_ROOM;
 use model::ARRAY_ROOM;
+use model::LOOPS;
 use sheet::Outline;
 
 // Whether subscript j of all stays within its extent over the ranges of n loops.
-fn fits(words: &[i16], j: usize, n: usize, extent: usize, ranges: [Range; 6]) -> bool
+fn fits(words: &[i16], j: usize, n: usize, extent: usize, ranges: [Range; LOOPS]) -> bool
     requires { ⌜ SubscriptIn (now words) j n extent ranges ⌝ }
     ensures { λ r. ⌜ (r ≡ true → Enclosed (rangesOf n ranges) extent (formAt (now (words .entry)) n j)) ⌝ }
 {
@@ -38,7 +39,7 @@ fn access_fits(
     arrays: &[usize],
     k: usize,
     n: usize,
-    ranges: [Range; 6],
+    ranges: [Range; LOOPS],
 ) -> bool
     requires { ⌜ AccessesIn (now words) (now owners) (now arrays) n ranges × (k < length (now owners)) ⌝ }
     ensures { λ r. ⌜ (r ≡ true → FirstEnclosed (rangesOf n ranges) (now (words .entry)) (now (owners .entry)) (now (arrays .entry)) n k (getD (now (arrays .entry)) (getD (now (owners .entry)) k 0 * arrayRoom) 0)) ⌝ }
@@ -56,7 +57,13 @@ fn access_fits(
 }
 
 // Whether every subscript of every access does.
-fn all_fit(words: &[i16], owners: &[usize], arrays: &[usize], n: usize, ranges: [Range; 6]) -> bool
+fn all_fit(
+    words: &[i16],
+    owners: &[usize],
+    arrays: &[usize],
+    n: usize,
+    ranges: [Range; LOOPS],
+) -> bool
     requires { ⌜ AccessesIn (now words) (now owners) (now arrays) n ranges ⌝ }
     ensures { λ r. ⌜ (r ≡ true → AllEnclosed (rangesOf n ranges) (now (words .entry)) (now (owners .entry)) (now (arrays .entry)) n (length (now (owners .entry)))) ⌝ }
 {
@@ -113,7 +120,7 @@ fn width(r: Range) -> usize
 }
 
 // Whether the box of the first n ranges is uncut, with 65,536 points at most at every depth.
-fn is_compact(ranges: [Range; 6], n: usize) -> bool
+fn is_compact(ranges: [Range; LOOPS], n: usize) -> bool
     requires { ⌜ RangesIn n ranges ⌝ }
     ensures { λ r. ⌜ (r ≡ true → Compact (rangesOf n ranges)) ⌝ }
 {

@@ -9,6 +9,7 @@ use lib.ListN.{length, take}
 use Rattle.integers.specs.Difference.{size}
 use Rattle.integers.specs.Affine.{Within}
 use Rattle.model.specs.Quick as Model
+use Rattle.model.specs.Grammar.{mostLoops}
 use Rattle.extremes.specs.declared.Range.{Range}
 
 abbrev pub rangeAs : Range → Model.Range
@@ -34,7 +35,7 @@ NearRanges (r ∷ rs) = NearRange r × NearRanges rs
 -- the ranges of n loops stand in the array
 pub record RangesIn (n : ℕ) (b : List Range) : Type 0 where
   pub six : length b ≡ 6
-  pub few : n ≤ 6
+  pub few : n ≤ mostLoops
   pub near : NearRanges (rangesOf n b)
 
 -- a sum, and a coefficient with the range of its index

@@ -1,5 +1,6 @@
 // The least and the greatest value of every loop, and of sums over them.
 use bounds::Whole;
+use model::LOOPS;
 ghost use mathlib.Core.Path.{_≡_};
 ghost use mathlib.Core.Bool.{true, false};
 ghost use Prim.Native.Nat.{suc, _+_, _*_, _≤_, _<_};
@@ -7,7 +8,7 @@ ghost use lib.IntN.{_+ℤ_};
 ghost use lib.ListN.{length, take, drop};
 ghost use Rattle.integers.specs.Difference.{size};
 ghost use Rattle.model.specs.Quick.{leastTerm, greatestTerm, leastSum, greatestSum, rangeOf};
-ghost use Rattle.model.specs.Grammar.{nestLimits, nestRoom};
+ghost use Rattle.model.specs.Grammar.{nestLimits, nestRoom, mostLoops};
 ghost use Rattle.bounds.specs.Flat.{NestOk, limitAt, loopAt};
 ghost use Rattle.extremes.specs.Ranges.{rangeAs, rangesOf, TermIn, SumIn};
 ghost use Rattle.extremes.specs.Values.{leastOf, greatestOf, largestFrom, smallestFrom, rangeAt, Free, LimitIn, SideIn, LoopIn, RangesAre};
@@ -49,7 +50,7 @@ fn plus_greatest(sum: Whole, c: i64, r: Range) -> Whole
 }
 
 // The least that n coefficients from place at on, times their indices, can sum to.
-pub fn least_sum(words: &[i16], at: usize, n: usize, ranges: [Range; 6]) -> Whole
+pub fn least_sum(words: &[i16], at: usize, n: usize, ranges: [Range; LOOPS]) -> Whole
     requires { ⌜ SumIn (now words) at n ranges ⌝ }
     ensures { λ r. ⌜ (r .value ≡ leastSum (take n (drop at (now (words .entry)))) (rangesOf n ranges)) × (size (r .value) ≤ 6442057734) ⌝ }
 {
@@ -63,7 +64,7 @@ pub fn least_sum(words: &[i16], at: usize, n: usize, ranges: [Range; 6]) -> Whol
 }
 
 // The greatest that they can sum to.
-pub fn greatest_sum(words: &[i16], at: usize, n: usize, ranges: [Range; 6]) -> Whole
+pub fn greatest_sum(words: &[i16], at: usize, n: usize, ranges: [Range; LOOPS]) -> Whole
     requires { ⌜ SumIn (now words) at n ranges ⌝ }
     ensures { λ r. ⌜ (r .value ≡ greatestSum (take n (drop at (now (words .entry)))) (rangesOf n ranges)) × (size (r .value) ≤ 6442057734) ⌝ }
 {
@@ -77,7 +78,7 @@ pub fn greatest_sum(words: &[i16], at: usize, n: usize, ranges: [Range; 6]) -> W
 }
 
 // The least index that lower limit j allows over the ranges of the k loops outside.
-fn least_of(nest: &[i16], j: usize, k: usize, outer: [Range; 6]) -> i64
+fn least_of(nest: &[i16], j: usize, k: usize, outer: [Range; LOOPS]) -> i64
     requires { ⌜ LimitIn (now nest) j k outer ⌝ }
     ensures { λ r. ⌜ (r ≡ leastOf (rangesOf k outer) (limitAt (now (nest .entry)) k j)) × (size r ≤ 34359738368) ⌝ }
 {
@@ -87,7 +88,7 @@ fn least_of(nest: &[i16], j: usize, k: usize, outer: [Range; 6]) -> i64
 }
 
 // The greatest index that upper limit j allows.
-fn greatest_of(nest: &[i16], j: usize, k: usize, outer: [Range; 6]) -> i64
+fn greatest_of(nest: &[i16], j: usize, k: usize, outer: [Range; LOOPS]) -> i64
     requires { ⌜ LimitIn (now nest) j k outer ⌝ }
     ensures { λ r. ⌜ (r ≡ greatestOf (rangesOf k outer) (limitAt (now (nest .entry)) k j)) × (size r ≤ 34359738368) ⌝ }
 {
@@ -97,7 +98,7 @@ fn greatest_of(nest: &[i16], j: usize, k: usize, outer: [Range; 6]) -> i64
 }
 
 // The largest of what n lower limits from limit j on allow, the last one first.
-fn largest_from(nest: &[i16], j: usize, n: usize, k: usize, outer: [Range; 6]) -> Whole
+fn largest_from(nest: &[i16], j: usize, n: usize, k: usize, outer: [Range; LOOPS]) -> Whole
     requires { ⌜ SideIn (now nest) j n k outer ⌝ }
     ensures { λ r. ⌜ (r .value ≡ largestFrom (now (nest .entry)) k j n (rangesOf k outer)) × (size (r .value) ≤ 34359738368) ⌝ }
 {
@@ -113,7 +114,7 @@ fn largest_from(nest: &[i16], j: usize, n: usize, k: usize, outer: [Range; 6]) -
 }
 
 // The smallest of what n upper limits from limit j on allow.
-fn smallest_from(nest: &[i16], j: usize, n: usize, k: usize, outer: [Range; 6]) -> Whole
+fn smallest_from(nest: &[i16], j: usize, n: usize, k: usize, outer: [Range; LOOPS]) -> Whole
     requires { ⌜ SideIn (now nest) j n k outer ⌝ }
     ensures { λ r. ⌜ (r .value ≡ smallestFrom (now (nest .entry)) k j n (rangesOf k outer)) × (size (r .value) ≤ 34359738368) ⌝ }
 {
@@ -143,7 +144,7 @@ fn cut(x: Whole) -> Whole
 }
 
 // The least value of loop k, from the ranges of the loops outside.
-fn least_over(nest: &[i16], counts: &[usize], k: usize, outer: [Range; 6]) -> Whole
+fn least_over(nest: &[i16], counts: &[usize], k: usize, outer: [Range; LOOPS]) -> Whole
     requires { ⌜ LoopIn (now nest) (now counts) k outer ⌝ }
     ensures { λ r. ⌜ (r .value ≡ rangeOf (rangesOf k outer) (loopAt (now (nest .entry)) (now (counts .entry)) k) .least) × (size (r .value) ≤ 32767) ⌝ }
 {
@@ -151,7 +152,7 @@ fn least_over(nest: &[i16], counts: &[usize], k: usize, outer: [Range; 6]) -> Wh
 }
 
 // The greatest value of loop k.
-fn greatest_over(nest: &[i16], counts: &[usize], k: usize, outer: [Range; 6]) -> Whole
+fn greatest_over(nest: &[i16], counts: &[usize], k: usize, outer: [Range; LOOPS]) -> Whole
     requires { ⌜ LoopIn (now nest) (now counts) k outer ⌝ }
     ensures { λ r. ⌜ (r .value ≡ rangeOf (rangesOf k outer) (loopAt (now (nest .entry)) (now (counts .entry)) k) .greatest) × (size (r .value) ≤ 32767) ⌝ }
 {
@@ -160,7 +161,7 @@ fn greatest_over(nest: &[i16], counts: &[usize], k: usize, outer: [Range; 6]) ->
 
 // Whether one of n limits from limit j on has a coefficient of loop i.
 fn leans(nest: &[i16], j: usize, n: usize, i: usize) -> bool
-    requires { ⌜ (length (now nest) ≡ nestRoom) × (j + n ≤ nestLimits) × (i < 6) ⌝ }
+    requires { ⌜ (length (now nest) ≡ nestRoom) × (j + n ≤ nestLimits) × (i < mostLoops) ⌝ }
     ensures { λ r. ⌜ (r ≡ false → Free (now (nest .entry)) j n i) × (r ≡ true → Free (now (nest .entry)) j n i → ⊥) ⌝ }
 {
     let mut l = 0;
@@ -224,7 +225,7 @@ pub fn greatest_value(nest: &[i16], counts: &[usize], k: usize) -> Whole
 }
 
 // The ranges of the first n loops.
-pub fn ranges(nest: &[i16], counts: &[usize], n: usize) -> [Range; 6]
+pub fn ranges(nest: &[i16], counts: &[usize], n: usize) -> [Range; LOOPS]
     requires { ⌜ NestOk (now nest) (now counts) n ⌝ }
     ensures { λ r. ⌜ RangesAre (now (nest .entry)) (now (counts .entry)) n r ⌝ }
 {
@@ -246,7 +247,7 @@ pub fn ranges(nest: &[i16], counts: &[usize], n: usize) -> [Range; 6]
 }
 
 // The same, each range from those of the loops before it: one pass over the loops.
-pub fn ranges_in_turn(nest: &[i16], counts: &[usize], n: usize) -> [Range; 6]
+pub fn ranges_in_turn(nest: &[i16], counts: &[usize], n: usize) -> [Range; LOOPS]
     requires { ⌜ NestOk (now nest) (now counts) n ⌝ }
     ensures { λ r. ⌜ RangesAre (now (nest .entry)) (now (counts .entry)) n r ⌝ }
 {

@@ -75,7 +75,7 @@ all-forms-left rs w u v d n = let z : d - 0 ≡ d = omega arith in let x : u + 0
 pub form-pair-in : (w : List ℤ) (u v d n : ℕ) (b : List Range) → FormsIn w u v d n b → (i : ℕ) → i < d → DifferenceIn w (u + i) (v + i) n b
 form-pair-in w u v d n b p i h = let a = p .first in let e = p .second in
     record {
-      pair = record { first = record { small = p .small; inside = omega arith; room = p .room; few = p .ranges .few }; second = record { small = p .small; inside = omega arith; room = p .room; few = p .ranges .few } };
+      pair = record { first = record { small = p .small; inside = omega arith; few = p .ranges .few }; second = record { small = p .small; inside = omega arith; few = p .ranges .few } };
       ranges = p .ranges;
     }
 
@@ -124,4 +124,4 @@ module _ (s : List ℤ) (c : List ℕ) (depth : ℕ) (w : List ℤ) (o a : List 
 
   pub forms-in : (b : List Range) → RangesIn depth b → FormsIn w (u * 3) (v * 3) (getD a (getD o u 0 * 4) 0) depth b
   forms-in b r = let d = dimensions in let l = p .accesses .words in let f = p .first in let g = p .second in let m = p .accesses .many in
-      record { small = p .accesses .small; first = omega arith; second = omega arith; room = omega arith; ranges = r }
+      record { small = p .accesses .small; first = omega arith; second = omega arith; ranges = r }

@@ -8,7 +8,7 @@ use Rattle.integers.specs.Affine.{Within}
 use Rattle.model.specs.Ticket.{Subscript}
 use Rattle.model.specs.Quick as Model
 use Rattle.model.specs.Quick.{leastSum, greatestSum, difference}
-use Rattle.model.specs.Grammar.{mostWords}
+use Rattle.model.specs.Grammar.{mostLoops}
 use Rattle.bounds.specs.Flat.{NestOk}
 use Rattle.elements.specs.Layout.{formAt, AccessesOk}
 use Rattle.extremes.specs.declared.Range.{Range}
@@ -34,14 +34,12 @@ greatestDifference w u v n rs = differenceAt w n u v .constant +ℤ greatestSum 
 pub record WordsIn (w : List ℤ) (at n : ℕ) : Type 0 where
   pub small : Within 32767 w
   pub inside : at + n ≤ length w
-  pub room : length w ≤ mostWords
 
 -- subscript j of all, in a nest of n loops
 pub record FormIn (w : List ℤ) (j n : ℕ) : Type 0 where
   pub small : Within 32767 w
   pub inside : j * 8 + 8 ≤ length w
-  pub room : length w ≤ mostWords
-  pub few : n ≤ 6
+  pub few : n ≤ mostLoops
 
 pub record PairIn (w : List ℤ) (u v n : ℕ) : Type 0 where
   pub first : FormIn w u n
@@ -56,7 +54,6 @@ pub record FormsIn (w : List ℤ) (u v d n : ℕ) (b : List Range) : Type 0 wher
   pub small : Within 32767 w
   pub first : (u + d) * 8 ≤ length w
   pub second : (v + d) * 8 ≤ length w
-  pub room : length w ≤ mostWords
   pub ranges : RangesIn n b
 
 -- two accesses of a nest that was judged

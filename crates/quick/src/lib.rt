@@ -18,6 +18,7 @@ ghost use Rattle.quick.specs.Differences.{gcdOnto, differenceAt, leastDi
 use bounds::Whole;
 use extremes::Range;
 use model::ARRAY_ROOM;
+use model::LOOPS;
 
 // Whether the least exceeds the greatest.
 fn is_empty(r: Range) -> bool
@@ -28,7 +29,7 @@ fn is_empty(r: Range) -> bool
 }
 
 // Whether one of the first n ranges is empty.
-fn some_empty(ranges: [Range; 6], n: usize) -> bool
+fn some_empty(ranges: [Range; LOOPS], n: usize) -> bool
     requires { ⌜ RangesIn n ranges ⌝ }
     ensures { λ r. ⌜ r ≡ any isEmpty (rangesOf n ranges) ⌝ }
 {
@@ -96,7 +97,7 @@ fn constant_difference(words: &[i16], u: usize, v: usize, n: usize) -> Whole
 }
 
 // The least that subscript u less subscript v can be, over two free iterations.
-fn least_difference(words: &[i16], u: usize, v: usize, n: usize, ranges: [Range; 6]) -> Whole
+fn least_difference(words: &[i16], u: usize, v: usize, n: usize, ranges: [Range; LOOPS]) -> Whole
     requires { ⌜ DifferenceIn (now words) u v n ranges ⌝ }
     ensures { λ r. ⌜ (r .value ≡ leastDifference (now (words .entry)) u v n (rangesOf n ranges)) × (size (r .value) ≤ 34359738368) ⌝ }
 {
@@ -109,7 +110,7 @@ fn least_difference(words: &[i16], u: usize, v: usize, n: usize, ranges: [Range;
 }
 
 // The greatest that it can be.
-fn greatest_difference(words: &[i16], u: usize, v: usize, n: usize, ranges: [Range; 6]) -> Whole
+fn greatest_difference(words: &[i16], u: usize, v: usize, n: usize, ranges: [Range; LOOPS]) -> Whole
     requires { ⌜ DifferenceIn (now words) u v n ranges ⌝ }
     ensures { λ r. ⌜ (r .value ≡ greatestDifference (now (words .entry)) u v n (rangesOf n ranges)) × (size (r .value) ≤ 34359738368) ⌝ }
 {
@@ -133,7 +134,7 @@ fn excludes_zero(least: Whole, greatest: Whole) -> bool
 }
 
 // Whether subscript u less subscript v is never 0, over two free iterations.
-fn never_zero(words: &[i16], u: usize, v: usize, n: usize, ranges: [Range; 6]) -> bool
+fn never_zero(words: &[i16], u: usize, v: usize, n: usize, ranges: [Range; LOOPS]) -> bool
     requires { ⌜ DifferenceIn (now words) u v n ranges ⌝ }
     ensures { λ r. ⌜ r ≡ neverZero (rangesOf n ranges ++ rangesOf n ranges) (differenceAt (now (words .entry)) n u v) ⌝ }
 {
@@ -148,7 +149,7 @@ fn never_zero(words: &[i16], u: usize, v: usize, n: usize, ranges: [Range; 6]) -
 }
 
 // Whether one of d subscripts from subscript u on never equals its partner from subscript v on.
-fn some_apart(words: &[i16], u: usize, v: usize, d: usize, n: usize, ranges: [Range; 6]) -> bool
+fn some_apart(words: &[i16], u: usize, v: usize, d: usize, n: usize, ranges: [Range; LOOPS]) -> bool
     requires { ⌜ FormsIn (now words) u v d n ranges ⌝ }
     ensures { λ r. ⌜ r ≡ someApart (rangesOf n ranges) (formsFrom (now (words .entry)) n u d) (formsFrom (now (words .entry)) n v d) ⌝ }
 {

@@ -28,7 +28,8 @@ one : (i : ℕ) → i < mostSides → getD {A = ℕ} (replicate mostSides 1) i 0
 one i h = getD-replicate {A = ℕ} 12 i 1 0 h
 
 positive : (j n : ℕ) → j + n ≤ nestLimits → Positive (replicate nestRoom (pos 1)) j n
-positive j n g i h = let e = getD-replicate nestRoom ((j + i) * 8) (pos 1) (pos 0) (omega arith) in subst (λ (z : ℤ). pos 0 <ℤ z) (sym e) (omega zarith)
+positive j n g i h = let e = getD-replicate nestRoom ((j + i) * 8) (pos 1) (pos 0) (omega arith) in
+    subst (λ (z : ℤ). pos 0 <ℤ z) (sym e) (omega zarith)
 
 pub ones-ok : NestOk (replicate nestRoom (pos 1)) (replicate mostSides 1) 6
 ones-ok = record {

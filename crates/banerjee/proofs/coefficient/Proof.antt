@@ -17,13 +17,13 @@ loop-holds : tie.Need-loop-holds Inv-loop μ-loop
 loop-holds c = (omega arith, coefficient-none (c .args .words .now) (c .args .i) (c .args .k))
 
 add-word : tie.Need-add-word Inv-loop μ-loop
-add-word c = let s = c .before .before in let h = s .pre .0 .inside in let r = s .pre .0 .room in let l = c .loop-test .taken in omega arith
+add-word c = let s = c .before .before in let h = s .pre .0 .inside in let l = c .loop-test .taken in omega arith
 
 mul-word : tie.Need-mul-word Inv-loop μ-loop
-mul-word c = let s = c .before .before in let h = s .pre .0 .inside in let r = s .pre .0 .room in let l = c .loop-test .taken in omega arith
+mul-word c = let s = c .before .before in let h = s .pre .0 .inside in let l = c .loop-test .taken in omega arith
 
 add-word-2 : tie.Need-add-word-2 Inv-loop μ-loop
-add-word-2 c = let s = c .before .before in let h = s .pre .0 .inside in let r = s .pre .0 .room in let l = c .loop-test .taken in let k = s .pre .1 in omega arith
+add-word-2 c = let s = c .before .before in let h = s .pre .0 .inside in let l = c .loop-test .taken in let k = s .pre .1 in omega arith
 
 word-requires : tie.Need-word-requires Inv-loop μ-loop
 word-requires c κs = let s = c .before .before in let h = s .pre .0 .inside in let l = c .loop-test .taken in let k = s .pre .1 in omega arith

@@ -47,10 +47,10 @@ shared-slice-read-if1 : tie.Need-shared-slice-read-if1 Inv-loop μ-loop
 shared-slice-read-if1 c = there (c .before) .0
 
 mul-impossible : tie.Need-mul-impossible Inv-loop μ-loop
-mul-impossible c = let s = c .before .before .before .before .before .before .before in let x = s .pre .source in let r = s .pre .room in omega arith
+mul-impossible c = let s = c .before .before .before .before .before .before .before in let x = s .pre .source in omega arith
 
 mul-impossible-2 : tie.Need-mul-impossible-2 Inv-loop μ-loop
-mul-impossible-2 c = let s = c .before .before .before .before .before .before .before in let x = s .pre .sink in let r = s .pre .room in omega arith
+mul-impossible-2 c = let s = c .before .before .before .before .before .before .before in let x = s .pre .sink in omega arith
 
 impossible-requires : tie.Need-impossible-requires Inv-loop μ-loop
 impossible-requires c κs = let s = c .before .before .before .before .before .before .before in let a = s .args in region-in (a .words .now) (a .a) (a .b) (a .d) (a .n) (a .ranges) (a .own) (a .base) (a .marks .now) (s .pre)

@@ -21,10 +21,10 @@ loop-holds : tie.Need-loop-holds Inv-loop μ-loop
 loop-holds c = omega arith
 
 add-excludes : tie.Need-add-excludes Inv-loop μ-loop
-add-excludes c = let s = c .before .before .before .before in let x = s .pre .sums .source .inside in let r = s .pre .sums .source .room in let h = c .loop-test .taken in omega arith
+add-excludes c = let s = c .before .before .before .before in let x = s .pre .sums .source .inside in let h = c .loop-test .taken in omega arith
 
 add-excludes-2 : tie.Need-add-excludes-2 Inv-loop μ-loop
-add-excludes-2 c = let s = c .before .before .before .before in let x = s .pre .sums .sink .inside in let r = s .pre .sums .sink .room in let h = c .loop-test .taken in omega arith
+add-excludes-2 c = let s = c .before .before .before .before in let x = s .pre .sums .sink .inside in let h = c .loop-test .taken in omega arith
 
 excludes-requires : tie.Need-excludes-requires Inv-loop μ-loop
 excludes-requires c κs = let s = c .before .before .before .before in let a = s .args in dimension-in (a .words .now) (a .i) (a .j) (a .d) (a .n) (a .ranges) (s .pre) (a .u) (c .before .loop .t) (c .loop-test .taken)

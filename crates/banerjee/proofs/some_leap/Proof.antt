@@ -16,10 +16,10 @@ loop-holds : tie.Need-loop-holds Inv-loop μ-loop
 loop-holds c = omega arith
 
 add-leaps : tie.Need-add-leaps Inv-loop μ-loop
-add-leaps c = let s = c .before .before in let x = s .pre .sums .source .inside in let r = s .pre .sums .source .room in let h = c .loop-test .taken in omega arith
+add-leaps c = let s = c .before .before in let x = s .pre .sums .source .inside in let h = c .loop-test .taken in omega arith
 
 add-leaps-2 : tie.Need-add-leaps-2 Inv-loop μ-loop
-add-leaps-2 c = let s = c .before .before in let x = s .pre .sums .sink .inside in let r = s .pre .sums .sink .room in let h = c .loop-test .taken in omega arith
+add-leaps-2 c = let s = c .before .before in let x = s .pre .sums .sink .inside in let h = c .loop-test .taken in omega arith
 
 leaps-requires : tie.Need-leaps-requires Inv-loop μ-loop
 leaps-requires c κs = let s = c .before .before in let a = s .args in dimension-in (a .words .now) (a .i) (a .j) (a .d) (a .n) (a .ranges) (s .pre) (a .u) (c .before .loop .t) (c .loop-test .taken)

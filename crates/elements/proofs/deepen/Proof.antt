@@ -21,7 +21,7 @@ module _ (c : tie.Start Inv-loop μ-loop) where
   width = search needs
 
 mul-at : tie.Need-mul-at Inv-loop μ-loop
-mul-at c = let i = c .pre .inside in let r = c .pre .room in omega arith
+mul-at c = let i = c .pre .inside in omega arith
 
 loop-holds : tie.Need-loop-holds Inv-loop μ-loop
 unfolding folded zipWith
@@ -34,7 +34,7 @@ array-copy-out-x : tie.Need-array-copy-out-x Inv-loop μ-loop
 array-copy-out-x c = c .loop-test .taken
 
 add-word : tie.Need-add-word Inv-loop μ-loop
-add-word c = let s = c .before .before .before in let i = s .pre .inside in let r = s .pre .room in let v = c .before .loop-test .taken in omega arith
+add-word c = let s = c .before .before .before in let i = s .pre .inside in let v = c .before .loop-test .taken in omega arith
 
 word-requires : tie.Need-word-requires Inv-loop μ-loop
 word-requires c κs = let s = c .before .before .before in let i = s .pre .inside in let v = c .before .loop-test .taken in omega arith

@@ -20,7 +20,7 @@ abbrev μ-loop : tie.MeasureT-loop
 μ-loop words j extent points depth count form at₀ i₀ at i = count - i
 
 words-at-requires : tie.Need-words-at-requires Inv-loop μ-loop
-words-at-requires c κs = (c .pre .inside, c .pre .long, c .pre .small)
+words-at-requires c κs = (c .pre .inside, c .pre .small)
 
 loop-holds : tie.Need-loop-holds Inv-loop μ-loop
 unfolding straysAt rows any

@@ -16,13 +16,13 @@ abbrev μ-loop : tie.MeasureT-loop
 μ-loop words j at r₀ l₀ r l = 8 - l
 
 mul-at : tie.Need-mul-at Inv-loop μ-loop
-mul-at c = let i = c .pre .0 in let r = c .pre .1 in omega arith
+mul-at c = let i = c .pre .0 in omega arith
 
 loop-holds : tie.Need-loop-holds Inv-loop μ-loop
 loop-holds c = (omega arith, search needs, refl)
 
 add-word : tie.Need-add-word Inv-loop μ-loop
-add-word c = let i = c .before .before .pre .0 in let r = c .before .before .pre .1 in omega arith
+add-word c = let i = c .before .before .pre .0 in omega arith
 
 word-requires : tie.Need-word-requires Inv-loop μ-loop
 word-requires c κs = let i = c .before .before .pre .0 in omega arith
@@ -41,7 +41,7 @@ loop-less c = let v = c .before .loop-test .taken in omega arith
 
 loop-again : tie.Need-loop-again Inv-loop μ-loop
 loop-again c = let s = c .before .before .before in let l = c .before .before .loop in let v = c .before .loop-test .taken in
-    (omega arith, simp length-set (l .inv .1), copy-more (s .args .words .now) (s .args .j) (s .pre .0) (l .l) (l .r) (c .word .result) v (l .inv .1) (s .pre .2) (l .inv .2) (c .word .ensures))
+    (omega arith, simp length-set (l .inv .1), copy-more (s .args .words .now) (s .args .j) (s .pre .0) (l .l) (l .r) (c .word .result) v (l .inv .1) (s .pre .1) (l .inv .2) (c .word .ensures))
 
 returns : tie.Need-returns Inv-loop μ-loop
 returns c = let s = c .before .before in let l = c .before .loop in copy-all (s .args .words .now) (s .args .j) (s .pre .0) (l .r) (l .l) (omega (arith, l .inv .0, c .loop-test .left)) (l .inv .1) (l .inv .2)

@@ -21,7 +21,7 @@ sub-i : tie.Need-sub-i Inv-loop μ-loop
 sub-i c = c .loop-test .taken
 
 add-word : tie.Need-add-word Inv-loop μ-loop
-add-word c = let v = c .before .before .pre .inside in let r = c .before .before .pre .room in omega arith
+add-word c = let v = c .before .before .pre .inside in omega arith
 
 word-requires : tie.Need-word-requires Inv-loop μ-loop
 word-requires c κs = let v = c .before .before .pre .inside in let h = c .loop-test .taken in omega arith

@@ -21,11 +21,11 @@ loop-holds c = (omega arith, all-forms-left (rangesOf (c .args .n) (c .args .ran
 
 -- src/lib.rt:348:30
 add-never-zero : tie.Need-add-never-zero Inv-loop μ-loop
-add-never-zero c = let v = c .before .before .pre .first in let r = c .before .before .pre .room in let h = c .loop-test .taken in omega arith
+add-never-zero c = let v = c .before .before .pre .first in let h = c .loop-test .taken in omega arith
 
 -- src/lib.rt:348:37
 add-never-zero-2 : tie.Need-add-never-zero-2 Inv-loop μ-loop
-add-never-zero-2 c = let v = c .before .before .pre .second in let r = c .before .before .pre .room in let h = c .loop-test .taken in omega arith
+add-never-zero-2 c = let v = c .before .before .pre .second in let h = c .loop-test .taken in omega arith
 
 -- src/lib.rt:348:12
 never-zero-requires : tie.Need-never-zero-requires Inv-loop μ-loop
@@ -38,7 +38,7 @@ returns c = let s = c .before .before .before .before in let l = c .before .befo
 
 -- src/lib.rt:351:9
 add-i : tie.Need-add-i Inv-loop μ-loop
-add-i c = let v = c .before .before .before .before .pre .first in let r = c .before .before .before .before .pre .room in let h = c .before .before .loop-test .taken in omega arith
+add-i c = let v = c .before .before .before .before .pre .first in let h = c .before .before .loop-test .taken in omega arith
 
 -- src/lib.rt:347:5
 loop-less : tie.Need-loop-less Inv-loop μ-loop
