@@ -10,7 +10,7 @@ use Rattle.lists.specs.Order.{Ordered}
 use Rattle.lists.specs.Parts.{rows}
 use Rattle.integers.specs.Sign.{Sign}
 use Rattle.model.specs.Inside.{Earlier}
-use Rattle.model.specs.Grammar.{mostPoints}
+use Rattle.model.specs.Grammar.{mostPoints, mostLoops}
 use Rattle.model.specs.Directions.{vectorCount}
 use Rattle.vectors.specs.Numbers.{number}
 use Rattle.vectors.specs.Candidates.{code, Agree, Steady}
@@ -92,7 +92,7 @@ unfoldable pub walked : ℕ → List ℤ → List ℕ → ℕ → ℕ → ℕ �
 walked d s next base y l j = along l next l (λ x. eqb (base + code d s x y) j)
 
 pub record Walkable (s : List ℤ) (d y first : ℕ) (next : List ℕ) (base : ℕ) (marks : List Bool) : Type 0 where
-  pub shallow : d ≤ 6
+  pub shallow : d ≤ mostLoops
   pub sources : first * d ≤ length s
   pub sink : y * d + d ≤ length s
   pub linked : first ≤ length next
@@ -129,14 +129,15 @@ Full d varying own base m = FullBelow d varying base m (upTo own 364)
 pub record Passed (varying : List Bool) (base : ℕ) (m : List Bool) (s v r : ℕ) : Type 0 where
   pub steps : ℕ
   pub reached : r ≡ v + steps * s
-  pub marked : (u : List Sign) (t : ℕ) → t < steps → length u ≤ 6 → Steady varying u → number u ≡ v + t * s → getD m (base + number u) false ≡ true
+  pub marked : (u : List Sign) (t : ℕ) → t < steps → length u ≤ mostLoops → Steady varying u → number u ≡ v + t * s
+      → getD m (base + number u) false ≡ true
 
 -- ---- what the search of two accesses asks
 
 pub record Searchable (s : List ℤ) (d : ℕ) (from to : List ℕ) (base : ℕ) (marks : List Bool) : Type 0 where
   pub few : length from ≤ mostPoints
   pub both : length to ≡ length from
-  pub shallow : d ≤ 6
+  pub shallow : d ≤ mostLoops
   pub stored : length from * d ≤ length s
   pub rising : Ordered Earlier (rows d (length from) s)
   pub room : base + vectorCount ≤ length marks

@@ -6,6 +6,7 @@ ghost use lib.ListN.{length, getD};
 ghost use Rattle.model.specs.Directions.{vectorCount};
 ghost use Rattle.vectors.specs.Candidates.{stride};
 ghost use Rattle.chains.specs.Search.{Below, Links, Unlinked, NextLinked, Clear, ClearElse, Linkable, Linked, Followable, upTo, Adds, walked, Walkable, Level, LevelElse, Tabled, Passed, found, Searchable};
+use model::LOOPS;
 
 // ---- chains of points by element
 
@@ -198,7 +199,7 @@ fn follow(
 {
     let step = vectors::stride(depth);
     let end = limit(own);
-    let mut varying = [false; 6];
+    let mut varying = [false; LOOPS];
     let mut known = false;
     let mut v = (step - 1) / 2;
     let mut spent = 0;

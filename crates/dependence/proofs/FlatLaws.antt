@@ -99,7 +99,8 @@ module _ (F : Flat) (marks : List Bool) (ok : Ready F marks) where
   -- two reads
   pub no-call : (a b k : ℕ) → k ≡ kindOf (writesAt F a) (writesAt F b) → kindCount ≤ k → Adds marks marks (setBy F a b)
   unfolding setBy
-  no-call a b k e l j = let t : ltb (kindOf (writesAt F a) (writesAt F b)) kindCount ≡ false = le-ltb (kindOf (writesAt F a) (writesAt F b)) kindCount (rw e at l) in
+  no-call a b k e l j =
+      let t : ltb (kindOf (writesAt F a) (writesAt F b)) kindCount ≡ false = le-ltb (kindOf (writesAt F a) (writesAt F b)) kindCount (rw e at l) in
       rw t (sym (or-false (getD marks j false)))
 
 pub linked-still : (from next head start head′ start′ : List ℕ) → length head′ ≡ length head → Clear head′ → length start′ ≡ length start → Linked from next head start → Linked from next head′ start′

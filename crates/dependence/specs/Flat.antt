@@ -13,7 +13,7 @@ use Rattle.model.specs.Ticket.{Access, Statement}
 use Rattle.model.specs.Machine.{same, element, accesses}
 use Rattle.model.specs.Directions.{Line, occurs, allLines, kindCount}
 use Rattle.model.specs.Inside.{Earlier}
-use Rattle.model.specs.Grammar.{mostPoints}
+use Rattle.model.specs.Grammar.{mostPoints, mostLoops}
 use Rattle.vectors.specs.Numbers.{place, placeOf, marksFor}
 use Rattle.vectors.specs.Candidates.{row}
 use Rattle.chains.specs.Search.{some, found, Clear}
@@ -84,7 +84,7 @@ pub record Describes (ss : List Statement) (F : Flat) : Type 0 where
 
 pub record Ready (F : Flat) (marks : List Bool) : Type 0 where
   pub few : F .count ≤ mostPoints
-  pub shallow : F .depth ≤ 6
+  pub shallow : F .depth ≤ mostLoops
   pub stored : F .count * F .depth ≤ length (F .points)
   pub rising : Ordered Earlier (pointsOf F)
   pub both : length (F .writes) ≡ length (F .statements)

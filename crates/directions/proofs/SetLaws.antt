@@ -62,7 +62,8 @@ module _ (g : List Sign → Bool) (d : ℕ) (old : List Bool) (few : d ≤ 6) (s
   }
 
   module _ (marks : List Bool) (n : ℕ) (p : Filling g d old marks n) where
-    pub fill-next : (b : Bool) → n < vectorCount → ((v : List Sign) → length v ≡ d → number v ≡ n → b ≡ g v) → Filling g d old (set marks n b) (n + s)
+    pub fill-next : (b : Bool) → n < vectorCount → ((v : List Sign) → length v ≡ d → number v ≡ n → b ≡ g v)
+        → Filling g d old (set marks n b) (n + s)
     fill-next b h f = let w = p .whole in record {
       whole = length-set marks n b ∙ p .whole;
       place = depth-next d s e n (p .place);

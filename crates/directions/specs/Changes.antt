@@ -7,6 +7,7 @@ use lib.ListN.{length}
 use Rattle.integers.specs.Sign.{Sign, turned}
 use Rattle.lists.specs.Place.{under, onHead, swapped}
 use Rattle.model.specs.Directions.{vectorCount}
+use Rattle.model.specs.Grammar.{mostLoops}
 use Rattle.preimages.specs.Numbers.{number, marked}
 use Rattle.preimages.specs.Sources.{joined, skewSource}
 use Rattle.directions.specs.declared.DirectionSet.{DirectionSet}
@@ -36,15 +37,15 @@ came old (Section a) v = marked old (under a joined v)
 
 pub record ComesIn (change : Change) (n : ℕ) : Type 0 where
   pub below : n < vectorCount
-  pub few : loopsNamed change ≤ 6
+  pub few : loopsNamed change ≤ mostLoops
   pub outer : Outer change
 
 -- r says so of a vector with number n
 abbrev pub Comes : List Bool → Change → ℕ → Bool → Type 0
-Comes old change n r = (v : List Sign) → loopsNamed change ≤ length v → length v ≤ 6 → number v ≡ n → r ≡ came old change v
+Comes old change n r = (v : List Sign) → loopsNamed change ≤ length v → length v ≤ mostLoops → number v ≡ n → r ≡ came old change v
 
 pub record PulledIn (change : Change) (d : ℕ) : Type 0 where
-  pub few : d ≤ 6
+  pub few : d ≤ mostLoops
   pub inside : loopsNamed change ≤ d
   pub outer : Outer change
 

@@ -8,7 +8,7 @@ use Rattle.integers.specs.Sign.{Sign}
 use Rattle.lists.specs.Membership.{SameMembers}
 use Rattle.lists.specs.Tests.{select}
 use Rattle.model.specs.Ticket.{Step}
-use Rattle.model.specs.Grammar.{depthAfter}
+use Rattle.model.specs.Grammar.{depthAfter, mostLoops}
 use Rattle.model.specs.Directions.{signVectors, vectorCount}
 use Rattle.model.specs.Steps.{vectorsAfter}
 use Rattle.preimages.specs.Numbers.{number, marked}
@@ -24,21 +24,21 @@ vectorsOf s = vectorsIn (s .marks) (s .depth)
 -- ---- what the steps ask: a nest of at most six loops that has the loops named
 
 pub record ExchangeIn (s : DirectionSet) (a : ℕ) : Type 0 where
-  pub few : s .depth ≤ 6
+  pub few : s .depth ≤ mostLoops
   pub inside : suc a < s .depth
 
 pub record ReversalIn (s : DirectionSet) (a : ℕ) : Type 0 where
-  pub few : s .depth ≤ 6
+  pub few : s .depth ≤ mostLoops
   pub inside : a < s .depth
 
 pub record SkewIn (s : DirectionSet) (a b : ℕ) : Type 0 where
-  pub few : s .depth ≤ 6
+  pub few : s .depth ≤ mostLoops
   pub outer : a < b
   pub inside : b < s .depth
 
 -- a seventh loop must not arise
 pub record SectionIn (s : DirectionSet) (a : ℕ) : Type 0 where
-  pub few : s .depth < 6
+  pub few : s .depth < mostLoops
   pub inside : a < s .depth
 
 -- ---- and what they give
@@ -58,7 +58,7 @@ pub record Empty (d : ℕ) (r : DirectionSet) : Type 0 where
 
 pub record MarksIn (marks : List Bool) (d : ℕ) : Type 0 where
   pub room : length marks ≡ vectorCount
-  pub few : d ≤ 6
+  pub few : d ≤ mostLoops
 
 pub record Cleared (d : ℕ) (new : List Bool) : Type 0 where
   pub room : length new ≡ vectorCount

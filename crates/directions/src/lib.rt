@@ -7,6 +7,7 @@ ghost use lib.ListN.{length, replicate};
 ghost use Rattle.model.specs.Ticket.{exchange, reversal, skew, section};
 ghost use Rattle.model.specs.Steps.{somePointsBack};
 ghost use Rattle.model.specs.Directions.{vectorCount};
+ghost use Rattle.model.specs.Grammar.{mostLoops};
 ghost use Rattle.directions.specs.Sets.{vectorsOf, ExchangeIn, ReversalIn, SkewIn, SectionIn, After, Empty, MarksIn, Cleared, Merged};
 ghost use Rattle.directions.specs.Changes.{ComesIn, Comes, PulledIn, Pulled};
 use model::VECTORS;
@@ -157,7 +158,7 @@ pub fn sectioned(s: DirectionSet, a: usize) -> DirectionSet
 
 // Whether the set has no vector.
 pub fn is_empty(s: DirectionSet) -> bool
-    requires { ⌜ s .depth ≤ 6 ⌝ }
+    requires { ⌜ s .depth ≤ mostLoops ⌝ }
     ensures { λ r. ⌜ (r ≡ true → vectorsOf s ≡ []) ⌝ }
 {
     let marks = s.marks;
@@ -175,7 +176,7 @@ pub fn is_empty(s: DirectionSet) -> bool
 
 // Whether a vector of the set points backwards. 364 is the number of the vector whose signs are all =, and those beyond it point backwards.
 pub fn points_back(s: DirectionSet) -> bool
-    requires { ⌜ s .depth ≤ 6 ⌝ }
+    requires { ⌜ s .depth ≤ mostLoops ⌝ }
     ensures { λ r. ⌜ r ≡ somePointsBack (vectorsOf s) ⌝ }
 {
     let marks = s.marks;

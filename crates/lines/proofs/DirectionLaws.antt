@@ -40,7 +40,8 @@ use Rattle.lines.specs.Lines.{LinesAre, Shows, DirectionsAre}
 abbrev rowOf : List Bool → ℕ → List Bool
 rowOf marks b = take vectorCount (drop (b * vectorCount) marks)
 
-row-marked : (marks : List Bool) (b : ℕ) (v : List Sign) → length v ≤ 6 → marked (rowOf marks b) v ≡ getD marks (b * vectorCount + Dependence.number v) false
+row-marked : (marks : List Bool) (b : ℕ) (v : List Sign) → length v ≤ 6
+    → marked (rowOf marks b) v ≡ getD marks (b * vectorCount + Dependence.number v) false
 row-marked marks b v h =
     getD-take vectorCount (drop (b * vectorCount) marks) (number v) false (number-below v) ∙ getD-drop (b * vectorCount) marks (number v) false
     ∙ ap (λ (i : ℕ). getD marks (b * vectorCount + i) false) (one-number v h)
@@ -52,7 +53,8 @@ module _ (marks : List Bool) (n d : ℕ) (h : Marks marks n d) where
   pub row-ends : (b : ℕ) → b < n * n * kindCount → (b < mostStatements * mostStatements * kindCount) × (b * vectorCount + vectorCount ≤ length marks)
   row-ends b l = let r = h .room in let f = blocks-few .1 in (omega arith, omega arith)
 
-  pub row-length : (b : ℕ) → b < n * n * kindCount → length (take (b * vectorCount + vectorCount - b * vectorCount) (drop (b * vectorCount) marks)) ≡ vectorCount
+  pub row-length : (b : ℕ) → b < n * n * kindCount
+      → length (take (b * vectorCount + vectorCount - b * vectorCount) (drop (b * vectorCount) marks)) ≡ vectorCount
   row-length b l = let r = row-ends b l .1 in simp (length-take, length-drop) (omega arith)
 
 -- ---- rows merged one by one
@@ -84,13 +86,15 @@ module _ (marks : List Bool) (d blocks : ℕ) where
       row = take (b * vectorCount + vectorCount - b * vectorCount) (drop (b * vectorCount) marks)
 
       row-is : row ≡ rowOf marks b
-      row-is = ap (λ (i : ℕ). take i (drop (b * vectorCount) marks)) (let q : b * vectorCount + vectorCount - b * vectorCount ≡ vectorCount = omega arith in q)
+      row-is = ap (λ (i : ℕ). take i (drop (b * vectorCount) marks))
+          (let q : b * vectorCount + vectorCount - b * vectorCount ≡ vectorCount = omega arith in q)
 
       one-more : flatMap (λ (x : List Bool). vectorsIn x d) (rows vectorCount b marks) ++ vectorsIn row d ≡ flatMap (λ (x : List Bool). vectorsIn x d) (rows vectorCount (b + 1) marks)
       one-more =
           ap (λ (x : List Bool). flatMap (λ (y : List Bool). vectorsIn y d) (rows vectorCount b marks) ++ vectorsIn x d) row-is
           ∙ sym (flatMap-snoc (λ (x : List Bool). vectorsIn x d) (rows vectorCount b marks) (rowOf marks b))
-          ∙ ap (flatMap (λ (x : List Bool). vectorsIn x d)) (sym (rows-suc vectorCount b marks) ∙ ap (λ (i : ℕ). rows vectorCount i marks) (sym (add-one b)))
+          ∙ ap (flatMap (λ (x : List Bool). vectorsIn x d)) (sym (rows-suc vectorCount b marks)
+          ∙ ap (λ (i : ℕ). rows vectorCount i marks) (sym (add-one b)))
 
 -- ---- the rows of all lines
 
@@ -121,7 +125,8 @@ module _ (marks : List Bool) (n d : ℕ) (h : d ≤ 6) where
       Memᴰ·map vectorOf (mem-select (Text.marked marks n) (allLines n d) (mem-allLines n d x (q .quotient) (q .rest) l)
       (subst (λ (i : ℕ). T (getD marks i false)) (sym w) (subst T (row-marked marks b v (omega arith)) t)))
 
-  from-lines : (v : List Sign) → Mem v (map vectorOf (shown marks n d)) → (b : ℕ) × (b < n * n * kindCount) × (length v ≡ d) × T (marked (rowOf marks b) v)
+  from-lines : (v : List Sign) → Mem v (map vectorOf (shown marks n d))
+      → (b : ℕ) × (b < n * n * kindCount) × (length v ≡ d) × T (marked (rowOf marks b) v)
   unfolding shown Text.marked place
   from-lines v m =
       let r = Memᴰ·of-map vectorOf (shown marks n d) m in
@@ -133,7 +138,8 @@ module _ (marks : List Bool) (n d : ℕ) (h : d ≤ 6) where
       let b = (x .source * n + x .sink) * kindCount + kindNumber (x .kind) in
       (b, omega arith, l, subst T (ap (λ (u : List Sign). getD marks (b * vectorCount + Dependence.number u) false) (r .2) ∙ sym (row-marked marks b v (omega arith))) (s .1))
 
-  pub rows-lines : SameMembers (flatMap (λ (r : List Bool). vectorsIn r d) (rows vectorCount (n * n * kindCount) marks)) (map vectorOf (shown marks n d))
+  pub rows-lines : SameMembers (flatMap (λ (r : List Bool). vectorsIn r d) (rows vectorCount (n * n * kindCount) marks))
+      (map vectorOf (shown marks n d))
   rows-lines = record {
     into = λ v m.
         let r = flatMap-mem (λ (x : List Bool). vectorsIn x d) (rows vectorCount (n * n * kindCount) marks) m in
@@ -145,7 +151,8 @@ module _ (marks : List Bool) (n d : ℕ) (h : d ≤ 6) where
     from = λ v m.
         let r = from-lines v m in
         let a = length-rows vectorCount (n * n * kindCount) marks in let i = r .1 in
-        mem-flatMap (λ (x : List Bool). vectorsIn x d) (rows vectorCount (n * n * kindCount) marks) (getD-mem (rows vectorCount (n * n * kindCount) marks) (r .0) [] (omega arith))
+        mem-flatMap (λ (x : List Bool). vectorsIn x d) (rows vectorCount (n * n * kindCount) marks)
+        (getD-mem (rows vectorCount (n * n * kindCount) marks) (r .0) [] (omega arith))
         (subst (λ (x : List Bool). Mem v (vectorsIn x d)) (sym (rows-getD vectorCount (n * n * kindCount) marks (r .0) [] i)) (mem-vectorsIn (rowOf marks (r .0)) d v (r .2) (r .3)));
   }
 

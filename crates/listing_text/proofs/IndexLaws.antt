@@ -121,7 +121,8 @@ module _ (n d : ℕ) where
   sink-length s t = length-flatMap-even (ofKind s t) (stride d) kinds (λ k m. kind-length s t k)
 
   source-length : (s : ℕ) → length (ofSource s) ≡ n * (kindCount * stride d)
-  source-length s = length-flatMap-even (ofSink s) (kindCount * stride d) (upFrom 0 n) (λ t m. sink-length s t) ∙ ap (_* (kindCount * stride d)) (upFrom-length 0 n)
+  source-length s = length-flatMap-even (ofSink s) (kindCount * stride d) (upFrom 0 n) (λ t m. sink-length s t)
+      ∙ ap (_* (kindCount * stride d)) (upFrom-length 0 n)
 
   pub lines-length : length (allLines n d) ≡ lineCount n d
   unfolding allLines
@@ -129,7 +130,8 @@ module _ (n d : ℕ) where
       ∙ sym (rw (mul-assoc (n * n) kindCount (stride d), mul-assoc n n (kindCount * stride d)))
 
   -- the place of a line among all
-  nested : (s t k w : ℕ) → ((s * n + t) * kindCount + k) * stride d + w ≡ s * (n * (kindCount * stride d)) + (t * (kindCount * stride d) + (k * stride d + w))
+  nested : (s t k w : ℕ) → ((s * n + t) * kindCount + k) * stride d + w
+      ≡ s * (n * (kindCount * stride d)) + (t * (kindCount * stride d) + (k * stride d + w))
   nested s t k w = rw (add-mul ((s * n + t) * kindCount) k (stride d), mul-assoc (s * n + t) kindCount (stride d), add-mul (s * n) t (kindCount * stride d), mul-assoc s n (kindCount * stride d)) (omega arith)
 
   abbrev none : Line
@@ -214,7 +216,8 @@ pub vector-is : (d i s p : ℕ) → d ≤ 6 → p ≡ stride d → s ≡ stride 
 vector-is d i s p h e f = let a = stride-half (6 - d) s f in let b = vector-small d (i % stride d) h (mod-lt i (stride-positive d)) in
     let g : i % p * s + (s - 1) / 2 ≡ i % stride d * stride (6 - d) + middle (6 - d) = rw (a, e, f) in (g, omega arith)
 
-pub count-small : (n p : ℕ) → n ≤ mostStatements → p ≤ vectorCount → (n * n ≤ mostStatements * mostStatements) × (n * n * kindCount * p ≤ marksFor mostStatements)
+pub count-small : (n p : ℕ) → n ≤ mostStatements → p ≤ vectorCount
+    → (n * n ≤ mostStatements * mostStatements) × (n * n * kindCount * p ≤ marksFor mostStatements)
 count-small n p h g = let a : n * n ≤ mostStatements * mostStatements = mul-le-mul h h in
     let b : n * n * kindCount ≤ mostStatements * mostStatements * kindCount = omega arith in (a, mul-le-mul b g)
 

@@ -32,7 +32,8 @@ pub line-written : (n d i b v a x y p q r s t u : ℕ) → n ≤ mostStatements 
     → (length (set (a ∷ 32 ∷ x ∷ 32 ∷ y ∷ 32 ∷ p ∷ q ∷ r ∷ s ∷ t ∷ u ∷ 10 ∷ []) (6 + d) 10) ≡ 13)
     × (take (d + 7) (set (a ∷ 32 ∷ x ∷ 32 ∷ y ∷ 32 ∷ p ∷ q ∷ r ∷ s ∷ t ∷ u ∷ 10 ∷ []) (6 + d) 10) ≡ lineText (lineAt n d i))
 line-written n d i b v a x y p q r s t u hn hd at eb ev ea ex ey e₁ e₂ e₃ e₄ e₅ e₆ =
-    let k : lineAt n d i .kind ≡ getD kinds (b % kindCount) flow = ap (λ l. l .kind) (at .line) ∙ ap (λ z. getD kinds (z % kindCount) flow) (sym eb) in
+    let k : lineAt n d i .kind ≡ getD kinds (b % kindCount) flow
+    = ap (λ l. l .kind) (at .line) ∙ ap (λ z. getD kinds (z % kindCount) flow) (sym eb) in
     let f : lineAt n d i .source ≡ b / kindCount / n = ap (λ l. l .source) (at .line) ∙ ap (λ z. z / kindCount / n) (sym eb) in
     let g : lineAt n d i .sink ≡ b / kindCount % n = ap (λ l. l .sink) (at .line) ∙ ap (λ z. z / kindCount % n) (sym eb) in
     let hf : b / kindCount / n < n = rw eb (at .source) in let hg : b / kindCount % n < n = rw eb (at .sink) in

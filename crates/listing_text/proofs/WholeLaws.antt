@@ -36,7 +36,7 @@ three-fields : (d n k : ℕ) → headText d n k ≡ (decimal d ++ (32 ∷ [])) +
 unfolding headText
 three-fields d n k = sym (append-assoc (decimal d) (32 ∷ []) ((decimal n ++ (32 ∷ [])) ++ (decimal k ++ (10 ∷ []))) ∙ ap (λ w. decimal d ++ (32 ∷ w)) (append-assoc (decimal n) (32 ∷ []) (decimal k ++ (10 ∷ []))))
 
-module _ (m : List Bool) (s d n k a b c : ℕ) (A B C : List ℕ) (fa : Field A a d 32) (fb : Field B b n 32) (fc : Field C c k 10) (ke : k ≡ length (shown m s d)) (few : s ≤ 4) where
+module _ (m : List Bool) (s d n k a b c : ℕ) (A B C : List ℕ) (fa : Field A a d 32) (fb : Field B b n 32) (fc : Field C c k 10) (ke : k ≡ length (shown m s d)) (few : s ≤ mostStatements) where
   abbrev fieldA : List ℕ
   fieldA = decimal d ++ (32 ∷ [])
 

@@ -9,7 +9,7 @@ use Rattle.lists.specs.Parts.{put}
 use Rattle.lists.specs.Tests.{select}
 use Rattle.model.specs.Directions.{Line, flow, allLines, kindCount}
 use Rattle.model.specs.Listing.{decimal, lineText, headText}
-use Rattle.model.specs.Grammar.{mostStatements}
+use Rattle.model.specs.Grammar.{mostStatements, mostLoops}
 use Rattle.vectors.specs.Numbers.{place, marksFor}
 use Rattle.vectors.specs.Candidates.{stride}
 
@@ -34,7 +34,7 @@ lineAt n d i = getD (allLines n d) i (record { kind = flow; source = 0; sink = 0
 -- n statements, d loops, and a mark for each line
 pub record Marks (m : List Bool) (n d : ℕ) : Type 0 where
   pub statements : n ≤ mostStatements
-  pub shallow : d ≤ 6
+  pub shallow : d ≤ mostLoops
   pub room : marksFor n ≤ length m
 
 -- a number and the byte after it, in the first bytes of six

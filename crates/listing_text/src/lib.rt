@@ -7,7 +7,7 @@ ghost use Rattle.lists.specs.Parts.{put};
 ghost use Rattle.model.specs.Directions.{flow, kinds, kindCount, vectorCount};
 ghost use Rattle.model.specs.Listing.{lineText};
 ghost use Rattle.model.specs.Listing.{letter as «letter-of»};
-ghost use Rattle.model.specs.Grammar.{mostStatements};
+ghost use Rattle.model.specs.Grammar.{mostStatements, mostLoops};
 ghost use Rattle.vectors.specs.Numbers.{marksFor};
 ghost use Rattle.vectors.specs.Candidates.{stride, middle};
 ghost use Rattle.listing_text.specs.Text.{marked, shown, lineCount, lineAt, Marks, Field, Written};
@@ -36,7 +36,7 @@ fn copy(out: &mut [u8], at: usize, src: &[u8])
 // ---- line i of all that there could be, by source, sink, kind and signs
 
 fn line_count(n: usize, depth: usize) -> usize
-    requires { ⌜ (n ≤ mostStatements) × (depth ≤ 6) ⌝ }
+    requires { ⌜ (n ≤ mostStatements) × (depth ≤ mostLoops) ⌝ }
     ensures { λ r. ⌜ (r ≡ lineCount n depth) × (r ≤ marksFor mostStatements) ⌝ }
 {
     n * n * KINDS * vectors::stride(6 - depth)
@@ -44,7 +44,7 @@ fn line_count(n: usize, depth: usize) -> usize
 
 // The number of its source, sink and kind.
 fn block(depth: usize, i: usize) -> usize
-    requires { ⌜ depth ≤ 6 ⌝ }
+    requires { ⌜ depth ≤ mostLoops ⌝ }
     ensures { λ r. ⌜ r ≡ i / stride depth ⌝ }
 {
     i / vectors::stride(6 - depth)
@@ -52,7 +52,7 @@ fn block(depth: usize, i: usize) -> usize
 
 // The number of its vector.
 fn vector(depth: usize, i: usize) -> usize
-    requires { ⌜ depth ≤ 6 ⌝ }
+    requires { ⌜ depth ≤ mostLoops ⌝ }
     ensures { λ r. ⌜ (r ≡ i % stride depth * stride (6 - depth) + middle (6 - depth)) × (r < vectorCount) ⌝ }
 {
     let step = vectors::stride(depth);
@@ -84,7 +84,7 @@ fn letter(k: usize) -> u8
 
 // Its text, in the first depth + 7 bytes.
 fn line(n: usize, depth: usize, i: usize) -> [u8; 13]
-    requires { ⌜ (n ≤ mostStatements) × (depth ≤ 6) × (i < lineCount n depth) ⌝ }
+    requires { ⌜ (n ≤ mostStatements) × (depth ≤ mostLoops) × (i < lineCount n depth) ⌝ }
     ensures { λ r. ⌜ (length r ≡ 13) × (take (depth + 7) r ≡ lineText (lineAt n depth i)) ⌝ }
 {
     let b = block(depth, i);
@@ -110,7 +110,7 @@ fn line(n: usize, depth: usize, i: usize) -> [u8; 13]
 
 // Writes it at p.
 fn write_line(out: &mut [u8], p: usize, n: usize, depth: usize, i: usize)
-    requires { ⌜ (n ≤ mostStatements) × (depth ≤ 6) × (i < lineCount n depth) × (p + (depth + 7) ≤ length (now out)) ⌝ }
+    requires { ⌜ (n ≤ mostStatements) × (depth ≤ mostLoops) × (i < lineCount n depth) × (p + (depth + 7) ≤ length (now out)) ⌝ }
     ensures { λ _. ⌜ now (out .exit) ≡ put (now (out .entry)) p (lineText (lineAt n depth i)) ⌝ }
 {
     let b = line(n, depth, i);

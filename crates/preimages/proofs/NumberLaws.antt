@@ -162,7 +162,8 @@ unfolding vectorOf digitsOf
 length-vectorOf d n h = length-take-le d (map signOf (digitsOf n)) h
 
 -- every number below vectorCount is that of one vector of six signs
-pub number-six : (n : ℕ) → n < vectorCount → (v : List Sign) × (length v ≡ 6) × (number v ≡ n) × ((u : List Sign) → length u ≡ 6 → number u ≡ n → u ≡ v)
+pub number-six : (n : ℕ) → n < vectorCount
+    → (v : List Sign) × (length v ≡ 6) × (number v ≡ n) × ((u : List Sign) → length u ≡ 6 → number u ≡ n → u ≡ v)
 number-six n h =
     let v = vectorOf 6 n in
     let l = length-vectorOf 6 n (omega arith) in

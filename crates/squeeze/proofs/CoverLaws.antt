@@ -124,7 +124,8 @@ module _ (P : Sheet) (h : SheetIn P) where
       unfolding place
       place-here =
           ap₂ (λ (x y : ℕ). ((x * P .statements + y) * kindCount + kindAt (pairsOf P rs) a b) * vectorCount + 0 + number (signs (q .early) (q .late))) (source .statement) (sink .statement)
-          ∙ ap₂ (λ (x : ℕ) (v : List Sign). ((l .source * P .statements + l .sink) * kindCount + x) * vectorCount + 0 + number v) kind-here (q .vector)
+          ∙ ap₂ (λ (x : ℕ) (v : List Sign). ((l .source * P .statements + l .sink) * kindCount + x) * vectorCount + 0 + number v)
+          kind-here (q .vector)
           ∙ ap (_+ number (l .vector)) (add-zero (((l .source * P .statements + l .sink) * kindCount + kindNumber (l .kind)) * vectorCount))
 
       marked-here : T (marked m (P .statements) l)

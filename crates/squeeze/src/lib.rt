@@ -15,6 +15,7 @@ use extremes::Range;
 use model::ACCESS_ROOM;
 use model::ARRAY_ROOM;
 use model::KINDS;
+use model::LOOPS;
 use model::NEST_ROOM;
 use model::SIDES;
 use sheet::Outline;
@@ -27,7 +28,7 @@ fn pair_covered(
     owners: &[usize],
     arrays: &[usize],
     depth: usize,
-    ranges: [Range; 6],
+    ranges: [Range; LOOPS],
     statements: &[usize],
     writes: &[bool],
     body: usize,
@@ -67,7 +68,7 @@ fn covered_from(
     owners: &[usize],
     arrays: &[usize],
     depth: usize,
-    ranges: [Range; 6],
+    ranges: [Range; LOOPS],
     statements: &[usize],
     writes: &[bool],
     body: usize,
@@ -105,7 +106,7 @@ fn covered(
     owners: &[usize],
     arrays: &[usize],
     depth: usize,
-    ranges: [Range; 6],
+    ranges: [Range; LOOPS],
     statements: &[usize],
     writes: &[bool],
     body: usize,
@@ -140,7 +141,7 @@ fn sheet_covered(
     outline: Outline,
     limits: &[i16],
     words: &[i16],
-    ranges: [Range; 6],
+    ranges: [Range; LOOPS],
     marks: &[bool],
 ) -> bool
     requires { ⌜ CoverIn (sheetOf outline (now limits) (now words)) ranges (now marks) ⌝ }
@@ -224,7 +225,7 @@ fn mark_part(
     outline: Outline,
     limits: &[i16],
     words: &[i16],
-    ranges: [Range; 6],
+    ranges: [Range; LOOPS],
     part: Part,
     marks: &mut [bool],
 ) -> bool

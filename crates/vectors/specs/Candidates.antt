@@ -7,6 +7,7 @@ use lib.IntN.{ℤ, pos}
 use lib.ListN.{length, take, drop, getD, replicate}
 use Rattle.integers.specs.Sign.{Sign, equal}
 use Rattle.model.specs.Directions.{signs}
+use Rattle.model.specs.Grammar.{mostLoops}
 use Rattle.vectors.specs.Numbers.{number, numberAfter}
 
 unfoldable pub row : ℕ → List ℤ → ℕ → List ℤ
@@ -36,4 +37,4 @@ Steady varying u = (k : ℕ) → getD varying k false ≡ false → getD u k equ
 
 -- r is true of the number of such signs
 abbrev pub Candidate : List Bool → ℕ → Bool → Type 0
-Candidate varying v r = (u : List Sign) → length u ≤ 6 → Steady varying u → number u ≡ v → r ≡ true
+Candidate varying v r = (u : List Sign) → length u ≤ mostLoops → Steady varying u → number u ≡ v → r ≡ true

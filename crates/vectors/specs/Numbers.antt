@@ -6,6 +6,7 @@ use lib.IntN.{ℤ}
 use lib.ListN.{length, replicate, drop}
 use Rattle.integers.specs.Sign.{Sign, less, equal, greater}
 use Rattle.model.specs.Directions.{Kind, flow, anti, output, kindCount, Line, vectorCount, signs}
+use Rattle.model.specs.Grammar.{mostLoops}
 
 unfoldable pub digit : Sign → ℕ
 digit less = 0
@@ -45,7 +46,7 @@ place n l = placeOf n (l .source) (l .sink) (kindNumber (l .kind)) (number (l .v
 
 -- two points of as many indices, at most six
 pub record SignsIn (p q : List ℤ) : Type 0 where
-  pub few : length p ≤ 6
+  pub few : length p ≤ mostLoops
   pub both : length p ≡ length q
 
 -- what the signs that are left after k make of v is the number of all

@@ -5,6 +5,7 @@ ghost use Prim.Native.Nat.{_+_, _*_, _-_, _≤_, _<_};
 ghost use lib.ListN.{length};
 ghost use Rattle.integers.specs.Sign.{sign as «sign-of»};
 ghost use Rattle.model.specs.Directions.{signs, vectorCount};
+ghost use Rattle.model.specs.Grammar.{mostLoops};
 ghost use Rattle.vectors.specs.Numbers.{digit, numberAfter, number, SignsIn, Left};
 ghost use Rattle.vectors.specs.Candidates.{code};
 ghost use Rattle.vectors.specs.Candidates.{Candidate};
@@ -93,7 +94,7 @@ fn digits(p: &[i64], q: &[i64]) -> usize
 
 // How far the numbers of vectors of so many loops are from one another: 3 for each missing loop.
 pub fn stride(depth: usize) -> usize
-    requires { ⌜ depth ≤ 6 ⌝ }
+    requires { ⌜ depth ≤ mostLoops ⌝ }
     ensures { λ r. ⌜ (r ≡ «stride-of» (6 - depth)) × (r ≤ vectorCount) ⌝ }
 {
     match depth {
@@ -117,7 +118,7 @@ pub fn vector(p: &[i64], q: &[i64], step: usize) -> usize
 
 // The number of the vector of the stored points x and y.
 pub fn pair(points: &[i64], depth: usize, step: usize, x: usize, y: usize) -> usize
-    requires { ⌜ (depth ≤ 6) × (step ≡ «stride-of» (6 - depth)) × (x * depth + depth ≤ length (now points)) × (y * depth + depth ≤ length (now points)) ⌝ }
+    requires { ⌜ (depth ≤ mostLoops) × (step ≡ «stride-of» (6 - depth)) × (x * depth + depth ≤ length (now points)) × (y * depth + depth ≤ length (now points)) ⌝ }
     ensures { λ r. ⌜ (r ≡ code depth (now (points .entry)) x y) × (r < vectorCount) ⌝ }
 {
     vector(

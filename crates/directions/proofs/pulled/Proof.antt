@@ -41,7 +41,8 @@ sub-n c = positive c
 loop-holds : tie.Need-loop-holds Inv-loop μ-loop
 loop-holds c =
     let s = start c in
-    subst (λ m. Filling (wanted s) (s .args .depth) (replicate vectorCount false) m ((c .stride .result - 1) / 2)) (sym (c .before .no-marks .ensures))
+    subst (λ m. Filling (wanted s) (s .args .depth) (replicate vectorCount false) m ((c .stride .result - 1) / 2))
+    (sym (c .before .no-marks .ensures))
     (fill-first (wanted s) (s .args .depth) (replicate vectorCount false) (s .pre .few) (c .stride .result) (c .stride .ensures .0) (length-replicate vectorCount false))
 
 comes-requires : tie.Need-comes-requires Inv-loop μ-loop

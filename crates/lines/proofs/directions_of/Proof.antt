@@ -19,7 +19,9 @@ abbrev μ-loop : tie.MeasureT-loop
 abbrev top : tie.At-loop Inv-loop μ-loop → tie.Start Inv-loop μ-loop
 top c = c .before .before .before .before .before .before .before
 
-ends : (c : tie.In-loop Inv-loop μ-loop) → (c .before .loop .b < mostStatements * mostStatements * kindCount) × (c .before .loop .b * vectorCount + vectorCount ≤ length (top (c .before) .args .marks .now))
+ends : (c : tie.In-loop Inv-loop μ-loop)
+    → (c .before .loop .b < mostStatements * mostStatements * kindCount)
+    × (c .before .loop .b * vectorCount + vectorCount ≤ length (top (c .before) .args .marks .now))
 ends c = let s = top (c .before) in row-ends (s .args .marks .now) (s .args .n) (s .args .depth) (s .pre .0) (c .before .loop .b) (c .loop-test .taken)
 
 mul-blocks : tie.Need-mul-blocks Inv-loop μ-loop
