@@ -5,7 +5,7 @@ use Prim.Native.Nat.{ℕ, _<_}
 use lib.IntN.{ℤ}
 use lib.ListN.{length}
 use Rattle.model.specs.Inside.{InLimits}
-use Rattle.model.specs.Grammar.{mostSides, nestRoom}
+use Rattle.model.specs.Grammar.{mostSides, nestRoom, mostLoops}
 use Rattle.bounds.specs.Flat.{loopAt, NestOk}
 
 -- every index within the limits of a loop of the second nest is within those of the same loop of the first
@@ -16,7 +16,7 @@ pub record Narrower (s : List ℤ) (c : List ℕ) (depth : ℕ) (t : List ℤ) (
 pub record ShortenIn (s : List ℤ) (c : List ℕ) (k : ℕ) : Type 0 where
   pub words : length s ≡ nestRoom
   pub counts : length c ≡ mostSides
-  pub deep : k < 6
+  pub deep : k < mostLoops
 
 -- so it is in every nest that has loop k
 abbrev pub Shortens : List ℤ → List ℕ → ℕ → List ℤ → List ℕ → Type 0

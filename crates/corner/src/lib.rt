@@ -7,6 +7,8 @@ ghost use Rattle.extremes.specs.Ranges.{rangeAs, NearRange, RangesIn};
 ghost use Rattle.nest.specs.Nested.{LimitIn};
 ghost use Rattle.corner.specs.Corners.{ShortenIn, Shortens, Narrower};
 use extremes::Range;
+use model::LIMITS;
+use model::LOOPS;
 use nest::Limit;
 
 // A part of a nest has few values of each loop: the least ones, or those round the middle.
@@ -22,7 +24,7 @@ fn bound(v: i32) -> Limit
     Limit {
         multiplier: 1,
         constant: v,
-        coefficients: [0i32; 6],
+        coefficients: [0i32; LOOPS],
     }
 }
 
@@ -32,7 +34,7 @@ fn shorten(limits: &mut [i16], counts: &mut [usize], k: usize, side: usize, v: i
     ensures { λ _. ⌜ Shortens (now (limits .entry)) (now (counts .entry)) k (now (limits .exit)) (now (counts .exit)) ⌝ }
 {
     let n = counts[k * 2 + side];
-    if n < 16 {
+    if n < LIMITS {
         let limit = bound(v);
         if limits::put_limit(limits, k * 32 + side * 16 + n, limit, k) {
             counts[k * 2 + side] = n + 1;
@@ -80,7 +82,7 @@ pub fn cut_part(
     limits: &mut [i16],
     counts: &mut [usize],
     depth: usize,
-    ranges: [Range; 6],
+    ranges: [Range; LOOPS],
     part: Part,
 )
     requires { ⌜ NestOk (now limits) (now counts) depth × RangesIn depth ranges ⌝ }

@@ -12,6 +12,7 @@ use Rattle.model.specs.Ticket as Model
 use Rattle.model.specs.Judge.{smallLoop}
 use Rattle.model.specs.Limits.{newOuter, newInner, tidy}
 use Rattle.model.specs.Shape.{Sized}
+use Rattle.model.specs.Grammar.{mostSides, nestRoom}
 use Rattle.bounds.specs.Flat.{loopAt}
 use Rattle.nest.specs.Laid.{layLoop, layCount}
 use Rattle.sides.proofs.FlatLaws.{limits-sized}
@@ -86,7 +87,7 @@ module _ (s : List ℤ) (c : List ℕ) (a : ℕ) (p : PairIn s c a) (low up : Li
       unfolding outerOf
       outer-put = subst (λ (L : Model.Loop). LoopPut s c a L r t e) (whole a outerL low up h o b f no) x
 
-      pub outer-large : r ≡ false → length t ≡ 1536 → length e ≡ 12 → Exchanges s c a (record { full = false; small = false }) t e
+      pub outer-large : r ≡ false → length t ≡ nestRoom → length e ≡ mostSides → Exchanges s c a (record { full = false; small = false }) t e
       outer-large q w n = record {
         full = few;
         small = λ _. sym (ap (_&& smallLoop (innerOf s c a)) (sym (outer-put .small) ∙ q));
@@ -118,7 +119,7 @@ module _ (s : List ℤ) (c : List ℕ) (a : ℕ) (p : PairIn s c a) (low up : Li
             pair-made s c a (outerOf s c a) (innerOf s c a) v y p outer-sized inner-sized (outer-ranges s c a p outer-few outer-small) (inner-ranges s c a p inner-few (sym (inner-put .small) ∙ w))
             (n .0 ∙ ap (λ l. layLoop l (a + 1) (innerOf s c a)) (m .0)) (n .1 ∙ ap (λ l. layCount l (a + 1) (innerOf s c a)) (m .1))
 
-        pub both-put : length v ≡ 1536 → length y ≡ 12 → Exchanges s c a (record { full = false; small = q }) v y
+        pub both-put : length v ≡ nestRoom → length y ≡ mostSides → Exchanges s c a (record { full = false; small = q }) v y
         both-put w n = record {
           full = few;
           small = λ _. inner-put .small ∙ sym (ap (_&& smallLoop (innerOf s c a)) outer-small);

@@ -13,6 +13,7 @@ use Rattle.lists.proofs.MembershipLaws.{all-nil, all-cons}
 use Rattle.model.specs.Ticket as Model
 use Rattle.model.specs.Shape.{Sized}
 use Rattle.model.specs.Ranges.{LoopRanges}
+use Rattle.model.specs.Grammar.{mostSides, nestRoom}
 use Rattle.bounds.specs.Flat.{limitsAt, loopAt, NestOk}
 use Rattle.nest.specs.Laid.{layLimits, layLoop, layCount, layLoops, layCounts}
 use Rattle.nest.proofs.PutLaws.{getD-front}
@@ -32,7 +33,7 @@ pub pair-in : (s : List ℤ) (c : List ℕ) (depth a : ℕ) → NestOk s c depth
 pair-in s c depth a n h = let d = n .shallow in
     record { words = n .words; counts = n .counts; place = omega arith; small = n .small; outer = loop-ok s c depth a n (omega arith); inner = loop-ok s c depth (a + 1) n h }
 
-nest-of : (s : List ℤ) (c : List ℕ) (depth : ℕ) → length s ≡ 1536 → length c ≡ 12 → depth ≤ 6 → Within 32767 s → ((k : ℕ) → k < depth → LoopOk s c k) → NestOk s c depth
+nest-of : (s : List ℤ) (c : List ℕ) (depth : ℕ) → length s ≡ nestRoom → length c ≡ mostSides → depth ≤ 6 → Within 32767 s → ((k : ℕ) → k < depth → LoopOk s c k) → NestOk s c depth
 nest-of s c depth w n h m o = record {
   words = w;
   counts = n;
@@ -103,7 +104,7 @@ module _ (s : List ℤ) (c : List ℕ) (k : ℕ) where
 
 -- ---- one loop laid
 
-behind-loop : (s : List ℤ) (k : ℕ) (L : Model.Loop) → length s ≡ 1536 → suc k ≤ 6 → Sized k (L .lower) × Sized k (L .upper) → LoopRanges 16 L → (m : ℕ) → suc k * 256 ≤ m → drop m (layLoop s k L) ≡ drop m s
+behind-loop : (s : List ℤ) (k : ℕ) (L : Model.Loop) → length s ≡ nestRoom → suc k ≤ 6 → Sized k (L .lower) × Sized k (L .upper) → LoopRanges 16 L → (m : ℕ) → suc k * 256 ≤ m → drop m (layLoop s k L) ≡ drop m s
 unfolding layLoop
 behind-loop s k L w h z r m g =
     let p = r .few-lower .high in
@@ -163,7 +164,7 @@ module _ (s : List ℤ) (c : List ℕ) (a : ℕ) (X Y : Model.Loop) (p : PairIn 
   unfolding layLoops layCounts
   laid = loops-laid s c a pair fit
 
-  lengths : (length t ≡ 1536) × (length d ≡ 12)
+  lengths : (length t ≡ nestRoom) × (length d ≡ mostSides)
   unfolding layLoops layCounts
   lengths = loops-length s c a pair fit
 
@@ -171,7 +172,7 @@ module _ (s : List ℤ) (c : List ℕ) (a : ℕ) (X Y : Model.Loop) (p : PairIn 
   unfolding layLoops
   within = loops-within s c a pair fit (p .small)
 
-  first-length : length (layLoop s a X) ≡ 1536
+  first-length : length (layLoop s a X) ≡ nestRoom
   first-length = let q = p .place in loop-length s a X (p .words) (omega arith) sx rx ∙ p .words
 
   words-before : take (a * 256) t ≡ take (a * 256) s

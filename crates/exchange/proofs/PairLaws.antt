@@ -15,6 +15,7 @@ use Rattle.lists.proofs.TestLaws.{true-T, T-true, not-T-false, and-both}
 use Rattle.model.specs.Ticket as Model
 use Rattle.model.specs.Judge.{smallLimit, smallLoop}
 use Rattle.model.specs.Limits.{widened, outerCoefficient, outerPart, newOuter, newInner, tidy}
+use Rattle.model.specs.Grammar.{nestRoom, mostSides}
 use Rattle.bounds.specs.Flat.{limitsAt, loopAt}
 use Rattle.nest.specs.Laid.{layLimits, layLoop, layCount}
 use Rattle.sides.specs.Filling.{Holds, SidePut}
@@ -27,7 +28,7 @@ use Rattle.exchange.specs.Pair.{takenOf, limitsOf, SpanIn, lowerSpan, up
 
 -- ---- I and J as they are read
 
-module _ (s : List ℤ) (c : List ℕ) (k : ℕ) (words : length s ≡ 1536) (small : Within 32767 s) (place : k < 6) (ok : LoopOk s c k) where
+module _ (s : List ℤ) (c : List ℕ) (k : ℕ) (words : length s ≡ nestRoom) (small : Within 32767 s) (place : k < 6) (ok : LoopOk s c k) where
   pub lower-in : (p : Span) → p ≡ lowerSpan c k → SpanIn s p
   unfolding lowerSpan
   lower-in p e = let h = ok .lower-count .1 in subst (SpanIn s) (sym e) (record { words = words; small = small; inside = omega arith; positive = ok .lower-positive })
@@ -118,7 +119,7 @@ pub both-few : (m n : ℕ) (r : Bool) → r ≡ not (leb m 16 && leb n 16) → r
 both-few m n r e f = let b = and-both (leb m 16) (leb n 16) (true-T _ (not-false (leb m 16 && leb n 16) (sym e ∙ f))) in (leb→le m 16 (b .0), leb→le n 16 (b .1))
 
 pub put-in : (room rows k n : ℕ) (L : Model.Loop) (low up : List ℤ) (h : Held) (r : Bool) → LoopHeld n L low up h → r ≡ not (leb (h .lower) 16 && leb (h .upper) 16) → r ≡ false
-    → room ≡ 1536 → rows ≡ 12 → k < 6 → PutLoopIn room rows k low up h
+    → room ≡ nestRoom → rows ≡ mostSides → k < 6 → PutLoopIn room rows k low up h
 put-in room rows k n L low up h r p e f w c g = let b = both-few (h .lower) (h .upper) r e f in
     record { words = w; counts = c; place = g; lower = (p .lower-filled, b .0); upper = (p .upper-filled, b .1) }
 

@@ -10,6 +10,7 @@ use Rattle.integers.specs.Affine.{Within}
 use Rattle.model.specs.Ticket as Model
 use Rattle.model.specs.Judge.{smallLoop}
 use Rattle.model.specs.Limits.{solvedPositive, solvedNegative, whenPositive, whenNegative, outerCoefficient, newOuter, newInner, tidy}
+use Rattle.model.specs.Grammar.{mostLoops, mostLimits, mostSides, nestLimits, rowRoom, nestRoom}
 use Rattle.nest.specs.Nested.{limitOf}
 use Rattle.nest.specs.declared.Limit.{Limit}
 use Rattle.bounds.specs.Flat.{limitsAt, loopAt, Positive, NestOk}
@@ -37,9 +38,9 @@ abbrev pub limitsOf : List ℤ → ℕ → Span → List Model.Limit
 limitsOf s n p = limitsAt s n (p .from) (p .count)
 
 pub record SpanIn (s : List ℤ) (p : Span) : Type 0 where
-  pub words : length s ≡ 1536
+  pub words : length s ≡ nestRoom
   pub small : Within 32767 s
-  pub inside : p .from + p .count ≤ 192
+  pub inside : p .from + p .count ≤ nestLimits
   pub positive : Positive s (p .from) (p .count)
 
 -- of loop k
@@ -51,7 +52,7 @@ upperSpan c k = record { from = k * 32 + 16; count = getD c (k * 2 + 1) 0 }
 
 -- a limit of J, and a side of I
 pub record CombineIn (a : ℕ) (f : List ℤ) (count : ℕ) (l : Limit) (s : List ℤ) (p : Span) : Type 0 where
-  pub place : a < 6
+  pub place : a < mostLoops
   pub filled : Filled f count
   pub limit : SmallLimit (limitOf (a + 1) l)
   pub side : SpanIn s p
@@ -61,20 +62,20 @@ pub record PartIn (a : ℕ) (f : List ℤ) (count : ℕ) (l : Limit) (s : List �
   pub with-other : CombineIn a f count l s other
 
 pub record TakeIn (a : ℕ) (f : List ℤ) (count : ℕ) (l : Limit) : Type 0 where
-  pub place : a < 6
+  pub place : a < mostLoops
   pub filled : Filled f count
   pub limit : SmallLimit (limitOf (a + 1) l)
 
 -- a side of J
 pub record SolveIn (a : ℕ) (f : List ℤ) (count : ℕ) (s : List ℤ) (js : Span) : Type 0 where
-  pub place : a < 6
+  pub place : a < mostLoops
   pub filled : Filled f count
   pub side : SpanIn s js
 
 -- a side of one loop, and two of the other
 pub record ThreeIn (a : ℕ) (f : List ℤ) (s : List ℤ) (p q r : Span) : Type 0 where
-  pub place : a < 6
-  pub room : length f ≡ 128
+  pub place : a < mostLoops
+  pub room : length f ≡ mostLimits * rowRoom
   pub first : SpanIn s p
   pub second : SpanIn s q
   pub third : SpanIn s r
@@ -82,9 +83,9 @@ pub record ThreeIn (a : ℕ) (f : List ℤ) (s : List ℤ) (p q r : Span) : Type
 -- ---- the pair
 
 pub record PairIn (s : List ℤ) (c : List ℕ) (a : ℕ) : Type 0 where
-  pub words : length s ≡ 1536
-  pub counts : length c ≡ 12
-  pub place : a + 1 < 6
+  pub words : length s ≡ nestRoom
+  pub counts : length c ≡ mostSides
+  pub place : a + 1 < mostLoops
   pub small : Within 32767 s
   pub outer : LoopOk s c a
   pub inner : LoopOk s c (a + 1)
@@ -93,8 +94,8 @@ pub record PairIn (s : List ℤ) (c : List ℕ) (a : ℕ) : Type 0 where
 
 pub record FillIn (s : List ℤ) (c : List ℕ) (a : ℕ) (low up : List ℤ) : Type 0 where
   pub pair : PairIn s c a
-  pub lower : length low ≡ 128
-  pub upper : length up ≡ 128
+  pub lower : length low ≡ mostLimits * rowRoom
+  pub upper : length up ≡ mostLimits * rowRoom
 
 -- what the limits of L leave on each side
 pub record LoopHeld (n : ℕ) (L : Model.Loop) (low up : List ℤ) (h : Held) : Type 0 where
@@ -108,11 +109,11 @@ loopIn n low up h = record { lower = limitsAt low n 0 (h .lower); upper = limits
 
 -- it is put at place k
 pub record PutLoopIn (room rows k : ℕ) (low up : List ℤ) (h : Held) : Type 0 where
-  pub words : room ≡ 1536
-  pub counts : rows ≡ 12
-  pub place : k < 6
-  pub lower : Filled low (h .lower) × (h .lower ≤ 16)
-  pub upper : Filled up (h .upper) × (h .upper ≤ 16)
+  pub words : room ≡ nestRoom
+  pub counts : rows ≡ mostSides
+  pub place : k < mostLoops
+  pub lower : Filled low (h .lower) × (h .lower ≤ mostLimits)
+  pub upper : Filled up (h .upper) × (h .upper ≤ mostLimits)
 
 -- r says whether the numbers of L are small; t and d are what is left of the words s and the counts c
 pub record LoopPut (s : List ℤ) (c : List ℕ) (k : ℕ) (L : Model.Loop) (r : Bool) (t : List ℤ) (d : List ℕ) : Type 0 where
@@ -130,7 +131,7 @@ innerOf s c a = tidy (newInner a (loopAt s c a) (loopAt s c (a + 1)))
 
 -- at most 16 limits a side
 unfoldable pub fewIn : Model.Loop → Bool
-fewIn L = leb (length (L .lower)) 16 && leb (length (L .upper)) 16
+fewIn L = leb (length (L .lower)) mostLimits && leb (length (L .upper)) mostLimits
 
 -- the words t and the counts d have X and Y at a and a + 1, and the other loops of s and c
 pub record PairMade (s : List ℤ) (c : List ℕ) (a : ℕ) (X Y : Model.Loop) (t : List ℤ) (d : List ℕ) : Type 0 where
@@ -147,5 +148,5 @@ pub record Exchanges (s : List ℤ) (c : List ℕ) (a : ℕ) (r : Exchanged) (t 
   pub full : r .full ≡ not (fewIn (outerOf s c a) && fewIn (innerOf s c a))
   pub small : r .full ≡ false → r .small ≡ smallLoop (outerOf s c a) && smallLoop (innerOf s c a)
   pub made : r .full ≡ false → r .small ≡ true → PairMade s c a (outerOf s c a) (innerOf s c a) t d
-  pub words : length t ≡ 1536
-  pub counts : length d ≡ 12
+  pub words : length t ≡ nestRoom
+  pub counts : length d ≡ mostSides

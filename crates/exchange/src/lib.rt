@@ -3,25 +3,28 @@
 ghost use mathlib.Core.Path.{_≡_};
 ghost use mathlib.Core.Bool.{not, _&&_};
 ghost use mathlib.Core.List.{_++_, map, flatMap};
-ghost use Prim.Native.Nat.{_+_, _<_, _≤_};
+ghost use Prim.Native.Nat.{_+_, _*_, _<_, _≤_};
 ghost use lib.Dec.{leb};
 ghost use lib.IntN.{pos};
 ghost use lib.ListN.{length};
 ghost use Rattle.integers.specs.Difference.{size};
 ghost use Rattle.model.specs.Limits.{combined, widened, outerCoefficient, outerPart, newOuter, newInner};
+ghost use Rattle.model.specs.Grammar.{mostLoops, mostLimits, rowRoom, mostSides};
 ghost use Rattle.nest.specs.Nested.{limitOf};
 ghost use Rattle.bounds.specs.Flat.{loopAt};
 ghost use Rattle.limits.specs.Small.{SmallLimit};
 ghost use Rattle.limits.specs.Makes.{LimitIs};
 ghost use Rattle.sides.specs.Filling.{Filled, Holds, Adds};
 ghost use Rattle.exchange.specs.Pair.{solved, takenOf, limitsOf, SpanIn, CombineIn, PartIn, TakeIn, SolveIn, ThreeIn, lowerSpan, upperSpan, FillIn, LoopHeld, loopIn, PutLoopIn, LoopPut, PairIn, Exchanges};
+use model::LIMITS;
+use model::ROW_ROOM;
 use nest::Limit;
 
 // ---- limits
 
 // p J against e + c I, and q I against f: p q J against q e + c f.
 fn combined(a: usize, c: i32, l: Limit, m: Limit) -> Limit
-    requires { ⌜ (a < 6) × (size c ≤ 32767) × SmallLimit (limitOf (a + 1) l) × SmallLimit (limitOf a m) ⌝ }
+    requires { ⌜ (a < mostLoops) × (size c ≤ 32767) × SmallLimit (limitOf (a + 1) l) × SmallLimit (limitOf a m) ⌝ }
     ensures { λ r. ⌜ LimitIs a r (combined a c (limitOf (a + 1) l) (limitOf a m)) ⌝ }
 {
     let q = m.multiplier as i32;
@@ -40,7 +43,7 @@ fn combined(a: usize, c: i32, l: Limit, m: Limit) -> Limit
 
 // p J against e + c I, solved for |c| I.
 fn solved(a: usize, l: Limit) -> Limit
-    requires { ⌜ (a < 6) × SmallLimit (limitOf (a + 1) l) × (outerCoefficient a (limitOf (a + 1) l) ≡ pos 0 → ⊥) ⌝ }
+    requires { ⌜ (a < mostLoops) × SmallLimit (limitOf (a + 1) l) × (outerCoefficient a (limitOf (a + 1) l) ≡ pos 0 → ⊥) ⌝ }
     ensures { λ r. ⌜ LimitIs (a + 1) r (solved a (outerCoefficient a (limitOf (a + 1) l)) (limitOf (a + 1) l)) ⌝ }
 {
     let p = l.multiplier as i32;
@@ -69,7 +72,7 @@ fn solved(a: usize, l: Limit) -> Limit
 
 // One more loop outside, which the limit does not name.
 fn widened(l: Limit, n: usize) -> Limit
-    requires { ⌜ n < 6 ⌝ }
+    requires { ⌜ n < mostLoops ⌝ }
     ensures { λ r. ⌜ LimitIs (n + 1) r (widened (limitOf n l)) ⌝ }
 {
     let mut cs = l.coefficients;
@@ -166,7 +169,7 @@ fn push_outer(
 // ---- the loop that I becomes, inside
 
 fn push_widened(filling: &mut [i32], words: &[i16], a: usize, side: Span) -> usize
-    requires { ⌜ (a < 6) × (length (now filling) ≡ 128) × SpanIn (now words) side ⌝ }
+    requires { ⌜ (a < mostLoops) × (length (now filling) ≡ mostLimits * rowRoom) × SpanIn (now words) side ⌝ }
     ensures { λ r. ⌜ Holds (a + 1) (now (filling .exit)) r (map widened (limitsOf (now (words .entry)) a side)) × Filled (now (filling .exit)) r ⌝ }
 {
     let from = side.from;
@@ -246,7 +249,7 @@ fn push_inner(
 // ---- the pair
 
 fn lower(counts: &[usize], k: usize) -> Span
-    requires { ⌜ (k < 6) × (length (now counts) ≡ 12) ⌝ }
+    requires { ⌜ (k < mostLoops) × (length (now counts) ≡ mostSides) ⌝ }
     ensures { λ r. ⌜ r ≡ lowerSpan (now (counts .entry)) k ⌝ }
 {
     Span {
@@ -256,7 +259,7 @@ fn lower(counts: &[usize], k: usize) -> Span
 }
 
 fn upper(counts: &[usize], k: usize) -> Span
-    requires { ⌜ (k < 6) × (length (now counts) ≡ 12) ⌝ }
+    requires { ⌜ (k < mostLoops) × (length (now counts) ≡ mostSides) ⌝ }
     ensures { λ r. ⌜ r ≡ upperSpan (now (counts .entry)) k ⌝ }
 {
     Span {
@@ -300,12 +303,12 @@ fn fill_inner(words: &[i16], counts: &[usize], a: usize, low: &mut [i32], up: &m
 }
 
 fn full(held: Held) -> bool
-    ensures { λ r. ⌜ r ≡ not (leb (held .lower) 16 && leb (held .upper) 16) ⌝ }
+    ensures { λ r. ⌜ r ≡ not (leb (held .lower) mostLimits && leb (held .upper) mostLimits) ⌝ }
 {
-    if 16 < held.lower {
+    if LIMITS < held.lower {
         return true;
     }
-    16 < held.upper
+    LIMITS < held.upper
 }
 
 // Loop k, of two sides that are not full, unless a number is not within ±32767.
@@ -344,8 +347,8 @@ pub fn exchange_pair(limits: &mut [i16], counts: &mut [usize], a: usize) -> Exch
     requires { ⌜ PairIn (now limits) (now counts) a ⌝ }
     ensures { λ r. ⌜ Exchanges (now (limits .entry)) (now (counts .entry)) a r (now (limits .exit)) (now (counts .exit)) ⌝ }
 {
-    let mut outer_low = [0i32; 128];
-    let mut outer_up = [0i32; 128];
+    let mut outer_low = [0i32; LIMITS * ROW_ROOM];
+    let mut outer_up = [0i32; LIMITS * ROW_ROOM];
     let outer = fill_outer(limits, counts, a, &mut outer_low, &mut outer_up);
     if full(outer) {
         return Exchanged {
@@ -353,8 +356,8 @@ pub fn exchange_pair(limits: &mut [i16], counts: &mut [usize], a: usize) -> Exch
             small: false,
         };
     }
-    let mut inner_low = [0i32; 128];
-    let mut inner_up = [0i32; 128];
+    let mut inner_low = [0i32; LIMITS * ROW_ROOM];
+    let mut inner_up = [0i32; LIMITS * ROW_ROOM];
     let inner = fill_inner(limits, counts, a, &mut inner_low, &mut inner_up);
     if full(inner) {
         return Exchanged {

@@ -4,6 +4,7 @@ use lib.IntN.{negℤ}
 use Rattle.lists.specs.Place.{under, onHead, swapped}
 use Rattle.model.specs.Ticket as Model
 use Rattle.model.specs.Limits.{onCoefficients, negated, skewLimit, skewCoefficients, sectionLower, sectionUpper, elementLimit, splitCoefficients}
+use Rattle.model.specs.Grammar.{mostLoops}
 use Rattle.limits.specs.declared.Change.{Change}
 use Rattle.limits.specs.declared.Change.the-variants.{Negate, Turn, Swap, Lean, Skew, Low, Up, Element, Split}
 
@@ -32,12 +33,12 @@ outerAfter (Split s) n = n + 1
 
 -- the loops that the change names are outside, and a row has room for it
 unfoldable pub Allowed : Change → ℕ → Type 0
-Allowed Negate n = n ≤ 6
-Allowed (Turn a) n = (a < n) × (n ≤ 6)
-Allowed (Swap a) n = (a + 1 < n) × (n ≤ 6)
-Allowed (Lean s) n = (s .outer < n) × (n ≤ 6)
-Allowed (Skew s) n = (s .outer + 1 + s .between < n) × (n ≤ 6)
+Allowed Negate n = n ≤ mostLoops
+Allowed (Turn a) n = (a < n) × (n ≤ mostLoops)
+Allowed (Swap a) n = (a + 1 < n) × (n ≤ mostLoops)
+Allowed (Lean s) n = (s .outer < n) × (n ≤ mostLoops)
+Allowed (Skew s) n = (s .outer + 1 + s .between < n) × (n ≤ mostLoops)
 Allowed (Low w) n = (1 ≤ w) × (w ≤ 256)
 Allowed (Up w) n = (1 ≤ w) × (w ≤ 256)
-Allowed (Element w) n = (n < 6) × (w ≤ 256)
-Allowed (Split s) n = (s .place < n) × (n < 6) × (s .width ≤ 256)
+Allowed (Element w) n = (n < mostLoops) × (w ≤ 256)
+Allowed (Split s) n = (s .place < n) × (n < mostLoops) × (s .width ≤ 256)

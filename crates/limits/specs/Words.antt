@@ -5,12 +5,13 @@ use lib.Signed.{_<ℤ_}
 use lib.ListN.{length, getD}
 use mathlib.Core.List.{List}
 use Rattle.integers.specs.Affine.{Within}
+use Rattle.model.specs.Grammar.{mostLoops, mostLimits}
 use Rattle.bounds.specs.Flat.{Positive}
 
 -- limit j, of a loop with n loops outside
 pub record LimitRoom (s : List ℤ) (j n : ℕ) : Type 0 where
   pub fits : j * 8 + 8 ≤ length s
-  pub shallow : n ≤ 6
+  pub shallow : n ≤ mostLoops
 
 pub record LimitThere (s : List ℤ) (j n : ℕ) : Type 0 where
   pub room : LimitRoom s j n
@@ -19,7 +20,7 @@ pub record LimitThere (s : List ℤ) (j n : ℕ) : Type 0 where
 
 -- what `NestOk` says of loop k
 pub record LoopOk (s : List ℤ) (c : List ℕ) (k : ℕ) : Type 0 where
-  pub lower-count : (1 ≤ getD c (k * 2) 0) × (getD c (k * 2) 0 ≤ 16)
-  pub upper-count : (1 ≤ getD c (k * 2 + 1) 0) × (getD c (k * 2 + 1) 0 ≤ 16)
+  pub lower-count : (1 ≤ getD c (k * 2) 0) × (getD c (k * 2) 0 ≤ mostLimits)
+  pub upper-count : (1 ≤ getD c (k * 2 + 1) 0) × (getD c (k * 2 + 1) 0 ≤ mostLimits)
   pub lower-positive : Positive s (k * 32) (getD c (k * 2) 0)
   pub upper-positive : Positive s (k * 32 + 16) (getD c (k * 2 + 1) 0)

@@ -10,6 +10,7 @@ ghost use Rattle.model.specs.Encode.{limitWords};
 ghost use Rattle.model.specs.Judge.{smallLimit};
 ghost use Rattle.model.specs.Steps.{signed};
 ghost use Rattle.model.specs.Limits.{negated, skewLimit, skewCoefficients, sectionLower, sectionUpper, elementLimit, splitCoefficients};
+ghost use Rattle.model.specs.Grammar.{mostLoops};
 ghost use Rattle.nest.specs.Nested.{limitOf};
 ghost use Rattle.bounds.specs.Flat.{limitAt};
 ghost use Rattle.rows.specs.Rows.{RowIs, Tried};
@@ -17,6 +18,7 @@ ghost use Rattle.limits.specs.Small.{SmallLimit};
 ghost use Rattle.limits.specs.Makes.{mixed, LimitIs};
 ghost use Rattle.limits.specs.Words.{LimitThere, LimitRoom};
 ghost use Rattle.limits.specs.Change.{changeOf, outerAfter, Allowed};
+use model::LOOPS;
 use nest::Limit;
 
 // ---- numbers
@@ -54,11 +56,11 @@ fn times(x: i32, w: u32) -> i32
 // ---- rows
 
 // u xs + v ys
-pub fn mix(n: usize, u: i32, xs: [i32; 6], v: i32, ys: [i32; 6]) -> [i32; 6]
-    requires { ⌜ (n ≤ 6) × (size u ≤ 32767) × (size v ≤ 32767) × Within 32767 (take n xs) × Within 32767 (take n ys) ⌝ }
+pub fn mix(n: usize, u: i32, xs: [i32; LOOPS], v: i32, ys: [i32; LOOPS]) -> [i32; LOOPS]
+    requires { ⌜ (n ≤ mostLoops) × (size u ≤ 32767) × (size v ≤ 32767) × Within 32767 (take n xs) × Within 32767 (take n ys) ⌝ }
     ensures { λ r. ⌜ RowIs n r (mixed u v (take n xs) (take n ys)) ⌝ }
 {
-    let mut r = [0i32; 6];
+    let mut r = [0i32; LOOPS];
     let mut k = 0;
     while k < n {
         let x = xs[k];
@@ -71,8 +73,8 @@ pub fn mix(n: usize, u: i32, xs: [i32; 6], v: i32, ys: [i32; 6]) -> [i32; 6]
 }
 
 // The coefficient at place a changes sign.
-pub fn turned(cs: [i32; 6], n: usize, a: usize) -> [i32; 6]
-    requires { ⌜ (a < n) × (n ≤ 6) × Within 32767 (take n cs) ⌝ }
+pub fn turned(cs: [i32; LOOPS], n: usize, a: usize) -> [i32; LOOPS]
+    requires { ⌜ (a < n) × (n ≤ mostLoops) × Within 32767 (take n cs) ⌝ }
     ensures { λ r. ⌜ RowIs n r (under a (onHead negℤ) (take n cs)) ⌝ }
 {
     let mut r = cs;
@@ -82,8 +84,8 @@ pub fn turned(cs: [i32; 6], n: usize, a: usize) -> [i32; 6]
 }
 
 // The coefficients at a and a + 1 trade places.
-pub fn swapped(cs: [i32; 6], n: usize, a: usize) -> [i32; 6]
-    requires { ⌜ (a + 1 < n) × (n ≤ 6) ⌝ }
+pub fn swapped(cs: [i32; LOOPS], n: usize, a: usize) -> [i32; LOOPS]
+    requires { ⌜ (a + 1 < n) × (n ≤ mostLoops) ⌝ }
     ensures { λ r. ⌜ RowIs n r (under a swapped (take n cs)) ⌝ }
 {
     let mut r = cs;
@@ -96,8 +98,8 @@ pub fn swapped(cs: [i32; 6], n: usize, a: usize) -> [i32; 6]
 }
 
 // The loop d + 1 places inside loop a is skewed: what its coefficient takes from that of a.
-pub fn skewed(cs: [i32; 6], n: usize, a: usize, d: usize, positive: bool) -> [i32; 6]
-    requires { ⌜ (a + 1 + d < n) × (n ≤ 6) × Within 32767 (take n cs) ⌝ }
+pub fn skewed(cs: [i32; LOOPS], n: usize, a: usize, d: usize, positive: bool) -> [i32; LOOPS]
+    requires { ⌜ (a + 1 + d < n) × (n ≤ mostLoops) × Within 32767 (take n cs) ⌝ }
     ensures { λ r. ⌜ RowIs n r (under a (skewCoefficients d positive) (take n cs)) ⌝ }
 {
     let mut r = cs;
@@ -110,8 +112,8 @@ pub fn skewed(cs: [i32; 6], n: usize, a: usize, d: usize, positive: bool) -> [i3
 }
 
 // Coefficient a becomes w times itself, and itself.
-pub fn split(cs: [i32; 6], n: usize, a: usize, w: u32) -> [i32; 6]
-    requires { ⌜ (a < n) × (n < 6) × (w ≤ 32767) × Within 32767 (take n cs) ⌝ }
+pub fn split(cs: [i32; LOOPS], n: usize, a: usize, w: u32) -> [i32; LOOPS]
+    requires { ⌜ (a < n) × (n < mostLoops) × (w ≤ 32767) × Within 32767 (take n cs) ⌝ }
     ensures { λ r. ⌜ RowIs (n + 1) r (under a (splitCoefficients w) (take n cs)) ⌝ }
 {
     let mut r = cs;
@@ -131,7 +133,7 @@ pub fn split(cs: [i32; 6], n: usize, a: usize, w: u32) -> [i32; 6]
 // ---- limits
 
 fn negated(l: Limit, n: usize) -> Limit
-    requires { ⌜ (n ≤ 6) × SmallLimit (limitOf n l) ⌝ }
+    requires { ⌜ (n ≤ mostLoops) × SmallLimit (limitOf n l) ⌝ }
     ensures { λ r. ⌜ LimitIs n r (negated (limitOf n l)) ⌝ }
 {
     let c = l.constant;
@@ -147,7 +149,7 @@ fn negated(l: Limit, n: usize) -> Limit
 
 // The skewed loop's own limits.
 fn leaning(l: Limit, n: usize, a: usize, positive: bool) -> Limit
-    requires { ⌜ (a < n) × (n ≤ 6) × SmallLimit (limitOf n l) ⌝ }
+    requires { ⌜ (a < n) × (n ≤ mostLoops) × SmallLimit (limitOf n l) ⌝ }
     ensures { λ r. ⌜ LimitIs n r (skewLimit a positive (limitOf n l)) ⌝ }
 {
     let p = l.multiplier as i32;
@@ -190,7 +192,7 @@ fn section_upper(l: Limit, n: usize, w: u32) -> Limit
 
 // w S moved across
 fn element(l: Limit, n: usize, w: u32) -> Limit
-    requires { ⌜ (n < 6) × (w ≤ 256) × SmallLimit (limitOf n l) ⌝ }
+    requires { ⌜ (n < mostLoops) × (w ≤ 256) × SmallLimit (limitOf n l) ⌝ }
     ensures { λ r. ⌜ LimitIs (n + 1) r (elementLimit w (limitOf n l)) ⌝ }
 {
     let mut cs = l.coefficients;
@@ -202,7 +204,7 @@ fn element(l: Limit, n: usize, w: u32) -> Limit
     }
 }
 
-fn with_row(l: Limit, cs: [i32; 6]) -> Limit
+fn with_row(l: Limit, cs: [i32; LOOPS]) -> Limit
     ensures { λ r. ⌜ r ≡ record { multiplier = l .multiplier; constant = l .constant; coefficients = cs } ⌝ }
 {
     Limit {

@@ -15,6 +15,7 @@ use lib.Seq.{getD-set-same, getD-set-other}
 use Rattle.lists.specs.Tests.{all}
 use Rattle.model.specs.Ticket as Model
 use Rattle.model.specs.Judge.{smallLimit, smallLoop}
+use Rattle.model.specs.Grammar.{mostSides, nestRoom}
 use Rattle.bounds.specs.Flat.{limitsAt, loopAt, Positive}
 use Rattle.limits.specs.Change.{changeOf}
 use Rattle.limits.specs.Words.{LoopOk}
@@ -39,7 +40,7 @@ pub same-loop : {a b c d : List Model.Limit} → a ≡ b → c ≡ d → _≡_ {
 same-loop e f i = record { lower = e i; upper = f i }
 
 -- a loop whose words and counts stand as they did
-module _ (s t : List ℤ) (c d : List ℕ) (k : ℕ) (words : length s ≡ 1536) (room : length t ≡ length s) (deep : k < 6) (ok : LoopOk s c k)
+module _ (s t : List ℤ) (c d : List ℕ) (k : ℕ) (words : length s ≡ nestRoom) (room : length t ≡ length s) (deep : k < 6) (ok : LoopOk s c k)
     (f : (p : ℕ) → k * 256 ≤ p → p < k * 256 + 256 → getD t p (pos 0) ≡ getD s p (pos 0)) (g : (p : ℕ) → k * 2 ≤ p → p < k * 2 + 2 → getD d p 0 ≡ getD c p 0) where
   low-count : getD d (k * 2) 0 ≡ getD c (k * 2) 0
   low-count = g (k * 2) (omega arith) (omega arith)
@@ -71,7 +72,8 @@ module _ (s t : List ℤ) (c d : List ℕ) (k : ℕ) (words : length s ≡ 1536)
 
 -- ---- two sides make a loop
 
-module _ (s : List ℤ) (c : List ℕ) (to low up : ℕ) (ls us : List Model.Limit) (words : length s ≡ 1536) (counts : length c ≡ 12) (deep : to < 6)
+module _ (s : List ℤ) (c : List ℕ) (to low up : ℕ) (ls us : List Model.Limit)
+    (words : length s ≡ nestRoom) (counts : length c ≡ mostSides) (deep : to < 6)
     (some-low : (1 ≤ low) × (low ≤ 16)) (some-up : (1 ≤ up) × (up ≤ 16)) where
   abbrev counted : List ℕ
   counted = set (set c (to * 2) low) (to * 2 + 1) up

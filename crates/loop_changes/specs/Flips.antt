@@ -6,6 +6,7 @@ use lib.IntN.{ℤ, pos}
 use lib.ListN.{length, getD}
 use Rattle.integers.specs.Affine.{Within}
 use Rattle.model.specs.Ticket.{Loop}
+use Rattle.model.specs.Grammar.{mostLoops, mostSides, nestRoom}
 use Rattle.bounds.specs.Flat.{loopAt}
 use Rattle.limits.specs.Words.{LoopOk}
 use Rattle.loop_changes.specs.Sides.{Beside}
@@ -29,9 +30,9 @@ pub record Traded (s : List ℤ) (a b many : ℕ) (t : List ℤ) : Type 0 where
 -- ---- a loop
 
 pub record FlipIn (s : List ℤ) (c : List ℕ) (k : ℕ) : Type 0 where
-  pub words : length s ≡ 1536
-  pub counts : length c ≡ 12
-  pub deep : k < 6
+  pub words : length s ≡ nestRoom
+  pub counts : length c ≡ mostSides
+  pub deep : k < mostLoops
   pub small : Within 32767 s
   pub there : LoopOk s c k
 

@@ -10,6 +10,7 @@ use Rattle.integers.specs.Affine.{Within}
 use Rattle.model.specs.Ticket.{Loop}
 use Rattle.model.specs.Limits.{onLimits}
 use Rattle.model.specs.Judge.{smallLoop}
+use Rattle.model.specs.Grammar.{mostLoops, mostSides, nestRoom}
 use Rattle.bounds.specs.Flat.{loopAt, loopsFrom, Positive}
 use Rattle.limits.specs.Change.{changeOf, outerAfter, Allowed}
 use Rattle.loop_changes.specs.Sides.{Beside}
@@ -37,9 +38,9 @@ unfoldable pub onSides : Change → Change → Loop → Loop
 onSides lo hi L = record { lower = map (changeOf lo) (L .lower); upper = map (changeOf hi) (L .upper) }
 
 pub record LoopIn (lo hi : Change) (s : List ℤ) (c : List ℕ) (k to : ℕ) : Type 0 where
-  pub words : length s ≡ 1536
-  pub counts : length c ≡ 12
-  pub further : (k ≤ to) × (to < 6)
+  pub words : length s ≡ nestRoom
+  pub counts : length c ≡ mostSides
+  pub further : (k ≤ to) × (to < mostLoops)
   pub allowed : Allowed lo k × Allowed hi k
   pub outer : (outerAfter lo k ≡ to) × (outerAfter hi k ≡ to)
   pub small : Within 32767 s
@@ -48,9 +49,9 @@ pub record LoopIn (lo hi : Change) (s : List ℤ) (c : List ℕ) (k to : ℕ) : 
 -- ---- many loops from loop `start` on, put `by` places further in
 
 pub record LoopsIn (change : Change) (s : List ℤ) (c : List ℕ) (start many by : ℕ) : Type 0 where
-  pub words : length s ≡ 1536
-  pub counts : length c ≡ 12
-  pub room : start + many + by ≤ 6
+  pub words : length s ≡ nestRoom
+  pub counts : length c ≡ mostSides
+  pub room : start + many + by ≤ mostLoops
   pub allowed : (j : ℕ) → j < many → Allowed change (start + j)
   pub outer : (j : ℕ) → j < many → outerAfter change (start + j) ≡ start + j + by
   pub small : Within 32767 s

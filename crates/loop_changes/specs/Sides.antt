@@ -10,6 +10,7 @@ use Rattle.lists.specs.Tests.{all}
 use Rattle.integers.specs.Affine.{Within}
 use Rattle.model.specs.Ticket.{Limit}
 use Rattle.model.specs.Judge.{smallLimit}
+use Rattle.model.specs.Grammar.{mostLoops}
 use Rattle.bounds.specs.Flat.{limitsAt, Positive}
 use Rattle.limits.specs.Change.{changeOf, outerAfter, Allowed}
 use Rattle.limits.specs.declared.Change.{Change}
@@ -24,7 +25,7 @@ pub record Beside {A : Type 0} (d : A) (s t : List A) (a b : ℕ) : Type 0 where
 pub record SideIn (change : Change) (s : List ℤ) (from n to m count : ℕ) : Type 0 where
   pub allowed : Allowed change n
   pub outer : outerAfter change n ≡ m
-  pub shallow : (n ≤ 6) × (m ≤ 6)
+  pub shallow : (n ≤ mostLoops) × (m ≤ mostLoops)
   pub reads : (from + count) * 8 ≤ length s
   pub writes : (to + count) * 8 ≤ length s
   -- no limit is written before it is read

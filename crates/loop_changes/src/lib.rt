@@ -1,6 +1,7 @@
 // Sides and loops on the flat slices of a nest, changed limit by limit, in place or further in. It ends at the first limit that has a number
 // beyond ±32767; what the slices hold then does not matter.
 ghost use Prim.Native.Nat.{_≤_};
+ghost use Rattle.model.specs.Grammar.{mostLimits};
 ghost use Rattle.bounds.specs.Flat.{loopAt};
 ghost use Rattle.loop_changes.specs.Sides.{SideIn, SideMade, changedSide};
 ghost use Rattle.loop_changes.specs.Loops.{LoopIn, LoopMade, onSides, LoopsIn, LoopsMade};
@@ -102,8 +103,8 @@ fn trade_words(words: &mut [i16], a: usize, b: usize, many: usize)
 }
 
 fn larger(a: usize, b: usize) -> usize
-    requires { ⌜ (a ≤ 16) × (b ≤ 16) ⌝ }
-    ensures { λ r. ⌜ (a ≤ r) × (b ≤ r) × (r ≤ 16) ⌝ }
+    requires { ⌜ (a ≤ mostLimits) × (b ≤ mostLimits) ⌝ }
+    ensures { λ r. ⌜ (a ≤ r) × (b ≤ r) × (r ≤ mostLimits) ⌝ }
 {
     if a < b { b } else { a }
 }

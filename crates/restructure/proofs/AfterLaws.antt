@@ -15,7 +15,7 @@ use Rattle.lists.proofs.PlaceLaws.{under-append}
 use Rattle.lists.proofs.TestLaws.{T-true, and-intro, all-join}
 use Rattle.integers.specs.Affine.{Within}
 use Rattle.model.specs.Ticket.{Limit, Loop, Step}
-use Rattle.model.specs.Grammar.{depthAfter}
+use Rattle.model.specs.Grammar.{depthAfter, mostSides, nestRoom}
 use Rattle.model.specs.Limits.{onLimits, loopsAfter}
 use Rattle.model.specs.Judge.{fewLimits, smallLimit, smallLoop}
 use Rattle.bounds.specs.Flat.{limitAt, limitsAt, loopAt, loopsFrom, NestOk}
@@ -123,7 +123,7 @@ module _ (ch : Change) (s : List ℤ) (c : List ℕ) (depth : ℕ) (ok : NestOk 
   small-made = of-front smallLoop (λ k g. loop-small s c k (ok .small))
 
   module _ (t : Step) (is : loopsAfter t (loopsFrom s c 0 depth) ≡ made) (deep : depthAfter t depth ≡ a + (length those + many)) (shallow : depthAfter t depth ≤ 6) where
-    pub settled : (full small : Bool) (s′ : List ℤ) (c′ : List ℕ) → length s′ ≡ 1536 → length c′ ≡ 12
+    pub settled : (full small : Bool) (s′ : List ℤ) (c′ : List ℕ) → length s′ ≡ nestRoom → length c′ ≡ mostSides
         → full ≡ not (all few those) → (full ≡ false → small ≡ all smallLoop those && all smallLoop inside) → (full ≡ false → small ≡ true → HeldAll s′ c′ 0 made × Within 32767 s′)
         → After t s c depth (record { full = full; small = small }) s′ c′
     settled full small s′ c′ w n f g h =

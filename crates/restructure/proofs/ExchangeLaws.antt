@@ -10,7 +10,7 @@ use Rattle.lists.specs.Place.{under, swapped}
 use Rattle.lists.specs.Tests.{all}
 use Rattle.integers.specs.Affine.{Within}
 use Rattle.model.specs.Ticket.{Loop, exchange}
-use Rattle.model.specs.Grammar.{depthAfter}
+use Rattle.model.specs.Grammar.{depthAfter, mostSides, nestRoom}
 use Rattle.model.specs.Limits.{onLimits, loopsAfter, deeper, exchangeAt, newOuter, newInner, tidy}
 use Rattle.model.specs.Judge.{smallLoop}
 use Rattle.bounds.specs.Flat.{loopAt, loopsFrom, NestOk}
@@ -72,7 +72,7 @@ module _ (s : List ℤ) (c : List ℕ) (depth a many : ℕ) (p : ExchangeIn s c 
   unfolding depthAfter
   same = refl
 
-  exchanged-settled : (full small : Bool) (s′ : List ℤ) (c′ : List ℕ) → length s′ ≡ 1536 → length c′ ≡ 12
+  exchanged-settled : (full small : Bool) (s′ : List ℤ) (c′ : List ℕ) → length s′ ≡ nestRoom → length c′ ≡ mostSides
       → full ≡ not (fewIn X && fewIn Y) → (full ≡ false → small ≡ (smallLoop X && smallLoop Y) && all smallLoop inside)
       → (full ≡ false → small ≡ true → HeldAll s′ c′ 0 (loopsFrom s c 0 a ++ ((X ∷ Y ∷ []) ++ inside)) × Within 32767 s′)
       → After (exchange a) s c depth (record { full = full; small = small }) s′ c′

@@ -8,6 +8,7 @@ use lib.IntN.{ℤ, pos}
 use lib.ListN.{length, getD}
 use Rattle.integers.specs.Affine.{Within}
 use Rattle.model.specs.Ticket.{Loop}
+use Rattle.model.specs.Grammar.{mostSides, nestRoom}
 use Rattle.bounds.specs.Flat.{loopAt, loopsFrom, NestOk}
 use Rattle.limits.specs.Words.{LoopOk}
 use Rattle.loop_changes.proofs.LoopLaws.{loop-same, ok-same}
@@ -25,7 +26,7 @@ pub held-there : (s : List ℤ) (c : List ℕ) (k : ℕ) → LoopOk s c k → He
 held-there s c k o = record { made = refl; ok = o }
 
 -- its words and counts stand as they did
-pub held-kept : (s t : List ℤ) (c d : List ℕ) (k : ℕ) (L : Loop) → length s ≡ 1536 → length t ≡ length s → k < 6
+pub held-kept : (s t : List ℤ) (c d : List ℕ) (k : ℕ) (L : Loop) → length s ≡ nestRoom → length t ≡ length s → k < 6
     → ((p : ℕ) → k * 256 ≤ p → p < k * 256 + 256 → getD t p (pos 0) ≡ getD s p (pos 0)) → ((p : ℕ) → k * 2 ≤ p → p < k * 2 + 2 → getD d p 0 ≡ getD c p 0) → Held s c k L → Held t d k L
 held-kept s t c d k L e n h f g o = record { made = loop-same s t c d k e n h (o .ok) f g ∙ o .made; ok = ok-same s t c d k e n h (o .ok) f g }
 
@@ -74,7 +75,7 @@ module _ (s : List ℤ) (c : List ℕ) (depth : ℕ) (N : List Loop) (deep : len
   loop-ok : (k : ℕ) → k < depth → LoopOk s c k
   loop-ok k g = let e : 0 + k ≡ k = omega arith in subst (LoopOk s c) e (held-ok s c 0 N h k (omega arith))
 
-  pub nest-ok : length s ≡ 1536 → length c ≡ 12 → depth ≤ 6 → Within 32767 s → NestOk s c depth
+  pub nest-ok : length s ≡ nestRoom → length c ≡ mostSides → depth ≤ 6 → Within 32767 s → NestOk s c depth
   nest-ok e f few w = record {
     words = e;
     counts = f;

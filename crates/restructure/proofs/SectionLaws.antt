@@ -12,7 +12,7 @@ use Rattle.lists.specs.Tests.{all}
 use Rattle.lists.proofs.TestLaws.{T-true, not-T-false}
 use Rattle.integers.specs.Affine.{Within}
 use Rattle.model.specs.Ticket.{Loop, section}
-use Rattle.model.specs.Grammar.{depthAfter}
+use Rattle.model.specs.Grammar.{depthAfter, mostSides, nestRoom}
 use Rattle.model.specs.Limits.{onLimits, loopsAfter, deeper, sectionAt, elementLimit}
 use Rattle.model.specs.Judge.{smallLoop}
 use Rattle.bounds.specs.Flat.{loopAt, loopsFrom}
@@ -87,7 +87,7 @@ module _ (s : List ℤ) (c : List ℕ) (depth a w many : ℕ) (p : SectionIn s c
   unfolding depthAfter
   counted = omega arith
 
-  sectioned-settled : (full small : Bool) (s′ : List ℤ) (c′ : List ℕ) → length s′ ≡ 1536 → length c′ ≡ 12
+  sectioned-settled : (full small : Bool) (s′ : List ℤ) (c′ : List ℕ) → length s′ ≡ nestRoom → length c′ ≡ mostSides
       → full ≡ not (few E) → (full ≡ false → small ≡ all smallLoop (S ∷ E ∷ []) && all smallLoop inside)
       → (full ≡ false → small ≡ true → HeldAll s′ c′ 0 (loopsFrom s c 0 a ++ ((S ∷ E ∷ []) ++ inside)) × Within 32767 s′)
       → After (section a w) s c depth (record { full = full; small = small }) s′ c′
@@ -121,7 +121,7 @@ module _ (s : List ℤ) (c : List ℕ) (depth a w many : ℕ) (p : SectionIn s c
     not-full : false ≡ not (few E)
     not-full = sym (ap not (E-few low up))
 
-    large : (s′ : List ℤ) (c′ : List ℕ) → length s′ ≡ 1536 → length c′ ≡ 12 → all smallLoop (S ∷ E ∷ []) && all smallLoop inside ≡ false → After (section a w) s c depth (record { full = false; small = false }) s′ c′
+    large : (s′ : List ℤ) (c′ : List ℕ) → length s′ ≡ nestRoom → length c′ ≡ mostSides → all smallLoop (S ∷ E ∷ []) && all smallLoop inside ≡ false → After (section a w) s c depth (record { full = false; small = false }) s′ c′
     large s′ c′ x n e = sectioned-settled false false s′ c′ x n not-full (λ _. sym e) (λ _ q. absurd (let z : _≡_ {A = ℕ} 0 1 = cc in omega arith))
 
     pub inside-large : r₁ ≡ false → After (section a w) s c depth (record { full = false; small = false }) t₁ d₁

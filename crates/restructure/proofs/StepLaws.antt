@@ -11,7 +11,7 @@ use Rattle.lists.specs.Tests.{all}
 use Rattle.lists.proofs.TestLaws.{T-true}
 use Rattle.integers.specs.Affine.{Within}
 use Rattle.model.specs.Ticket.{Loop, Step}
-use Rattle.model.specs.Grammar.{depthAfter}
+use Rattle.model.specs.Grammar.{depthAfter, mostSides, nestRoom}
 use Rattle.model.specs.Limits.{onLimits, loopsAfter}
 use Rattle.model.specs.Judge.{smallLoop}
 use Rattle.bounds.specs.Flat.{loopAt, loopsFrom, NestOk}
@@ -77,7 +77,7 @@ module _ (s : List ℤ) (c : List ℕ) (depth : ℕ) (ok : NestOk s c depth) whe
     unfolding all
     one-small = and-true (smallLoop X)
 
-    one-settled : (small : Bool) (s′ : List ℤ) (c′ : List ℕ) → length s′ ≡ 1536 → length c′ ≡ 12 → small ≡ smallLoop X && r₁
+    one-settled : (small : Bool) (s′ : List ℤ) (c′ : List ℕ) → length s′ ≡ nestRoom → length c′ ≡ mostSides → small ≡ smallLoop X && r₁
         → (small ≡ true → HeldAll s′ c′ 0 (loopsFrom s c 0 a ++ ((X ∷ []) ++ map (onLimits (changeOf ch)) (loopsFrom s c (a + 1) many))) × Within 32767 s′)
         → After t s c depth (record { full = false; small = small }) s′ c′
     one-settled small s′ c′ w n g h = let few = ok .shallow in

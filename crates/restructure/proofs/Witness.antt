@@ -9,36 +9,37 @@ use lib.ListN.{length, getD, replicate, length-replicate, getD-replicate}
 use Rattle.integers.proofs.AffineLaws.{within-all}
 use Rattle.integers.proofs.RingLaws.{zarith}
 use Rattle.integers.specs.Difference.{size}
+use Rattle.model.specs.Grammar.{mostSides, nestLimits, nestRoom}
 use Rattle.bounds.specs.Flat.{NestOk}
 use Rattle.restructure.specs.After.{ReversalIn, SkewIn, SectionIn, ExchangeIn}
 
--- shut, so that nothing computes 1536 words
+-- shut, so that nothing computes nestRoom words
 pub words : List ℤ
-words = replicate 1536 (pos 1)
+words = replicate nestRoom (pos 1)
 
 pub counts : List ℕ
 counts = replicate 12 1
 
-word-is : (i : ℕ) → i < 1536 → getD words i (pos 0) ≡ pos 1
+word-is : (i : ℕ) → i < nestRoom → getD words i (pos 0) ≡ pos 1
 unfolding words
-word-is i h = getD-replicate 1536 i (pos 1) (pos 0) h
+word-is i h = getD-replicate nestRoom i (pos 1) (pos 0) h
 
 count-is : (i : ℕ) → i < 12 → getD counts i 0 ≡ 1
 unfolding counts
 count-is i h = getD-replicate 12 i 1 0 h
 
-words-length : length words ≡ 1536
+words-length : length words ≡ nestRoom
 unfolding words
-words-length = length-replicate 1536 (pos 1)
+words-length = length-replicate nestRoom (pos 1)
 
-counts-length : length counts ≡ 12
+counts-length : length counts ≡ mostSides
 unfolding counts
 counts-length = length-replicate {A = ℕ} 12 1
 
 near : (i : ℕ) → i < length words → size (getD words i (pos 0)) ≤ 32767
 near i h = let n = words-length in subst (λ (z : ℤ). size z ≤ 32767) (sym (word-is i (omega arith))) (omega arith)
 
-positive : (j n : ℕ) → j + n ≤ 192 → (i : ℕ) → i < n → pos 0 <ℤ getD words ((j + i) * 8) (pos 0)
+positive : (j n : ℕ) → j + n ≤ nestLimits → (i : ℕ) → i < n → pos 0 <ℤ getD words ((j + i) * 8) (pos 0)
 positive j n f i h = subst (λ (z : ℤ). pos 0 <ℤ z) (sym (word-is ((j + i) * 8) (omega arith))) (omega zarith)
 
 nest-ok : NestOk words counts 2

@@ -7,7 +7,7 @@ use lib.IntN.{ℤ}
 use lib.ListN.{length}
 use Rattle.lists.specs.Tests.{all}
 use Rattle.model.specs.Ticket.{Step}
-use Rattle.model.specs.Grammar.{depthAfter}
+use Rattle.model.specs.Grammar.{depthAfter, mostLoops, mostSides, nestRoom}
 use Rattle.model.specs.Limits.{loopsAfter}
 use Rattle.model.specs.Judge.{fewLimits, smallLoop}
 use Rattle.bounds.specs.Flat.{loopsFrom, NestOk}
@@ -24,7 +24,7 @@ pub record SkewIn (s : List ℤ) (c : List ℕ) (depth a d : ℕ) : Type 0 where
 pub record SectionIn (s : List ℤ) (c : List ℕ) (depth a w : ℕ) : Type 0 where
   pub nest : NestOk s c depth
   pub place : a < depth
-  pub room : depth < 6
+  pub room : depth < mostLoops
   pub positive : 1 ≤ w
   pub narrow : w ≤ 256
 
@@ -34,8 +34,8 @@ pub record ExchangeIn (s : List ℤ) (c : List ℕ) (depth a : ℕ) : Type 0 whe
 
 -- full where a side has more than 16 limits; else small where every number is within ±32767; then the slices hold the model's loops
 pub record After (t : Step) (s : List ℤ) (c : List ℕ) (depth : ℕ) (r : Stepped) (s′ : List ℤ) (c′ : List ℕ) : Type 0 where
-  pub words : length s′ ≡ 1536
-  pub counts : length c′ ≡ 12
+  pub words : length s′ ≡ nestRoom
+  pub counts : length c′ ≡ mostSides
   pub full : r .full ≡ not (fewLimits (loopsAfter t (loopsFrom s c 0 depth)))
   pub small : r .full ≡ false → r .small ≡ all smallLoop (loopsAfter t (loopsFrom s c 0 depth))
   pub whole : r .full ≡ false → r .small ≡ true → loopsFrom s′ c′ 0 (depthAfter t depth) ≡ loopsAfter t (loopsFrom s c 0 depth)

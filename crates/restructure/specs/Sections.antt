@@ -8,6 +8,7 @@ use Rattle.limits.specs.Words.{LoopOk}
 use Rattle.integers.specs.Affine.{Within}
 use Rattle.model.specs.Ticket.{Limit, Loop}
 use Rattle.model.specs.Limits.{elementLimit, constantLimit}
+use Rattle.model.specs.Grammar.{mostLoops, mostLimits, mostSides, nestRoom}
 use Rattle.bounds.specs.Flat.{Positive}
 
 -- a side of E: the constant v, then each old limit with w × S moved across
@@ -19,7 +20,7 @@ elementLoop n w L = record { lower = elementSide n w 0 (L .lower); upper = eleme
 
 -- count limits from limit `from` on, with n loops outside, give a side of E from limit `to` on
 pub record ElementSideIn (s : List ℤ) (from n to count w v : ℕ) : Type 0 where
-  pub shallow : n < 6
+  pub shallow : n < mostLoops
   pub apart : from + count ≤ to
   pub room : (to + 1 + count) * 8 ≤ length s
   pub narrow : (w ≤ 256) × (v ≤ 256)
@@ -28,11 +29,11 @@ pub record ElementSideIn (s : List ℤ) (from n to count w v : ℕ) : Type 0 whe
 
 -- loop a gives E, loop a + 1
 pub record ElementLoopIn (s : List ℤ) (c : List ℕ) (a w : ℕ) : Type 0 where
-  pub words : length s ≡ 1536
-  pub counts : length c ≡ 12
-  pub deep : a + 1 < 6
+  pub words : length s ≡ nestRoom
+  pub counts : length c ≡ mostSides
+  pub deep : a + 1 < mostLoops
   pub positive : 1 ≤ w
   pub narrow : w ≤ 256
   pub small : Within 32767 s
   pub there : LoopOk s c a
-  pub few : (getD c (a * 2) 0 < 16) × (getD c (a * 2 + 1) 0 < 16)
+  pub few : (getD c (a * 2) 0 < mostLimits) × (getD c (a * 2 + 1) 0 < mostLimits)

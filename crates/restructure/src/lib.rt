@@ -3,6 +3,7 @@ ghost use mathlib.Core.Path.{_≡_};
 ghost use Prim.Native.Nat.{ℕ, _+_, _<_, _≤_};
 ghost use Rattle.model.specs.Ticket.{reversal, skew, section, exchange};
 ghost use Rattle.model.specs.Limits.{constantLimit};
+ghost use Rattle.model.specs.Grammar.{mostLoops};
 ghost use Rattle.nest.specs.Nested.{limitOf, LimitIn};
 ghost use Rattle.bounds.specs.Flat.{limitsAt, loopAt};
 ghost use Rattle.loop_changes.specs.Sides.{SideMade};
@@ -12,6 +13,8 @@ ghost use Rattle.restructure.specs.Sections.{elementSide, elementLoop, E
 use limits::Change;
 use limits::Cut;
 use limits::Slant;
+use model::LIMITS;
+use model::LOOPS;
 use nest::Limit;
 
 // `full` where a side of a loop has more than 16 limits; else `small` where every number is within ±32767.
@@ -109,12 +112,12 @@ pub fn exchanged(limits: &mut [i16], counts: &mut [usize], depth: usize, a: usiz
 // v, with a coefficient 0 for each loop outside.
 fn constant_limit(v: u32) -> Limit
     requires { ⌜ v ≤ 256 ⌝ }
-    ensures { λ r. ⌜ ((a : ℕ) → a < 6 → limitOf (a + 1) r ≡ constantLimit a v) × LimitIn r ⌝ }
+    ensures { λ r. ⌜ ((a : ℕ) → a < mostLoops → limitOf (a + 1) r ≡ constantLimit a v) × LimitIn r ⌝ }
 {
     Limit {
         multiplier: 1,
         constant: v as i32,
-        coefficients: [0i32; 6],
+        coefficients: [0i32; LOOPS],
     }
 }
 
@@ -170,13 +173,13 @@ pub fn sectioned(
 {
     let lower = counts[a * 2];
     let upper = counts[a * 2 + 1];
-    if 16 <= lower {
+    if LIMITS <= lower {
         return Stepped {
             full: true,
             small: false,
         };
     }
-    if 16 <= upper {
+    if LIMITS <= upper {
         return Stepped {
             full: true,
             small: false,

@@ -1,5 +1,5 @@
--- A side that is filled limit by limit: repeats are dropped, and where a seventeenth limit comes the side is full. It is under way in 128 wide numbers,
--- 16 limits of 8 each, as `bounds` (specs/Flat) has them among words. n is the number of loops outside.
+-- A side that is filled limit by limit: repeats are dropped, and where one limit more than mostLimits comes the side is full. It is under way in
+-- wide numbers, rowRoom for each limit, as `bounds` (specs/Flat) has them among words. n is the number of loops outside.
 use mathlib.Core.Path.{_≡_}
 use mathlib.Core.Bool.{Bool, true}
 use mathlib.Core.List.{List, _++_}
@@ -11,6 +11,7 @@ use Rattle.lists.specs.Tests.{all, unique}
 use Rattle.model.specs.Ticket as Model
 use Rattle.model.specs.Judge.{smallLimit}
 use Rattle.model.specs.Limits.{sameLimit}
+use Rattle.model.specs.Grammar.{mostLoops, mostLimits, rowRoom}
 use Rattle.nest.specs.Nested.{LimitIn}
 use Rattle.nest.specs.declared.Limit.{Limit}
 use Rattle.bounds.specs.Flat.{limitsAt}
@@ -18,16 +19,16 @@ use Rattle.nest.specs.Laid.{layLimits}
 
 -- the first `count` limits of f are what the limits ls leave, or count says that there are more than 16
 pub record Holds (n : ℕ) (f : List ℤ) (count : ℕ) (ls : List Model.Limit) : Type 0 where
-  pub few : leb count 16 ≡ leb (length (unique sameLimit ls)) 16
-  pub limits : count ≤ 16 → limitsAt f n 0 count ≡ unique sameLimit ls
+  pub few : leb count mostLimits ≡ leb (length (unique sameLimit ls)) mostLimits
+  pub limits : count ≤ mostLimits → limitsAt f n 0 count ≡ unique sameLimit ls
 
 -- a multiplier at place i is not negative
 abbrev pub Natural : List ℤ → ℕ → Type 0
 Natural f i = getD f (i * 8) (pos 0) ≡ pos (natAbs (getD f (i * 8) (pos 0)))
 
 pub record Filled (f : List ℤ) (count : ℕ) : Type 0 where
-  pub room : length f ≡ 128
-  pub natural : (i : ℕ) → i < 16 → i < count → Natural f i
+  pub room : length f ≡ mostLimits * rowRoom
+  pub natural : (i : ℕ) → i < mostLimits → i < count → Natural f i
 
 -- g with count d is f with count c and the limits ls added
 pub record Adds (n : ℕ) (f : List ℤ) (c : ℕ) (ls : List Model.Limit) (g : List ℤ) (d : ℕ) : Type 0 where
@@ -38,14 +39,14 @@ pub record Adds (n : ℕ) (f : List ℤ) (c : ℕ) (ls : List Model.Limit) (g : 
 
 -- a multiplier is a product of two that are within 32767
 pub record WideIn (n : ℕ) (x : Limit) : Type 0 where
-  pub place : n ≤ 6
+  pub place : n ≤ mostLoops
   pub limit : LimitIn x
   pub multiplier : x .multiplier ≤ 1073676289
 
 pub record SameIn (n : ℕ) (f : List ℤ) (k : ℕ) (x : Limit) : Type 0 where
   pub wide : WideIn n x
-  pub room : length f ≡ 128
-  pub inside : k < 16
+  pub room : length f ≡ mostLimits * rowRoom
+  pub inside : k < mostLimits
   pub natural : Natural f k
 
 pub record PushIn (n : ℕ) (f : List ℤ) (count : ℕ) (x : Limit) : Type 0 where
@@ -55,9 +56,9 @@ pub record PushIn (n : ℕ) (f : List ℤ) (count : ℕ) (x : Limit) : Type 0 wh
 -- a side that is not full, and room for it among as many words
 pub record PutIn (room j : ℕ) (f : List ℤ) (count n : ℕ) : Type 0 where
   pub filled : Filled f count
-  pub few : count ≤ 16
+  pub few : count ≤ mostLimits
   pub fits : (j + count) * 8 ≤ room
-  pub shallow : n ≤ 6
+  pub shallow : n ≤ mostLoops
 
 -- ---- the limits ls were to be put over s from limit j on: r says whether all their numbers are small, and t is what is left
 

@@ -10,9 +10,12 @@ ghost use Rattle.lists.specs.Tests.{all, any, sameBy};
 ghost use Rattle.model.specs.Encode.{limitWords};
 ghost use Rattle.model.specs.Judge.{small};
 ghost use Rattle.model.specs.Limits.{sameLimit};
+ghost use Rattle.model.specs.Grammar.{mostLoops, mostLimits, rowRoom};
 ghost use Rattle.nest.specs.Nested.{limitOf};
 ghost use Rattle.bounds.specs.Flat.{limitAt, limitsAt};
 ghost use Rattle.sides.specs.Filling.{Adds, WideIn, SameIn, PushIn, PutIn, SidePut};
+use model::LIMITS;
+use model::LOOPS;
 use nest::Limit;
 
 // ---- equal limits
@@ -24,8 +27,8 @@ fn equal(x: i32, y: i32) -> bool
 }
 
 // A row, and the numbers from place `at` on.
-fn same_row(xs: [i32; 6], numbers: &[i32], at: usize, n: usize) -> bool
-    requires { ⌜ (n ≤ 6) × (at + n ≤ length (now numbers)) ⌝ }
+fn same_row(xs: [i32; LOOPS], numbers: &[i32], at: usize, n: usize) -> bool
+    requires { ⌜ (n ≤ mostLoops) × (at + n ≤ length (now numbers)) ⌝ }
     ensures { λ r. ⌜ r ≡ sameBy eqZ (take n xs) (take n (drop at (now (numbers .entry)))) ⌝ }
 {
     let mut k = 0;
@@ -56,7 +59,7 @@ fn same_limit(x: Limit, filling: &[i32], k: usize, n: usize) -> bool
 }
 
 fn has(filling: &[i32], count: usize, x: Limit, n: usize) -> bool
-    requires { ⌜ PushIn n (now filling) count x × (count ≤ 16) ⌝ }
+    requires { ⌜ PushIn n (now filling) count x × (count ≤ mostLimits) ⌝ }
     ensures { λ r. ⌜ r ≡ any (sameLimit (limitOf n x)) (limitsAt (now (filling .entry)) n 0 count) ⌝ }
 {
     let mut k = 0;
@@ -84,7 +87,7 @@ fn put_row(numbers: &mut [i32], at: usize, row: &[i32])
 }
 
 fn put_limit(filling: &mut [i32], k: usize, x: Limit, n: usize)
-    requires { ⌜ WideIn n x × (length (now filling) ≡ 128) × (k < 16) ⌝ }
+    requires { ⌜ WideIn n x × (length (now filling) ≡ mostLimits * rowRoom) × (k < mostLimits) ⌝ }
     ensures { λ _. ⌜ now (filling .exit) ≡ put (now (filling .entry)) (k * 8) (limitWords (limitOf n x)) ⌝ }
 {
     let at = k * 8;
@@ -101,13 +104,13 @@ pub fn push(filling: &mut [i32], count: usize, x: Limit, n: usize) -> usize
     requires { ⌜ PushIn n (now filling) count x ⌝ }
     ensures { λ r. ⌜ Adds n (now (filling .entry)) count (limitOf n x ∷ []) (now (filling .exit)) r ⌝ }
 {
-    if 16 < count {
+    if LIMITS < count {
         return count;
     }
     if has(filling, count, x, n) {
         return count;
     }
-    if count == 16 {
+    if count == LIMITS {
         return 17;
     }
     put_limit(filling, count, x, n);

@@ -7,7 +7,7 @@ use lib.IntN.{ℤ}
 use lib.ListN.{length}
 use Rattle.lists.specs.Tests.{all}
 use Rattle.model.specs.Ticket as Model
-use Rattle.model.specs.Grammar.{depthAfter}
+use Rattle.model.specs.Grammar.{depthAfter, mostSides, nestRoom}
 use Rattle.model.specs.Ranges.{StepThere}
 use Rattle.model.specs.Limits.{loopsAfter}
 use Rattle.model.specs.Judge.{fewLimits, smallLoop, smallAccess}
@@ -29,8 +29,8 @@ pub record TakingIn (s : List ℤ) (c : List ℕ) (w : List ℤ) (o a : List ℕ
 
 -- 11 and 12, and the model's loops and accesses after the step where it is neither
 pub record Takes (t : Model.Step) (s : List ℤ) (c : List ℕ) (w : List ℤ) (o a : List ℕ) (depth : ℕ) (r : Stepped) (s′ : List ℤ) (c′ : List ℕ) (w′ : List ℤ) : Type 0 where
-  pub limits-room : length s′ ≡ 1536
-  pub counts-room : length c′ ≡ 12
+  pub limits-room : length s′ ≡ nestRoom
+  pub counts-room : length c′ ≡ mostSides
   pub words-room : length w′ ≡ length w
   pub full : r .full ≡ not (fewLimits (loopsAfter t (loopsFrom s c 0 depth)))
   pub small : r .full ≡ false → r .small ≡ all smallLoop (loopsAfter t (loopsFrom s c 0 depth)) && all smallAccess (accessesAfter t w o a depth (length o))

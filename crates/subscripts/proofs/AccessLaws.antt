@@ -11,7 +11,7 @@ use Rattle.integers.specs.Affine.{Within}
 use Rattle.lists.specs.Tests.{all}
 use Rattle.lists.proofs.TestLaws.{all-join}
 use Rattle.model.specs.Ticket as Model
-use Rattle.model.specs.Grammar.{depthAfter}
+use Rattle.model.specs.Grammar.{depthAfter, accessRoom}
 use Rattle.model.specs.Limits.{subscriptAfter, accessAfter}
 use Rattle.model.specs.Judge.{smallAccess}
 use Rattle.elements.specs.Layout.{formsFrom, accessAt, accessesFrom, AccessesOk}
@@ -31,7 +31,7 @@ same-access : {i : ℕ} {ss ts : List Model.Subscript} → ss ≡ ts → _≡_ {
 same-access {i} e j = record { array = i; subscripts = e j }
 
 module _ (o a : List ℕ) (n : ℕ) (shallow : n ≤ 6) (s t : List ℤ) (m : ℕ) (e : take m s ≡ take m t) where
-  accesses-front : (k count : ℕ) → ((i : ℕ) → i < count → widthAt o a (k + i) ≤ 3) → (k + count) * 24 ≤ m → accessesFrom s o a n k count ≡ accessesFrom t o a n k count
+  accesses-front : (k count : ℕ) → ((i : ℕ) → i < count → widthAt o a (k + i) ≤ 3) → (k + count) * accessRoom ≤ m → accessesFrom s o a n k count ≡ accessesFrom t o a n k count
   unfolding accessesFrom accessAt
   accesses-front k zero d h = refl
   accesses-front k (suc count) d h =
@@ -48,7 +48,7 @@ pub record Passed (t : Model.Step) (w : List ℤ) (o a : List ℕ) (n : ℕ) (v 
   pub small : Within 32767 v
   pub passed : all smallAccess (accessesAfter t w o a n k) ≡ true
   pub made : accessesFrom v o a (depthAfter t n) 0 k ≡ accessesAfter t w o a n k
-  pub behind : drop (k * 24) v ≡ drop (k * 24) w
+  pub behind : drop (k * accessRoom) v ≡ drop (k * accessRoom) w
 
 module _ (w : List ℤ) (o a : List ℕ) (n : ℕ) (t : Step) (p : AccessesIn w o a n t) where
   abbrev T′ : Model.Step
@@ -80,7 +80,8 @@ module _ (w : List ℤ) (o a : List ℕ) (n : ℕ) (t : Step) (p : AccessesIn w 
 
     -- its subscripts are still as they were
     later : formsFrom v n (k * 3) (widthAt o a k) ≡ formsFrom w n (k * 3) (widthAt o a k)
-    later = let q : k * 24 ≡ k * 3 * 8 = omega arith in forms-rest n v w (k * 3) (widthAt o a k) (subst (λ x. drop x v ≡ drop x w) q (i .behind))
+    later = let q : k * accessRoom ≡ k * 3 * 8 = omega arith in
+        forms-rest n v w (k * 3) (widthAt o a k) (subst (λ x. drop x v ≡ drop x w) q (i .behind))
 
     -- the test of an access is that of its subscripts
     one-test : (b : Bool) → all smallSubscript (subscriptsAfter T′ v n (k * 3) (widthAt o a k)) ≡ b → smallAccess (accessAfter T′ (accessAt w o a n k)) ≡ b
@@ -108,8 +109,8 @@ module _ (w : List ℤ) (o a : List ℕ) (n : ℕ) (t : Step) (p : AccessesIn w 
       one-passed = head-test 0 true (one-test true (c .passed))
 
       earlier : accessesFrom u o a (depthAfter T′ n) 0 k ≡ accessesFrom v o a (depthAfter T′ n) 0 k
-      earlier = let q : k * 3 * 8 ≡ k * 24 = omega arith in
-          accesses-front o a (depthAfter T′ n) (depth-few n t (p .step)) u v (k * 24) (subst (λ x. take x u ≡ take x v) q (c .before)) 0 k
+      earlier = let q : k * 3 * 8 ≡ k * accessRoom = omega arith in
+          accesses-front o a (depthAfter T′ n) (depth-few n t (p .step)) u v (k * accessRoom) (subst (λ x. take x u ≡ take x v) q (c .before)) 0 k
           (λ j g. width-few (0 + j) (omega arith)) (omega arith)
 
       passed-next : Passed T′ w o a n u (k + 1)
@@ -122,7 +123,7 @@ module _ (w : List ℤ) (o a : List ℕ) (n : ℕ) (t : Step) (p : AccessesIn w 
             small = c .small;
             passed = join-tests k 1 ∙ ap₂ _&&_ (i .passed) one-passed;
             made = accesses-append u o a m 0 k 1 ∙ ap (λ j. accessesFrom u o a m 0 k ++ accessesFrom u o a m j 1) (zero-add k) ∙ ap₂ _++_ (earlier ∙ i .made) one-made ∙ sym (join-after k 1);
-            behind = rest-more ((k * 3 + widthAt o a k) * 8) u v (c .behind) ((k + 1) * 24) (omega arith) ∙ rest-more (k * 24) v w (i .behind) ((k + 1) * 24) (omega arith);
+            behind = rest-more ((k * 3 + widthAt o a k) * 8) u v (c .behind) ((k + 1) * accessRoom) (omega arith) ∙ rest-more (k * accessRoom) v w (i .behind) ((k + 1) * accessRoom) (omega arith);
           }
 
     module _ (u : List ℤ) (r : Bool) (g : Changes T′ v n (k * 3) (widthAt o a k) u r) where

@@ -16,7 +16,7 @@ use Rattle.model.specs.Ticket as Model
 use Rattle.model.specs.Bounds.{accessesOf}
 use Rattle.model.specs.Entries.{allAccesses}
 use Rattle.model.specs.Store.{sum}
-use Rattle.model.specs.Grammar.{total, depthAfter}
+use Rattle.model.specs.Grammar.{total, depthAfter, mostWords}
 use Rattle.model.specs.Ranges.{StepThere}
 use Rattle.model.specs.Limits.{loopsAfter, accessAfter, statementAfter, nestAfter}
 use Rattle.model.specs.Judge.{smallLoop, smallAccess, smallNumbers}
@@ -112,7 +112,7 @@ module _ (P : Sheet) (h : SheetIn P) where
 
 -- ---- what the sheet has
 
-pub sheet-after : (P Q : Sheet) → SheetIn P → Relaid P Q → NestOk (Q .limits) (Q .counts) (Q .depth) → 1 ≤ Q .depth → AccessesOk (wordsIn Q) (ownersIn P) (extentsIn P) (Q .depth) → length (Q .words) ≡ 480 → SheetIn Q
+pub sheet-after : (P Q : Sheet) → SheetIn P → Relaid P Q → NestOk (Q .limits) (Q .counts) (Q .depth) → 1 ≤ Q .depth → AccessesOk (wordsIn Q) (ownersIn P) (extentsIn P) (Q .depth) → length (Q .words) ≡ mostWords → SheetIn Q
 sheet-after P Q h r n d a l =
     let o = same-owners P Q r in
     let x = same-extents P Q r in

@@ -9,7 +9,7 @@ use lib.ListN.{length, take, drop}
 use Rattle.integers.specs.Affine.{Within}
 use Rattle.lists.specs.Tests.{all}
 use Rattle.model.specs.Ticket as Model
-use Rattle.model.specs.Grammar.{depthAfter}
+use Rattle.model.specs.Grammar.{depthAfter, mostLoops}
 use Rattle.model.specs.Ranges.{StepThere}
 use Rattle.model.specs.Limits.{subscriptAfter, accessAfter}
 use Rattle.model.specs.Judge.{small, smallAccess}
@@ -25,7 +25,7 @@ smallSubscript s = small (s .constant) && all small (s .coefficients)
 
 -- the loops that it names are there
 pub record StepFits (n : ℕ) (t : Step) : Type 0 where
-  pub few : n ≤ 6
+  pub few : n ≤ mostLoops
   pub there : StepThere n (stepOf t)
 
 -- of `count` subscripts from number `first` on; m is the number of loops after the step

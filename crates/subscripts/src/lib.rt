@@ -7,9 +7,11 @@ ghost use Rattle.model.specs.Limits.{coefficientsAfter};
 ghost use Rattle.rows.specs.Rows.{RowIs};
 ghost use Rattle.steps.specs.Steps.{stepOf};
 ghost use Rattle.subscripts.specs.After.{StepFits, ChangeIn, Changes, AccessesIn, AccessesAfter};
+use model::ARRAY_ROOM;
+use model::LOOPS;
 use steps::Step;
 
-fn row_after(cs: [i32; 6], n: usize, step: Step) -> [i32; 6]
+fn row_after(cs: [i32; LOOPS], n: usize, step: Step) -> [i32; LOOPS]
     requires { ⌜ StepFits n step × Within 32767 (take n cs) ⌝ }
     ensures { λ r. ⌜ RowIs (depthAfter (stepOf step) n) r (coefficientsAfter (stepOf step) (take n cs)) ⌝ }
 {
@@ -83,7 +85,7 @@ pub fn change_accesses(
     let m = steps::depth_after(step, depth);
     let mut k = 0;
     while k < owners.len() {
-        let at = owners[k] * 4;
+        let at = owners[k] * ARRAY_ROOM;
         let count = extents[at];
         if !change_subscripts(words, k * 3, count, depth, m, step) {
             return false;
