@@ -12,6 +12,7 @@ use Rattle.model.specs.Ticket.{Statement}
 use Rattle.model.specs.Points.{iterations}
 use Rattle.model.specs.Bounds.{sprawl}
 use Rattle.model.specs.Machine.{bodyAt}
+use Rattle.model.specs.Grammar.{mostAccesses, mostPoints}
 use Rattle.space.proofs.SurveyLaws.{survey-near}
 use Rattle.sheet.specs.Sheets.{Sheet, sizesIn, statementsFrom, nestOf, SheetIn}
 use Rattle.sheet.specs.Stages.{ListIn, PointsAre, NumberIn, NumbersAre}
@@ -57,7 +58,7 @@ module _ (P : Sheet) (points : List ℤ) (n room : ℕ) (h : PartIn P points n r
 -- ---- all points
 
 module _ (P : Sheet) (count room : ℕ) (h : ExecuteIn P count room) where
-  pub few-points : count ≤ 4096
+  pub few-points : count ≤ mostPoints
   few-points = let c = h .counted in let f = h .nest .few in omega arith
 
   -- room for the indices of at most `most` points
@@ -69,6 +70,6 @@ module _ (P : Sheet) (count room : ℕ) (h : ExecuteIn P count room) where
   pub listed : (points : List ℤ) (n : ℕ) → PointsAre P points n → PointsAre P points count
   listed points n p = subst (PointsAre P points) (p .count ∙ sym (h .counted)) p
 
-  -- numbers of 20 accesses at 256 points are the most
-  pub few-numbers : count ≤ 256 → P .accesses * count ≤ 5120
-  few-numbers l = mul-le-mul {n₁ = P .accesses} {m₁ = count} {n₂ = 20} {m₂ = 256} (h .sheet .few-accesses) l
+  -- numbers of all accesses at 256 points are the most
+  pub few-numbers : count ≤ 256 → P .accesses * count ≤ mostAccesses * 256
+  few-numbers l = mul-le-mul {n₁ = P .accesses} {m₁ = count} {n₂ = mostAccesses} {m₂ = 256} (h .sheet .few-accesses) l

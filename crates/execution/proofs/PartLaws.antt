@@ -18,6 +18,7 @@ use Rattle.model.specs.Machine.{body, instances, run}
 use Rattle.model.specs.Store.{performOn, runNest}
 use Rattle.model.proofs.Machine.ReorderLaws.{run-append}
 use Rattle.model.proofs.Points.ArrayLaws.{off-outside, arrays-inside, accepted-arrays}
+use Rattle.model.specs.Grammar.{mostPoints}
 use Rattle.sheet.specs.Sheets.{Sheet, nestOf}
 use Rattle.sheet.specs.Stages.{PointsAre}
 use Rattle.store.specs.Runs.{runAt}
@@ -86,7 +87,7 @@ module _ (P : Sheet) (points : List ℤ) (count : ℕ) (w₀ : List ℕ) (h : Ex
 
     pub begins : (at ≤ length points) × (at ≤ 24576)
     begins = let i = g .inside in let b = p .stored .bound in let r = p .stored .room in let q = mul-le-mul-right (P .depth) (g .inside) in
-        (omega arith, mul-le-mul {n₁ = first} {m₁ = P .depth} {n₂ = 4096} {m₂ = 6} (omega arith) (p .stored .few))
+        (omega arith, mul-le-mul {n₁ = first} {m₁ = P .depth} {n₂ = mostPoints} {m₂ = 6} (omega arith) (p .stored .few))
 
     -- the points from `first` on, as they are lent
     abbrev lent : List ℤ

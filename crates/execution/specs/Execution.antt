@@ -8,7 +8,7 @@ use Rattle.lists.specs.Membership.{Mem, All}
 use Rattle.lists.specs.Parts.{rows}
 use Rattle.model.specs.Answer.{accepted}
 use Rattle.model.specs.Ticket.{Statement, Nest}
-use Rattle.model.specs.Grammar.{total}
+use Rattle.model.specs.Grammar.{total, mostPoints}
 use Rattle.model.specs.Points.{iterations}
 use Rattle.model.specs.Bounds.{sprawl, inArrays}
 use Rattle.model.specs.Shape.{WellFormed}
@@ -19,7 +19,7 @@ use Rattle.sheet.specs.Sheets.{Sheet, nestOf, SheetIn}
 pub record Executable (N : Nest) : Type 0 where
   pub formed : WellFormed N
   pub sprawls : sprawl (N .loops) ≡ accepted tt
-  pub few : length (iterations (N .loops)) ≤ 4096
+  pub few : length (iterations (N .loops)) ≤ mostPoints
   pub inside : inArrays (N .arrays) (iterations (N .loops)) 1 (N .statements) ≡ accepted tt
   pub constants : All (λ (s : Statement). s .constant ≤ 32767) (N .statements)
 

@@ -8,6 +8,9 @@ ghost use Rattle.sheet.specs.Sheets.{sheetOf, nestOf};
 ghost use Rattle.sheet.specs.Stages.{PointsAre};
 ghost use Rattle.store.specs.Runs.{runAt};
 ghost use Rattle.execution.specs.Execution.{ExecuteIn, PartIn};
+use model::ACCESSES;
+use model::LOOPS;
+use model::POINTS;
 use sheet::Outline;
 
 // Runs the statements at the points of a part of the nest. Lent is room for a number of each access at each point.
@@ -77,7 +80,7 @@ fn run_many(
     requires { ⌜ ExecuteIn (sheetOf outline (now limits) (now words)) count (length (now store)) × (outline .accesses * 256 ≤ length (now numbers)) ⌝ }
     ensures { λ _. ⌜ now (store .exit) ≡ runNest (nestOf (sheetOf outline (now (limits .entry)) (now (words .entry)))) (now (store .entry)) ⌝ }
 {
-    let mut points = [0i64; 24576];
+    let mut points = [0i64; LOOPS * POINTS];
     sheet::list_points(outline, limits, words, &mut points);
     run_parts(outline, limits, words, &points, count, numbers, store);
 }
@@ -87,14 +90,14 @@ fn run_few(outline: Outline, limits: &[i16], words: &[i16], count: usize, store:
     requires { ⌜ ExecuteIn (sheetOf outline (now limits) (now words)) count (length (now store)) × (count ≤ 256) ⌝ }
     ensures { λ _. ⌜ now (store .exit) ≡ runNest (nestOf (sheetOf outline (now (limits .entry)) (now (words .entry)))) (now (store .entry)) ⌝ }
 {
-    let mut points = [0i64; 1536];
+    let mut points = [0i64; LOOPS * 256];
     sheet::list_points(outline, limits, words, &mut points);
     if outline.accesses * count <= 1024 {
         let mut few = [0u16; 1024];
         run_part(outline, limits, words, &points, count, &mut few, store);
         return;
     }
-    let mut numbers = [0u16; 5120];
+    let mut numbers = [0u16; ACCESSES * 256];
     run_part(outline, limits, words, &points, count, &mut numbers, store);
 }
 
@@ -108,10 +111,10 @@ pub fn execute(outline: Outline, limits: &[i16], words: &[i16], count: usize, st
         return;
     }
     if outline.accesses <= 4 {
-        let mut few = [0u16; 1024];
+        let mut few = [0u16; 4 * 256];
         run_many(outline, limits, words, count, &mut few, store);
         return;
     }
-    let mut numbers = [0u16; 5120];
+    let mut numbers = [0u16; ACCESSES * 256];
     run_many(outline, limits, words, count, &mut numbers, store);
 }

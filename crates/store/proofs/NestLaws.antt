@@ -15,6 +15,7 @@ use Rattle.model.specs.Ticket.{Access, Statement}
 use Rattle.model.specs.Machine.{element, bodyAt, accesses, body, instances, run}
 use Rattle.model.specs.Store.{placeOf, sum, make, storeWords, performOn}
 use Rattle.model.proofs.Machine.ReorderLaws.{run-append}
+use Rattle.model.specs.Grammar.{mostArrays}
 use Rattle.elements.specs.Layout.{arraysOf, accessAt, accessesFrom}
 use Rattle.elements.specs.Places.{TotalIn}
 use Rattle.sheet.specs.Sheets.{Sheet, nestOf, statementsFrom, extentsIn, sizesIn, ownersIn, wordsIn, SheetIn}
@@ -109,10 +110,10 @@ module _ {P : Sheet} {points : List ℤ} {count : ℕ} {numbers : List ℕ} {roo
 
   -- ---- what the functions ask
 
-  pub arrays-few : TotalIn (extentsIn P) (P .arrays) × (P .arrays ≤ 4)
+  pub arrays-few : TotalIn (extentsIn P) (P .arrays) × (P .arrays ≤ mostArrays)
   arrays-few = (arrays-in P (r .sheet), r .sheet .few-arrays)
 
-  module _ (bases : List ℕ) (len : length bases ≡ 4) (are : BasesAre (extentsIn P) (P .arrays) bases) where
+  module _ (bases : List ℕ) (len : length bases ≡ mostArrays) (are : BasesAre (extentsIn P) (P .arrays) bases) where
     owner-in : (k : ℕ) → k < P .accesses → getD (ownersIn P) k 0 < P .arrays
     owner-in k h = let o = owners-length (r .sheet) in let e = extents-length (r .sheet) in let t = r .sheet .accesses-ok .there k (omega arith) in omega arith
 

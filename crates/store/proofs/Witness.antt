@@ -9,7 +9,7 @@ use Rattle.lists.specs.Parts.{rows}
 use Rattle.lists.proofs.MembershipLaws.{all-nil, all-cons}
 use Rattle.integers.specs.Affine.{Within, affine, dot}
 use Rattle.model.specs.Ticket.{Access}
-use Rattle.model.specs.Grammar.{elements, total, extents}
+use Rattle.model.specs.Grammar.{elements, total, extents, mostStatements, mostAccesses, mostSides, nestRoom, mostExtents, mostWords, arrayRoom}
 use Rattle.model.specs.Bounds.{subscriptAt}
 use Rattle.model.specs.Machine.{element}
 use Rattle.model.specs.Store.{base, placeFrom, placeOf, sum}
@@ -23,29 +23,27 @@ use Rattle.store.specs.Runs.{RunIn}
 abbrev pub counter : Sheet
 counter = record {
   depth = 1;
-  limits = replicate 1536 (pos 1);
-  counts = replicate 12 1;
+  limits = replicate nestRoom (pos 1);
+  counts = replicate mostSides 1;
   arrays = 1;
-  extents = replicate 16 1;
+  extents = replicate mostExtents 1;
   statements = 1;
-  sizes = replicate 4 2;
-  rules = replicate 4 1;
-  constants = replicate 4 1;
+  sizes = replicate mostStatements 2;
+  rules = replicate mostStatements 1;
+  constants = replicate mostStatements 1;
   accesses = 2;
-  owners = replicate 20 0;
-  words = replicate 480 (pos 0);
+  owners = replicate mostAccesses 0;
+  words = replicate mostWords (pos 0);
 }
 
 within : (n : ℕ) → Within 32767 (replicate n (pos 0))
 within zero = tt
 within (suc n) = (omega arith, within n)
 
-small : (j : ℕ) → getD {A = ℕ} (1 ∷ 1 ∷ 1 ∷ 1 ∷ []) j 0 ≤ 3
-small zero = omega arith
-small (suc zero) = omega arith
-small (suc (suc zero)) = omega arith
-small (suc (suc (suc zero))) = omega arith
-small (suc (suc (suc (suc j)))) = omega arith
+small : (n j : ℕ) → getD {A = ℕ} (replicate n 1) j 0 ≤ 3
+small zero j = omega arith
+small (suc n) zero = omega arith
+small (suc n) (suc j) = small n j
 
 owner : (k : ℕ) → k < 2 → getD {A = ℕ} (0 ∷ 0 ∷ []) k 0 < 1
 owner zero h = omega arith
@@ -59,15 +57,15 @@ accesses-ok = record {
   few = omega arith;
   shallow = omega arith;
   small = within 48;
-  dimensions = λ i h. small (i * 4);
-  extents = λ j. let h = small j in omega arith;
+  dimensions = λ i h. small arrayRoom (i * 4);
+  extents = λ j. let h = small arrayRoom j in omega arith;
   there = owner;
 }
 
 pub counter-in : SheetIn counter
 unfolding sum total elements arraysOf arraysFrom extentsAt
 counter-in = record {
-  nest = nest-part (replicate 1536 (pos 1)) (replicate 12 1) 6 1 ones-ok (omega arith);
+  nest = nest-part (replicate nestRoom (pos 1)) (replicate mostSides 1) 6 1 ones-ok (omega arith);
   some = omega arith;
   accesses-ok = accesses-ok;
   fits = omega arith;
@@ -107,6 +105,6 @@ counter-runs = record {
     are = λ k x h g. number-is k x h g ∙ sym (ap₂ (λ (p : List ℤ) (u : Access). placeOf (nestOf counter .arrays) (element p u)) (point-is x (omega arith)) (access-is counter counter-in k h) ∙ place-is k h);
     small = λ k x h g. let e = number-is k x h g in omega arith;
   };
-  words = λ i h. let c = small i in omega arith;
+  words = λ i h. let c = small mostStatements i in omega arith;
   whole = refl;
 }

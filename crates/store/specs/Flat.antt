@@ -5,6 +5,7 @@ use mathlib.Core.List.{List, [], _∷_}
 use Prim.Native.Nat.{ℕ, zero, suc, _+_, _*_, _-_, _^_, _≤_, _<_}
 use lib.ListN.{length, getD, set}
 use Rattle.model.specs.Store.{base, sum, make}
+use Rattle.model.specs.Grammar.{mostStatements, mostAccesses}
 use Rattle.elements.specs.Layout.{arraysOf}
 
 -- ---- the run
@@ -42,14 +43,14 @@ BasesAre a n bases = (i : ℕ) → i < n → getD bases i 0 ≡ base (arraysOf a
 
 -- n accesses from access k on, at point x, in a store of this length
 pub record FetchIn (numbers : List ℕ) (count room x k n : ℕ) : Type 0 where
-  pub few : k + n ≤ 20
+  pub few : k + n ≤ mostAccesses
   pub point : x < count
   pub numbered : (k + n) * count ≤ length numbers
   pub inside : (j : ℕ) → j < k + n → numberAt numbers count j x < room
 
 -- all accesses at point x: each has its place in the store, not before its array, which begins at its base
 pub record PointIn (o bases numbers : List ℕ) (count room x : ℕ) : Type 0 where
-  pub few : length o ≤ 20
+  pub few : length o ≤ mostAccesses
   pub point : x < count
   pub numbered : length o * count ≤ length numbers
   pub inside : (k : ℕ) → k < length o → numberAt numbers count k x < room
@@ -60,7 +61,7 @@ pub record PointIn (o bases numbers : List ℕ) (count room x : ℕ) : Type 0 wh
 pub record BodyIn (o sizes rules constants : List ℕ) : Type 0 where
   pub all-accesses : sum sizes ≤ length o
   pub each : (i : ℕ) → i < length sizes → 1 ≤ getD sizes i 0
-  pub few : length sizes ≤ 4
+  pub few : length sizes ≤ mostStatements
   pub some-rules : length sizes ≤ length rules
   pub some-constants : length sizes ≤ length constants
   pub words : (i : ℕ) → i < length sizes → getD constants i 0 < 2 ^ 32

@@ -5,7 +5,7 @@ use Prim.Native.Nat.{ℕ, _^_, _≤_, _<_}
 use lib.IntN.{ℤ}
 use lib.ListN.{length, getD}
 use Rattle.model.specs.Ticket.{Nest}
-use Rattle.model.specs.Grammar.{total}
+use Rattle.model.specs.Grammar.{total, mostPoints}
 use Rattle.model.specs.Machine.{instances, run}
 use Rattle.model.specs.Store.{performOn}
 use Rattle.sheet.specs.Sheets.{Sheet, nestOf, SheetIn}
@@ -17,7 +17,7 @@ runAt N ps w = run (performOn (N .arrays) (N .statements)) (instances (length (N
 
 pub record RunIn (P : Sheet) (points : List ℤ) (count : ℕ) (numbers : List ℕ) (room : ℕ) : Type 0 where
   pub sheet : SheetIn P
-  pub few : count ≤ 4096
+  pub few : count ≤ mostPoints
   pub places : NumbersAre P points count numbers
   pub words : (i : ℕ) → i < P .statements → getD (P .constants) i 0 < 2 ^ 32
   pub whole : room ≡ total (nestOf P .arrays)

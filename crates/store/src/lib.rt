@@ -5,10 +5,13 @@ ghost use Prim.Native.Nat.{ℕ, _+_, _*_, _%_, _^_, _≤_, _<_};
 ghost use lib.ListN.{length, getD, set};
 ghost use Rattle.lists.specs.Parts.{rows};
 ghost use Rattle.model.specs.Store.{sum, most, firstOf, make};
+ghost use Rattle.model.specs.Grammar.{mostArrays, mostPoints};
 ghost use Rattle.elements.specs.Places.{TotalIn};
 ghost use Rattle.sheet.specs.Sheets.{sheetOf, nestOf};
 ghost use Rattle.store.specs.Flat.{numberAt, fetched, performed, bodyFrom, pointsFrom, BasesAre, FetchIn, PointIn, BodyIn};
 ghost use Rattle.store.specs.Runs.{runAt, RunIn};
+use model::ARRAY_ROOM;
+use model::ARRAYS;
 use sheet::Outline;
 
 // The place in the store of access k at point x.
@@ -184,7 +187,7 @@ fn run_points(
     count: usize,
     store: &mut [u32],
 )
-    requires { ⌜ (count ≤ 4096) × ((x : ℕ) → x < count → PointIn (now owners) (now bases) (now numbers) count (length (now store)) x) × BodyIn (now owners) (now sizes) (now rules) (now constants) ⌝ }
+    requires { ⌜ (count ≤ mostPoints) × ((x : ℕ) → x < count → PointIn (now owners) (now bases) (now numbers) count (length (now store)) x) × BodyIn (now owners) (now sizes) (now rules) (now constants) ⌝ }
     ensures { λ _. ⌜ now (store .exit) ≡ pointsFrom (now (rules .entry)) (now (constants .entry)) (now (sizes .entry)) (now (numbers .entry)) count 0 count (now (store .entry)) ⌝ }
 {
     let mut x = 0;
@@ -205,11 +208,11 @@ fn run_points(
 }
 
 // Where each of the n arrays begins in the store.
-fn bases_of(arrays: &[usize], n: usize) -> [usize; 4]
-    requires { ⌜ TotalIn (now arrays) n × (n ≤ 4) ⌝ }
+fn bases_of(arrays: &[usize], n: usize) -> [usize; ARRAYS]
+    requires { ⌜ TotalIn (now arrays) n × (n ≤ mostArrays) ⌝ }
     ensures { λ r. ⌜ BasesAre (now (arrays .entry)) n r ⌝ }
 {
-    let mut r = [0; 4];
+    let mut r = [0; ARRAYS];
     let mut i = 0;
     while i < n {
         r[i] = elements::base_of(arrays, i);
@@ -239,7 +242,7 @@ pub fn run(
     let constants = outline.constants;
     let accesses = outline.accesses;
     let owners = outline.owners;
-    let bases = bases_of(&extents[..arrays * 4], arrays);
+    let bases = bases_of(&extents[..arrays * ARRAY_ROOM], arrays);
     run_points(
         &owners[..accesses],
         &bases,

@@ -1,6 +1,7 @@
 -- `run_many`: the points, then their parts.
 use native.Mathlib.Omega.{arith}
 use borrow.Author.Needs.{needs}
+use Rattle.model.specs.Grammar.{mostPoints}
 use Rattle.execution.proofs.ExecutionLaws.{few-points, list-in, listed}
 use Rattle.execution.proofs.run_many.Statement.{statement}
 use Rattle.execution.proofs.run_many.Tie as tie
@@ -9,7 +10,7 @@ slice-aggregate-list-points : tie.Need-slice-aggregate-list-points
 slice-aggregate-list-points c = search needs
 
 list-points-requires : tie.Need-list-points-requires
-list-points-requires c κs = let s = c .before .before .before in list-in _ (s .args .count) _ (s .pre .0) 4096 (few-points _ (s .args .count) _ (s .pre .0)) _ (omega arith)
+list-points-requires c κs = let s = c .before .before .before in list-in _ (s .args .count) _ (s .pre .0) mostPoints (few-points _ (s .args .count) _ (s .pre .0)) _ (omega arith)
 
 slice-aggregate-run-parts : tie.Need-slice-aggregate-run-parts
 slice-aggregate-run-parts c = search needs

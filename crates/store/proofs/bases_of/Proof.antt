@@ -3,13 +3,14 @@ use mathlib.Core.Path.{_≡_, refl, _∙_}
 use Prim.Native.Nat.{_-_, _≤_}
 use native.Mathlib.Omega.{arith}
 use lib.ListN.{length, length-set}
+use Rattle.model.specs.Grammar.{mostArrays}
 use Rattle.store.specs.Flat.{BasesAre}
 use Rattle.store.proofs.BaseLaws.{base-in, one-base, all-bases}
 use Rattle.store.proofs.bases_of.Statement.{statement}
 use Rattle.store.proofs.bases_of.Tie as tie
 
 abbrev Inv-loop : tie.InvT-loop
-Inv-loop arrays n r₀ i₀ r i = (length r ≡ 4) × (i ≤ n) × BasesAre arrays i r
+Inv-loop arrays n r₀ i₀ r i = (length r ≡ mostArrays) × (i ≤ n) × BasesAre arrays i r
 
 abbrev μ-loop : tie.MeasureT-loop
 μ-loop arrays n r₀ i₀ r i = n - i
