@@ -12,7 +12,8 @@ use Rattle.model.specs.Ticket.{Subscript, Access}
 use Rattle.model.specs.Ranges.{Small, SubscriptRanges, AccessRanges}
 use Rattle.elements.specs.Layout.{formAt, formsFrom, accessAt, accessesFrom}
 use Rattle.arrays.specs.Laid.{layRows}
-use Rattle.body.specs.Laid.{subscriptWords, layAccess, layAccesses}
+use Rattle.nest.specs.Laid.{affineWords}
+use Rattle.body.specs.Laid.{layAccess, layAccesses}
 use Rattle.arrays.proofs.RowLaws.{part-front, part-head, part-tail, rows-length, rows-front, rows-all, rows-at}
 
 -- ---- an access whose words are there
@@ -27,15 +28,15 @@ by-subscripts i ss a p q = rw (p, q)
 abbrev pub wordsAt : List ℤ → ℕ → ℕ → List ℤ
 wordsAt w n j = take (suc n) (drop (j * 8) w)
 
-form-back : (w : List ℤ) (n j : ℕ) (s : Subscript) → wordsAt w n j ≡ subscriptWords s → formAt w n j ≡ s
-unfolding formAt subscriptWords
+form-back : (w : List ℤ) (n j : ℕ) (s : Subscript) → wordsAt w n j ≡ affineWords s → formAt w n j ≡ s
+unfolding formAt affineWords
 form-back w n j s e =
     by-numbers (getD w (j * 8) (pos 0)) (take n (drop (j * 8 + 1) w)) s (part-head (j * 8) n w (s .constant) (s .coefficients) (pos 0) e) (part-tail (j * 8) n w (s .constant) (s .coefficients) e)
 
 pub no-subscript : Subscript
 no-subscript = record { constant = pos 0; coefficients = [] }
 
-forms-back : (w : List ℤ) (n j : ℕ) (ss : List Subscript) → ((d : ℕ) → d < length ss → wordsAt w n (j + d) ≡ subscriptWords (getD ss d no-subscript)) → formsFrom w n j (length ss) ≡ ss
+forms-back : (w : List ℤ) (n j : ℕ) (ss : List Subscript) → ((d : ℕ) → d < length ss → wordsAt w n (j + d) ≡ affineWords (getD ss d no-subscript)) → formsFrom w n j (length ss) ≡ ss
 unfolding formsFrom
 forms-back w n j [] h = refl
 forms-back w n j (s ∷ ss) h =
@@ -43,7 +44,7 @@ forms-back w n j (s ∷ ss) h =
     (forms-back w n (suc j) ss (λ d g. let e : suc j + d ≡ j + suc d = omega arith in ap (wordsAt w n) e ∙ h (suc d) (omega arith)))
 
 pub access-back : (w : List ℤ) (o a : List ℕ) (n k : ℕ) (x : Access) → getD o k 0 ≡ x .array → getD a (x .array * 4) 0 ≡ length (x .subscripts)
-    → ((d : ℕ) → d < length (x .subscripts) → wordsAt w n (k * 3 + d) ≡ subscriptWords (getD (x .subscripts) d no-subscript)) → accessAt w o a n k ≡ x
+    → ((d : ℕ) → d < length (x .subscripts) → wordsAt w n (k * 3 + d) ≡ affineWords (getD (x .subscripts) d no-subscript)) → accessAt w o a n k ≡ x
 unfolding accessAt
 access-back w o a n k x p q h =
     by-subscripts (getD o k 0) (formsFrom w n (k * 3) (getD a (getD o k 0 * 4) 0)) x p
@@ -64,30 +65,30 @@ pub record Wide (n : ℕ) (a : Access) : Type 0 where
 
 module _ (n : ℕ) (shallow : n ≤ 6) where
   module _ (s : List ℤ) (k : ℕ) (a : Access) (p : Wide n a) (h : (k + 1) * 24 ≤ length s) where
-    short : All (λ (x : List ℤ). length x ≤ 8) (map subscriptWords (a .subscripts))
-    unfolding subscriptWords
-    short = map-all subscriptWords (λ (x : Subscript). length (x .coefficients) ≡ n) (λ x. length x ≤ 8) (a .subscripts) (λ x e. omega arith) (p .wide)
+    short : All (λ (x : List ℤ). length x ≤ 8) (map affineWords (a .subscripts))
+    unfolding affineWords
+    short = map-all affineWords (λ (x : Subscript). length (x .coefficients) ≡ n) (λ x. length x ≤ 8) (a .subscripts) (λ x e. omega arith) (p .wide)
 
-    fits : (k * 3 + length (map subscriptWords (a .subscripts))) * 8 ≤ length s
-    fits = let f = p .few in let m = length-map (a .subscripts) subscriptWords in omega arith
+    fits : (k * 3 + length (map affineWords (a .subscripts))) * 8 ≤ length s
+    fits = let f = p .few in let m = length-map (a .subscripts) affineWords in omega arith
 
     access-length : length (layAccess s k a) ≡ length s
     unfolding layAccess
-    access-length = rows-length 8 s (k * 3) (map subscriptWords (a .subscripts)) short fits
+    access-length = rows-length 8 s (k * 3) (map affineWords (a .subscripts)) short fits
 
     access-front : (m : ℕ) → m ≤ k * 24 → take m (layAccess s k a) ≡ take m s
     unfolding layAccess
-    access-front m g = rows-front 8 s (k * 3) (map subscriptWords (a .subscripts)) m (omega arith) short fits
+    access-front m g = rows-front 8 s (k * 3) (map affineWords (a .subscripts)) m (omega arith) short fits
 
-    access-at : (d : ℕ) → d < length (a .subscripts) → wordsAt (layAccess s k a) n (k * 3 + d) ≡ subscriptWords (getD (a .subscripts) d no-subscript)
-    unfolding layAccess subscriptWords
+    access-at : (d : ℕ) → d < length (a .subscripts) → wordsAt (layAccess s k a) n (k * 3 + d) ≡ affineWords (getD (a .subscripts) d no-subscript)
+    unfolding layAccess affineWords
     access-at d g =
         let x = getD (a .subscripts) d no-subscript in
-        let m : getD (map subscriptWords (a .subscripts)) d (subscriptWords no-subscript) ≡ subscriptWords x = List·getD-map subscriptWords (a .subscripts) d no-subscript in
-        let r = length-map (a .subscripts) subscriptWords in
-        let l : suc n ≡ length (subscriptWords x) = ap suc (sym (all-getD (λ (y : Subscript). length (y .coefficients) ≡ n) (a .subscripts) d no-subscript (p .wide) g)) in
-        ap (λ i. take i (drop ((k * 3 + d) * 8) (layRows 8 s (k * 3) (map subscriptWords (a .subscripts))))) (l ∙ ap length (sym m))
-        ∙ rows-at 8 s (k * 3) (map subscriptWords (a .subscripts)) short fits d (subscriptWords no-subscript) (omega arith)
+        let m : getD (map affineWords (a .subscripts)) d (affineWords no-subscript) ≡ affineWords x = List·getD-map affineWords (a .subscripts) d no-subscript in
+        let r = length-map (a .subscripts) affineWords in
+        let l : suc n ≡ length (affineWords x) = ap suc (sym (all-getD (λ (y : Subscript). length (y .coefficients) ≡ n) (a .subscripts) d no-subscript (p .wide) g)) in
+        ap (λ i. take i (drop ((k * 3 + d) * 8) (layRows 8 s (k * 3) (map affineWords (a .subscripts))))) (l ∙ ap length (sym m))
+        ∙ rows-at 8 s (k * 3) (map affineWords (a .subscripts)) short fits d (affineWords no-subscript) (omega arith)
         ∙ m
 
   pub accesses-length : (s : List ℤ) (k : ℕ) (xs : List Access) → All (Wide n) xs → (k + length xs) * 24 ≤ length s → length (layAccesses s k xs) ≡ length s
@@ -107,7 +108,7 @@ module _ (n : ℕ) (shallow : n ≤ 6) where
 
   -- the words of subscript d of access i
   pub accesses-at : (s : List ℤ) (k : ℕ) (xs : List Access) → All (Wide n) xs → (k + length xs) * 24 ≤ length s → (i : ℕ) (b : Access) → i < length xs
-      → (d : ℕ) → d < length (getD xs i b .subscripts) → wordsAt (layAccesses s k xs) n ((k + i) * 3 + d) ≡ subscriptWords (getD (getD xs i b .subscripts) d no-subscript)
+      → (d : ℕ) → d < length (getD xs i b .subscripts) → wordsAt (layAccesses s k xs) n ((k + i) * 3 + d) ≡ affineWords (getD (getD xs i b .subscripts) d no-subscript)
   unfolding layAccesses
   accesses-at s k [] p h i b g d r = absurd (omega arith)
   accesses-at s k (x ∷ xs) p h zero b g d r =
@@ -127,10 +128,10 @@ module _ (n : ℕ) (shallow : n ≤ 6) where
 -- ---- small numbers
 
 pub accesses-small : (s : List ℤ) (k : ℕ) (xs : List Access) → All Small s → All AccessRanges xs → All Small (layAccesses s k xs)
-unfolding layAccesses layAccess subscriptWords
+unfolding layAccesses layAccess affineWords
 accesses-small s k [] p r = p
 accesses-small s k (x ∷ xs) p r =
     accesses-small (layAccess s k x) (suc k) xs
-    (rows-all 8 Small s (k * 3) (map subscriptWords (x .subscripts)) p
-    (map-all subscriptWords SubscriptRanges (λ l. All Small l) (x .subscripts) (λ y q. all-cons Small (q .constant) (q .coefficients)) (r x (List·Memᴰ·head refl))))
+    (rows-all 8 Small s (k * 3) (map affineWords (x .subscripts)) p
+    (map-all affineWords SubscriptRanges (λ l. All Small l) (x .subscripts) (λ y q. all-cons Small (q .constant) (q .coefficients)) (r x (List·Memᴰ·head refl))))
     (λ y m. r y (List·Memᴰ·tail m))

@@ -13,8 +13,6 @@ use Rattle.model.specs.Answer.{accepted, refused}
 use Rattle.model.specs.Ticket as Model
 use Rattle.model.specs.Grammar.{count, natural, times, done, extents, subscript, access}
 use Rattle.model.proofs.Answers.AnswerLaws.{leads-accepted}
-use Rattle.model.proofs.Grammar.ReaderLaws.{Meets, As, bind, done-meets, number-meets}
-use Rattle.model.proofs.Grammar.LoopReading.{numbers-meet}
 use Rattle.model.proofs.Grammar.StatementReading as Reading
 use Rattle.reading.specs.Refusals.{Reached}
 use Rattle.reading.proofs.ReaderLaws.{after-value, after-refusal, before, times-start, times-more, times-no, times-done}
@@ -23,9 +21,11 @@ use Rattle.elements.proofs.LayoutLaws.{extents-are}
 use Rattle.elements.proofs.ElementLaws.{arrays-length}
 use Rattle.arrays.specs.Laid.{layRows}
 use Rattle.arrays.proofs.RowLaws.{rows-more}
-use Rattle.body.specs.Laid.{subscriptWords, layAccess, layAccesses, arrayNumbers}
-use Rattle.body.specs.Statements.{subscriptOf, SubscriptIn, LaySubscriptIn, ArraysIn, accesses}
-use Rattle.body.specs.declared.Subscript.{Subscript}
+use Rattle.nest.specs.Laid.{affineWords}
+use Rattle.nest.specs.Nested.{affineOf, AffineIn, LayAffineIn}
+use Rattle.nest.specs.declared.Affine.{Affine}
+use Rattle.body.specs.Laid.{layAccess, layAccesses, arrayNumbers}
+use Rattle.body.specs.Statements.{ArraysIn, accesses}
 
 -- ---- the arrays that an access may name
 
@@ -47,13 +47,8 @@ module _ (e : List ℕ) (m : ℕ) (p : ArraysIn e m) where
 
 -- ---- what the grammar says of a subscript
 
-subscript-meets : (n : ℕ) → Meets (subscript n) (As (Reading.SubscriptRead n) Reading.subscriptWords)
-unfolding subscript
-subscript-meets n = bind number-meets (λ c s. bind (numbers-meet n) (λ cs e. done-meets (record { constant = c; coefficients = cs })
-    (record { holds = record { ranges = record { constant = s; coefficients = e .holds }; wide = e .number }; words = ap (c ∷_) (append-nil cs) })))
-
 subscript-read : (n : ℕ) (b : List ℕ) (k : ℕ) (s : Model.Subscript) (next : ℕ) → Reached b k → subscript n b k ≡ accepted (record { value = s; next = next }) → Reading.SubscriptRead n s
-subscript-read n b k s next r e = leads-accepted _ _ (subscript-meets n .from b k (record { first = r .counted; there = r .there }) .leads) e .holds .holds
+subscript-read n b k s next r e = leads-accepted _ _ (Reading.subscript-meets n .from b k (record { first = r .counted; there = r .there }) .leads) e .holds .holds
 
 -- ---- one access, from its parts
 
@@ -84,7 +79,7 @@ pub record Filling (b : List ℕ) (from n m k : ℕ) (o w : List ℤ) (next d : 
   pub few : m ≤ 3
   pub reached : Reached b next
   pub room : length w ≡ length o
-  pub laid : w ≡ layRows 8 o (k * 3) (map subscriptWords subscripts)
+  pub laid : w ≡ layRows 8 o (k * 3) (map affineWords subscripts)
   pub so : times m (subscript n) b from ≡ before subscripts (times (m - d) (subscript n) b next)
 
 pub filling-starts : (b : List ℕ) (from n m k : ℕ) (o : List ℤ) → m ≤ 3 → Reached b from → Filling b from n m k o o from 0
@@ -92,15 +87,15 @@ unfolding layRows
 filling-starts b from n m k o h r = record { subscripts = []; number = refl; low = omega arith; few = h; reached = r; room = refl; laid = refl; so = times-start (subscript n) b m from }
 
 module _ (b : List ℕ) (from n m k : ℕ) (o w : List ℤ) (next d : ℕ) (f : Filling b from n m k o w next d) where
-  module _ (x : Subscript) (to : ℕ) (h : d < m) (e : subscript n b next ≡ accepted (record { value = subscriptOf n x; next = to })) where
-    pub next-in : length o ≡ 480 → k < 20 → n ≤ 6 → SubscriptIn x → LaySubscriptIn (length w) (k * 3 + d) n x
-    next-in l g s i = let r = f .room in let t = f .few in record { fits = omega arith; shallow = s; within = i; ranges = subscript-read n b next (subscriptOf n x) to (f .reached) e .ranges }
+  module _ (x : Affine) (to : ℕ) (h : d < m) (e : subscript n b next ≡ accepted (record { value = affineOf n x; next = to })) where
+    pub next-in : length o ≡ 480 → k < 20 → n ≤ 6 → AffineIn x → LayAffineIn (length w) ((k * 3 + d) * 8) n x
+    next-in l g s i = let r = f .room in let t = f .few in record { fits = omega arith; shallow = s; within = i; ranges = subscript-read n b next (affineOf n x) to (f .reached) e .ranges }
 
-    pub filling-more : (v : List ℤ) → v ≡ put w ((k * 3 + d) * 8) (subscriptWords (subscriptOf n x)) → length v ≡ length w → Reached b to → Filling b from n m k o v to (d + 1)
+    pub filling-more : (v : List ℤ) → v ≡ put w ((k * 3 + d) * 8) (affineWords (affineOf n x)) → length v ≡ length w → Reached b to → Filling b from n m k o v to (d + 1)
     filling-more v q l r =
-        let y = subscriptOf n x in
-        let F = map subscriptWords (f .subscripts) in
-        let i : d ≡ length F = omega (arith, length-map (f .subscripts) subscriptWords, f .number) in
+        let y = affineOf n x in
+        let F = map affineWords (f .subscripts) in
+        let i : d ≡ length F = omega (arith, length-map (f .subscripts) affineWords, f .number) in
         record {
           subscripts = f .subscripts ++ (y ∷ []);
           number = let t = f .number in let a = length-append (f .subscripts) (y ∷ []) in omega arith;
@@ -108,7 +103,7 @@ module _ (b : List ℕ) (from n m k : ℕ) (o w : List ℤ) (next d : ℕ) (f : 
           few = f .few;
           reached = r;
           room = l ∙ f .room;
-          laid = q ∙ ap₂ (λ z t. put z ((k * 3 + t) * 8) (subscriptWords y)) (f .laid) i ∙ sym (rows-more 8 o (k * 3) F (subscriptWords y)) ∙ ap (layRows 8 o (k * 3)) (sym (map-append subscriptWords (f .subscripts) (y ∷ [])));
+          laid = q ∙ ap₂ (λ z t. put z ((k * 3 + t) * 8) (affineWords y)) (f .laid) i ∙ sym (rows-more 8 o (k * 3) F (affineWords y)) ∙ ap (layRows 8 o (k * 3)) (sym (map-append affineWords (f .subscripts) (y ∷ [])));
           so = f .so ∙ times-more (subscript n) b m d next (f .subscripts) y to h e;
         }
 

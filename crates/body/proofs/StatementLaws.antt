@@ -1,5 +1,5 @@
 -- A statement, from its parts.
-use mathlib.Core.Path.{_≡_, refl, sym, ap, ap₂, _∙_, subst}
+use mathlib.Core.Path.{_≡_, refl, sym, ap, ap₂, _∙_, subst, fun-ext}
 use mathlib.Core.Bool.{cond}
 use mathlib.Core.List.{List, [], _∷_}
 use Prim.Native.Nat.{ℕ, _+_, _<_}
@@ -13,11 +13,10 @@ use Rattle.lists.proofs.PartLaws.{set-is-put, put-put}
 use Rattle.model.specs.Answer.{accepted, refused}
 use Rattle.model.specs.Ticket.{Access, Statement}
 use Rattle.model.specs.Bounds.{accessesOf}
-use Rattle.model.specs.Grammar.{_>>=_, count, natural, times, done, access, statement}
+use Rattle.model.specs.Grammar.{Reader, _>>=_, count, natural, times, done, access, statement}
 use Rattle.reading.specs.Refusals.{answer, firstOf}
 use Rattle.reading.specs.declared.Status.{Status}
-use Rattle.reading.specs.declared.Status.the-variants as Status
-use Rattle.reading.proofs.ReaderLaws.{first-fine, after-value, after-refusal, regrouped}
+use Rattle.reading.proofs.ReaderLaws.{first-fine, after-value, after-refusal, both-read, regrouped}
 use Rattle.elements.specs.Layout.{arraysOf}
 use Rattle.body.specs.Laid.{layAccess, layAccesses, arrayNumbers}
 use Rattle.body.specs.Statements.{Laid, accesses, ReadsAccess, ReadsAccesses, ReadsStatement}
@@ -45,41 +44,19 @@ module _ (n : ℕ) (as′ : List (List ℕ)) (b : List ℕ) (k : ℕ) where
           let z : k + 1 + 1 ≡ k + 2 = omega arith in
           subst (λ x. natural 0 x b (k + 1) ≡ accepted (record { value = c; next = k + 2 })) s (f ∙ ap (λ j. accepted (record { value = c; next = j })) z)
 
-      no-write : (q p : ℕ) → access n as′ b (k + 2) ≡ refused q p → statement n as′ b k ≡ refused q p
-      unfolding statement
-      no-write q p g =
-          after-value (natural 0 3) _ b k v (k + 1) e
-          ∙ after-value (natural 0 (cond (eqb v 3) 0 32767)) _ b (k + 1) c (k + 2) constant-read
-          ∙ after-refusal (access n as′) _ b (k + 2) q p g
+      abbrev made : Access → List Access → Statement
+      made w l = record { rule = v; constant = c; writes = w ∷ []; reads = l }
 
-      -- lo is the least number of reads that the rule allows
-      module _ (w : Access) (j lo : ℕ) (t : lo ≡ cond (eqb v 3) 1 0) (g : access n as′ b (k + 2) ≡ accepted (record { value = w; next = j })) where
-        no-reads : (q p : ℕ) → accesses lo n as′ b j ≡ refused q p → statement n as′ b k ≡ refused q p
-        unfolding statement accesses
-        no-reads q p h =
-            after-value (natural 0 3) _ b k v (k + 1) e
-            ∙ after-value (natural 0 (cond (eqb v 3) 0 32767)) _ b (k + 1) c (k + 2) constant-read
-            ∙ after-value (access n as′) _ b (k + 2) w j g
-            ∙ regrouped (count (cond (eqb v 3) 1 0) 4) (λ i. times i (access n as′)) _ b j
-            ∙ after-refusal (count (cond (eqb v 3) 1 0) 4 >>= (λ i. times i (access n as′))) _ b j q p (subst (λ x. accesses x n as′ b j ≡ refused q p) t h)
-
-        one-statement : (l : List Access) (i : ℕ) → accesses lo n as′ b j ≡ accepted (record { value = l; next = i })
-            → statement n as′ b k ≡ accepted (record { value = record { rule = v; constant = c; writes = w ∷ []; reads = l }; next = i })
-        unfolding statement accesses done
-        one-statement l i h =
-            after-value (natural 0 3) _ b k v (k + 1) e
-            ∙ after-value (natural 0 (cond (eqb v 3) 0 32767)) _ b (k + 1) c (k + 2) constant-read
-            ∙ after-value (access n as′) _ b (k + 2) w j g
-            ∙ regrouped (count (cond (eqb v 3) 1 0) 4) (λ i. times i (access n as′)) _ b j
-            ∙ after-value (count (cond (eqb v 3) 1 0) 4 >>= (λ i. times i (access n as′))) _ b j l i
-            (subst (λ x. accesses x n as′ b j ≡ accepted (record { value = l; next = i })) t h)
-
-      -- the first refusal decides
+      -- lo is the least number of reads that the rule allows; the first refusal decides
       pub joined : (s₁ s₂ : Status) (w : Access) (l : List Access) (lo j i : ℕ) → lo ≡ cond (eqb v 3) 1 0 → answer s₁ w j ≡ access n as′ b (k + 2) → answer s₂ l i ≡ accesses lo n as′ b j
-          → answer (firstOf s₁ s₂) (record { rule = v; constant = c; writes = w ∷ []; reads = l }) i ≡ statement n as′ b k
-      joined (Status.Refused r) s₂ w l lo j i t g h = sym (no-write _ _ (sym g))
-      joined Status.Fine (Status.Refused r) w l lo j i t g h = sym (no-reads w j lo t (sym g) _ _ (sym h))
-      joined Status.Fine Status.Fine w l lo j i t g h = sym (one-statement w j lo t (sym g) l i (sym h))
+          → answer (firstOf s₁ s₂) (made w l) i ≡ statement n as′ b k
+      unfolding statement accesses
+      joined s₁ s₂ w l lo j i t g h =
+          both-read (access n as′) (λ _. accesses lo n as′) made b (k + 2) s₁ s₂ w l j i g h
+          ∙ ap (λ (r : Access → Reader Statement). (access n as′ >>= r) b (k + 2))
+          (fun-ext (λ x. fun-ext (λ a. fun-ext (λ q. sym (regrouped (count lo 4) (λ m. times m (access n as′)) (λ y. done (made x y)) a q)))))
+          ∙ ap (λ y. (access n as′ >>= (λ x. count y 4 >>= (λ m. times m (access n as′) >>= (λ rs. done (made x rs))))) b (k + 2)) t
+          ∙ sym (after-value (natural 0 3) _ b k v (k + 1) e ∙ after-value (natural 0 (cond (eqb v 3) 0 32767)) _ b (k + 1) c (k + 2) constant-read)
 
 -- ---- its accesses, the written one first
 

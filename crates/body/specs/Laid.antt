@@ -3,15 +3,13 @@ use mathlib.Core.List.{List, [], _∷_, map, flatMap}
 use Prim.Native.Nat.{ℕ, suc, _*_}
 use lib.IntN.{ℤ}
 use lib.ListN.{length}
-use Rattle.model.specs.Ticket.{Subscript, Access, Statement}
+use Rattle.model.specs.Ticket.{Access, Statement}
 use Rattle.model.specs.Bounds.{accessesOf}
 use Rattle.arrays.specs.Laid.{layRows}
-
-unfoldable pub subscriptWords : Subscript → List ℤ
-subscriptWords s = s .constant ∷ s .coefficients
+use Rattle.nest.specs.Laid.{affineWords}
 
 unfoldable pub layAccess : List ℤ → ℕ → Access → List ℤ
-layAccess s k a = layRows 8 s (k * 3) (map subscriptWords (a .subscripts))
+layAccess s k a = layRows 8 s (k * 3) (map affineWords (a .subscripts))
 
 -- accesses from access k on
 unfoldable pub layAccesses : List ℤ → ℕ → List Access → List ℤ

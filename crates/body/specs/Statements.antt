@@ -8,38 +8,15 @@ use Rattle.lists.specs.Parts.{put}
 use Rattle.model.specs.Ticket as Model
 use Rattle.model.specs.Bounds.{accessesOf}
 use Rattle.model.specs.Grammar as Grammar
-use Rattle.model.specs.Grammar.{Reader, _>>=_, count, times, subscript}
-use Rattle.model.specs.Ranges.{SubscriptRanges}
+use Rattle.model.specs.Grammar.{Reader, _>>=_, count, times}
 use Rattle.reading.specs.Refusals.{Reached, Reads}
 use Rattle.reading.specs.declared.Status.the-variants.{Fine}
 use Rattle.elements.specs.Layout.{arraysOf}
 use Rattle.body.specs.Laid.{layAccess, layAccesses, arrayNumbers, accessesIn, sizeOf}
-use Rattle.body.specs.declared.Subscript.{Subscript}
-use Rattle.body.specs.declared.SubscriptRead.{SubscriptRead}
 use Rattle.body.specs.declared.AccessRead.{AccessRead}
 use Rattle.body.specs.declared.AccessesRead.{AccessesRead}
 use Rattle.body.specs.declared.StatementRead.{StatementRead}
 use Rattle.body.specs.declared.BodyRead.{BodyRead}
-
--- ---- one subscript; n is the number of loops
-
-unfoldable pub subscriptOf : ℕ → Subscript → Model.Subscript
-subscriptOf n s = record { constant = s .constant; coefficients = take n (s .coefficients) }
-
--- counts within the arrays
-pub record SubscriptIn (s : Subscript) : Type 0 where
-  pub room : length (s .coefficients) ≡ 6
-
-pub record ReadsSubscript (b : List ℕ) (k n : ℕ) (r : SubscriptRead) : Type 0 where
-  pub reads : Reads (subscript n b k) b (r .status) (subscriptOf n (r .subscript)) (r .next)
-  pub within : SubscriptIn (r .subscript)
-
--- a subscript can be laid; `room` is the number of words
-pub record LaySubscriptIn (room j n : ℕ) (s : Subscript) : Type 0 where
-  pub fits : j * 8 + 8 ≤ room
-  pub shallow : n ≤ 6
-  pub within : SubscriptIn s
-  pub ranges : SubscriptRanges (subscriptOf n s)
 
 -- ---- what the readers ask: m arrays on a slice, and room for 20 accesses
 

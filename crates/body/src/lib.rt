@@ -4,27 +4,12 @@ ghost use Prim.Native.Nat.{_+_, _*_, _<_, _≤_};
 ghost use mathlib.Core.Bool.{cond};
 ghost use lib.Dec.{eqb};
 ghost use lib.ListN.{length};
-ghost use Rattle.lists.specs.Parts.{put};
 ghost use Rattle.reading.specs.Refusals.{Reached};
 ghost use Rattle.reading.specs.declared.Status.the-variants.{Refused};
-ghost use Rattle.body.specs.Laid.{subscriptWords};
-ghost use Rattle.body.specs.Statements.{subscriptOf, SubscriptIn, LaySubscriptIn, Room, ReadsSubscript, ReadsAccess, ReadsAccesses, ReadsStatement, ReadsBody};
+ghost use Rattle.body.specs.Statements.{Room, ReadsAccess, ReadsAccesses, ReadsStatement, ReadsBody};
 use reading::Natural;
-use reading::Number;
 use reading::Refusal;
 use reading::Status;
-
-// constant + coefficients · indices of all loops.
-pub struct Subscript {
-    pub constant: i32,
-    pub coefficients: [i32; 6],
-}
-
-pub struct SubscriptRead {
-    pub status: Status,
-    pub subscript: Subscript,
-    pub next: usize,
-}
 
 pub struct AccessRead {
     pub status: Status,
@@ -52,59 +37,6 @@ pub struct BodyRead {
     pub count: usize,
     pub accesses: usize,
     pub next: usize,
-}
-
-fn no_subscript(r: Refusal, at: usize) -> SubscriptRead
-    ensures { λ q. ⌜ (q .status ≡ Refused r) × (q .next ≡ at) × SubscriptIn (q .subscript) ⌝ }
-{
-    SubscriptRead {
-        status: Status::Refused(r),
-        subscript: Subscript {
-            constant: 0,
-            coefficients: [0i32; 6],
-        },
-        next: at,
-    }
-}
-
-// A constant and one coefficient for each loop.
-pub fn read_subscript(s: &[u8], at: usize, depth: usize) -> SubscriptRead
-    requires { ⌜ Reached (now s) at × (depth ≤ 6) ⌝ }
-    ensures { λ r. ⌜ ReadsSubscript (now (s .entry)) at depth r ⌝ }
-{
-    let constant = match reading::read_number(s, at) {
-        Number::Value(v) => v,
-        Number::Refused(r) => return no_subscript(r, at),
-    };
-    let all = reading::read_row(s, at + 1, depth);
-    let status = all.status;
-    match status {
-        Status::Fine => {
-            let coefficients = all.row;
-            let next = all.next;
-            SubscriptRead {
-                status: Status::Fine,
-                subscript: Subscript {
-                    constant: constant,
-                    coefficients: coefficients,
-                },
-                next: next,
-            }
-        }
-        Status::Refused(r) => no_subscript(r, at),
-    }
-}
-
-// Subscript j of all.
-fn lay_subscript(words: &mut [i16], j: usize, subscript: Subscript, depth: usize)
-    requires { ⌜ LaySubscriptIn (length (now words)) j depth subscript ⌝ }
-    ensures { λ _. ⌜ now (words .exit) ≡ put (now (words .entry)) (j * 8) (subscriptWords (subscriptOf depth subscript)) ⌝ }
-{
-    let at = j * 8;
-    let constant = subscript.constant;
-    let coefficients = subscript.coefficients;
-    words[at] = constant as i16;
-    rows::lay_row(words, at + 1, &coefficients[..depth]);
 }
 
 // Access k: the number of an array, from 1, and a subscript for each of its dimensions.
@@ -136,12 +68,12 @@ fn read_access(
     let mut next = at + 1;
     let mut d = 0;
     while d < dimensions {
-        let one = read_subscript(s, next, depth);
+        let one = nest::read_affine(s, next, depth);
         let status = one.status;
         match status {
             Status::Fine => {
-                let subscript = one.subscript;
-                lay_subscript(words, k * 3 + d, subscript, depth);
+                let subscript = one.affine;
+                nest::lay_affine(words, (k * 3 + d) * 8, subscript, depth);
                 next = one.next;
                 d += 1;
             }

@@ -21,8 +21,7 @@ use Rattle.model.proofs.Grammar.LoopReading.{LoopRead, loop-meets}
 use Rattle.bounds.specs.Flat.{loopsFrom, NestOk}
 use Rattle.reading.specs.Refusals.{answer, firstOf, Reached}
 use Rattle.reading.specs.declared.Status.{Status}
-use Rattle.reading.specs.declared.Status.the-variants as Status
-use Rattle.reading.proofs.ReaderLaws.{after-value, after-refusal, before, before-none, repeated, repeated-more, repeated-no, repeated-done}
+use Rattle.reading.proofs.ReaderLaws.{after-value, after-refusal, both-read, before, before-none, repeated, repeated-more, repeated-no, repeated-done}
 use Rattle.nest.specs.Laid.{layLimits, layLoop, layCount, layLoops, layCounts}
 use Rattle.nest.specs.Nested.{SideIn, Room, ReadsSide, ReadsLoop}
 use Rattle.nest.specs.declared.SideRead.{SideRead}
@@ -31,15 +30,6 @@ use Rattle.nest.proofs.LoopLaws.{loops-more, counts-more, count-length,
 use Rattle.nest.proofs.NestLaws.{ranges-more, nest-back, nest-ok}
 
 -- ---- the two sides of a loop
-
-module _ (k : ℕ) (b : List ℕ) (at : ℕ) where
-  -- the first refusal decides
-  pub both-sides : (s t : Status) (l u : List Limit) (j i : ℕ) → answer s l j ≡ side 4 k b at → answer t u i ≡ side 4 k b j
-      → answer (firstOf s t) (record { lower = l; upper = u }) i ≡ loop 4 k b at
-  unfolding loop done
-  both-sides (Status.Refused r) t l u j i e f = sym (after-refusal (side 4 k) _ b at _ _ (sym e))
-  both-sides Status.Fine (Status.Refused r) l u j i e f = sym (after-value (side 4 k) _ b at l j (sym e) ∙ after-refusal (side 4 k) _ b j _ _ (sym f))
-  both-sides Status.Fine Status.Fine l u j i e f = sym (after-value (side 4 k) _ b at l j (sym e) ∙ after-value (side 4 k) _ b j u i (sym f))
 
 module _ (b : List ℕ) (at k : ℕ) (w : List ℤ) (c : List ℕ) (q : Room w c) (h : k < 6) where
   pub lower-in : Reached b at → SideIn b at k (k * 32) (length w)
@@ -74,10 +64,11 @@ module _ (b : List ℕ) (at k : ℕ) (w : List ℤ) (c : List ℕ) (q : Room w c
 
       pub loop-reads : (a : Status) → a ≡ firstOf (l .status) (u .status)
           → ReadsLoop b at k w x c (set (set c (k * 2) (l .count)) (k * 2 + 1) (u .count)) (record { status = a; next = u .next })
+      unfolding loop
       loop-reads a e = record {
         body = body;
         reads = record {
-          same = ap (λ z. answer z body (u .next)) e ∙ both-sides k b at (l .status) (u .status) (s .limits) (t .limits) (l .next) (u .next) (s .reads .same) (t .reads .same);
+          same = ap (λ z. answer z body (u .next)) e ∙ both-read (side 4 k) (λ _. side 4 k) (λ x y. record { lower = x; upper = y }) b at (l .status) (u .status) (s .limits) (t .limits) (l .next) (u .next) (s .reads .same) (t .reads .same);
           reached = t .reads .reached;
         };
         laid = loop-laid;

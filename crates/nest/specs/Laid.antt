@@ -4,8 +4,12 @@ use Prim.Native.Nat.{ℕ, suc, _+_, _*_}
 use lib.IntN.{ℤ}
 use lib.ListN.{length, set}
 use Rattle.lists.specs.Parts.{put}
-use Rattle.model.specs.Ticket.{Limit, Loop}
+use Rattle.model.specs.Ticket.{Limit, Loop, Subscript}
 use Rattle.model.specs.Encode.{limitWords}
+
+-- a constant and its coefficients
+unfoldable pub affineWords : Subscript → List ℤ
+affineWords f = f .constant ∷ f .coefficients
 
 -- limits from limit j on
 unfoldable pub layLimits : List ℤ → ℕ → List Limit → List ℤ

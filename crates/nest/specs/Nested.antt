@@ -8,18 +8,40 @@ use lib.ListN.{length, take}
 use Rattle.lists.specs.Membership.{All}
 use Rattle.integers.specs.Affine.{Within}
 use Rattle.model.specs.Ticket as Model
-use Rattle.model.specs.Grammar.{limit, side, loop, loops}
+use Rattle.model.specs.Grammar.{limit, side, loop, loops, subscript}
 use Rattle.model.specs.Shape.{Sized}
-use Rattle.model.specs.Ranges.{LimitRanges}
+use Rattle.model.specs.Ranges.{LimitRanges, SubscriptRanges}
 use Rattle.bounds.specs.Flat.{loopsFrom, NestOk}
 use Rattle.reading.specs.Refusals.{Reached, Reads}
 use Rattle.reading.specs.declared.Status.the-variants.{Fine}
+use Rattle.nest.specs.declared.Affine.{Affine}
+use Rattle.nest.specs.declared.AffineRead.{AffineRead}
 use Rattle.nest.specs.declared.Limit.{Limit}
 use Rattle.nest.specs.declared.LimitRead.{LimitRead}
 use Rattle.nest.specs.declared.SideRead.{SideRead}
 use Rattle.nest.specs.declared.LoopRead.{LoopRead}
 use Rattle.nest.specs.declared.NestRead.{NestRead}
 use Rattle.nest.specs.Laid.{layLimits, layLoop, layCount}
+
+-- ---- a constant and coefficients of n loops
+
+unfoldable pub affineOf : ℕ → Affine → Model.Subscript
+affineOf n f = record { constant = f .constant; coefficients = take n (f .coefficients) }
+
+-- counts within the arrays
+pub record AffineIn (f : Affine) : Type 0 where
+  pub room : length (f .coefficients) ≡ 6
+
+pub record ReadsAffine (b : List ℕ) (k n : ℕ) (r : AffineRead) : Type 0 where
+  pub reads : Reads (subscript n b k) b (r .status) (affineOf n (r .affine)) (r .next)
+  pub within : AffineIn (r .affine)
+
+-- they can be laid from word `at` on; `room` is the number of words
+pub record LayAffineIn (room at n : ℕ) (f : Affine) : Type 0 where
+  pub fits : at + 1 + n ≤ room
+  pub shallow : n ≤ 6
+  pub within : AffineIn f
+  pub ranges : SubscriptRanges (affineOf n f)
 
 -- ---- one limit; n loops stand outside
 

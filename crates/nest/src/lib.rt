@@ -4,13 +4,33 @@ ghost use Prim.Native.Nat.{_+_, _*_, _<_, _≤_};
 ghost use lib.ListN.{length};
 ghost use Rattle.lists.specs.Parts.{put};
 ghost use Rattle.model.specs.Encode.{limitWords};
-ghost use Rattle.reading.specs.Refusals.{Reached};
+ghost use Rattle.model.specs.Grammar.{number};
+ghost use Rattle.reading.specs.Refusals.{Reached, Reads};
 ghost use Rattle.reading.specs.declared.Status.the-variants.{Refused};
-ghost use Rattle.nest.specs.Nested.{limitOf, LimitIn, LayLimitIn, SideIn, Room, ReadsLimit, ReadsSide, ReadsLoop, ReadsNest};
+ghost use Rattle.nest.specs.Laid.{affineWords};
+ghost use Rattle.nest.specs.Nested.{affineOf, LayAffineIn, ReadsAffine, limitOf, LimitIn, LayLimitIn, SideIn, Room, ReadsLimit, ReadsSide, ReadsLoop, ReadsNest};
 use reading::Natural;
 use reading::Number;
 use reading::Refusal;
 use reading::Status;
+
+// constant + coefficients · indices.
+pub struct Affine {
+    pub constant: i32,
+    pub coefficients: [i32; 6],
+}
+
+pub struct ConstantRead {
+    pub status: Status,
+    pub value: i32,
+    pub next: usize,
+}
+
+pub struct AffineRead {
+    pub status: Status,
+    pub affine: Affine,
+    pub next: usize,
+}
 
 // multiplier × index against constant + coefficients · indices of the loops outside. Words have 16 bits, and of such numbers a step makes
 // none beyond 2 × 32767² < 2³¹ before the test of refusal 12: 32 bits hold all, and a limit goes by value, so its size is its price.
@@ -44,6 +64,46 @@ pub struct NestRead {
     pub next: usize,
 }
 
+// The constant of a limit or a subscript, and the word after it.
+pub fn read_constant(s: &[u8], at: usize) -> ConstantRead
+    requires { ⌜ Reached (now s) at ⌝ }
+    ensures { λ r. ⌜ Reads (number (now (s .entry)) at) (now (s .entry)) (r .status) (r .value) (r .next) ⌝ }
+{
+    match reading::read_number(s, at) {
+        Number::Value(v) => ConstantRead {
+            status: Status::Fine,
+            value: v,
+            next: at + 1,
+        },
+        Number::Refused(r) => ConstantRead {
+            status: Status::Refused(r),
+            value: 0,
+            next: at,
+        },
+    }
+}
+
+// A constant and one coefficient for each of n loops. They are read from where the constant was refused too, and not looked at.
+pub fn read_affine(s: &[u8], at: usize, n: usize) -> AffineRead
+    requires { ⌜ Reached (now s) at × (n ≤ 6) ⌝ }
+    ensures { λ r. ⌜ ReadsAffine (now (s .entry)) at n r ⌝ }
+{
+    let first = read_constant(s, at);
+    let others = reading::read_row(s, first.next, n);
+    let a = first.status;
+    let b = others.status;
+    let status = reading::first_of(a, b);
+    let coefficients = others.row;
+    AffineRead {
+        status: status,
+        affine: Affine {
+            constant: first.value,
+            coefficients: coefficients,
+        },
+        next: others.next,
+    }
+}
+
 fn no_limit(r: Refusal, at: usize) -> LimitRead
     ensures { λ q. ⌜ (q .status ≡ Refused r) × (q .next ≡ at) × LimitIn (q .limit) ⌝ }
 {
@@ -67,28 +127,30 @@ pub fn read_limit(s: &[u8], at: usize, outer: usize) -> LimitRead
         Natural::Value(v) => v,
         Natural::Refused(r) => return no_limit(r, at),
     };
-    let constant = match reading::read_number(s, at + 1) {
-        Number::Value(v) => v,
-        Number::Refused(r) => return no_limit(r, at),
-    };
-    let all = reading::read_row(s, at + 2, outer);
-    let status = all.status;
-    match status {
-        Status::Fine => {
-            let coefficients = all.row;
-            let next = all.next;
-            LimitRead {
-                status: Status::Fine,
-                limit: Limit {
-                    multiplier: multiplier as u32,
-                    constant: constant,
-                    coefficients: coefficients,
-                },
-                next: next,
-            }
-        }
-        Status::Refused(r) => no_limit(r, at),
+    let rest = read_affine(s, at + 1, outer);
+    let status = rest.status;
+    let affine = rest.affine;
+    let coefficients = affine.coefficients;
+    LimitRead {
+        status: status,
+        limit: Limit {
+            multiplier: multiplier as u32,
+            constant: affine.constant,
+            coefficients: coefficients,
+        },
+        next: rest.next,
     }
+}
+
+// A constant and n coefficients, from word `at` on.
+pub fn lay_affine(words: &mut [i16], at: usize, affine: Affine, n: usize)
+    requires { ⌜ LayAffineIn (length (now words)) at n affine ⌝ }
+    ensures { λ _. ⌜ now (words .exit) ≡ put (now (words .entry)) at (affineWords (affineOf n affine)) ⌝ }
+{
+    let constant = affine.constant;
+    let coefficients = affine.coefficients;
+    words[at] = constant as i16;
+    rows::lay_row(words, at + 1, &coefficients[..n]);
 }
 
 // Limit j of all, of a loop with `outer` loops outside.
@@ -97,11 +159,13 @@ fn lay_limit(words: &mut [i16], j: usize, limit: Limit, outer: usize)
     ensures { λ _. ⌜ now (words .exit) ≡ put (now (words .entry)) (j * 8) (limitWords (limitOf outer limit)) ⌝ }
 {
     let at = j * 8;
-    let constant = limit.constant;
     let coefficients = limit.coefficients;
+    let affine = Affine {
+        constant: limit.constant,
+        coefficients: coefficients,
+    };
     words[at] = limit.multiplier as i16;
-    words[at + 1] = constant as i16;
-    rows::lay_row(words, at + 2, &coefficients[..outer]);
+    lay_affine(words, at + 1, affine, outer);
 }
 
 // A count from 1 to 4 and as many limits, laid from limit j on.

@@ -70,6 +70,32 @@ module _ {A B C : Type 0} (m : Reader A) (f : A → Reader B) (g : B → Reader 
   unfolding _>>=_
   regrouped k = sym (goes-on (m b k))
 
+-- two readers and a value made of theirs
+module _ {A B C : Type 0} (m : Reader A) (f : A → Reader B) (h : A → B → C) (b : List ℕ) where
+  -- where both are read, the first refusal decides
+  pub both-read : (k : ℕ) (s t : Status) (a : A) (c : B) (j i : ℕ) → answer s a j ≡ m b k → answer t c i ≡ f a b j
+      → answer (firstOf s t) (h a c) i ≡ (m >>= (λ x. f x >>= (λ y. done (h x y)))) b k
+  unfolding done
+  both-read k (Status.Refused r) t a c j i p q = sym (after-refusal m _ b k _ _ (sym p))
+  both-read k Status.Fine (Status.Refused r) a c j i p q = sym (after-value m _ b k a j (sym p) ∙ after-refusal (f a) _ b j _ _ (sym q))
+  both-read k Status.Fine Status.Fine a c j i p q = sym (after-value m _ b k a j (sym p) ∙ after-value (f a) _ b j c i (sym q))
+
+  made-of : {D : Type 0} (g : C → D) (a : A) (x : Answer (Read B))
+      → Answer._>>=_ (Answer._>>=_ x (λ r. done (h a (r .value)) b (r .next))) (λ r. done (g (r .value)) b (r .next)) ≡ Answer._>>=_ x (λ r. done (g (h a (r .value))) b (r .next))
+  unfolding Answer._>>=_ done
+  made-of g a (accepted r) = refl
+  made-of g a (refused n p) = refl
+
+  -- another value made of that one
+  pub made-twice : {D : Type 0} (g : C → D) (k : ℕ) → ((m >>= (λ x. f x >>= (λ y. done (h x y)))) >>= (λ z. done (g z))) b k ≡ (m >>= (λ x. f x >>= (λ y. done (g (h x y))))) b k
+  unfolding _>>=_
+  made-twice g k = by (m b k)
+    where
+      by : (x : Answer (Read A)) → Answer._>>=_ (Answer._>>=_ x (λ r. (f (r .value) >>= (λ y. done (h (r .value) y))) b (r .next))) (λ r. done (g (r .value)) b (r .next))
+          ≡ Answer._>>=_ x (λ r. (f (r .value) >>= (λ y. done (g (h (r .value) y)))) b (r .next))
+      by (accepted r) = unfold _>>=_ Answer._>>=_ in made-of g (r .value) (f (r .value) b (r .next))
+      by (refused n p) = unfold Answer._>>=_ in refl
+
 -- ---- repeated, with a state that each value changes
 
 unfoldable pub repeated : {S A : Type 0} → (S → Reader A) → (S → A → S) → ℕ → S → Reader (List A)

@@ -63,22 +63,25 @@ loop-holds : tie.Need-loop-holds Inv-loop μ-loop
 loop-holds c = let k = known-of (OnNatural _ _ _ _) (c .before .before .v .given .1) (c .before .before .before .before .read-natural .ensures .known) in
     filling-starts _ _ _ _ _ _ (c .before .before .before .before .before .before .before .before .pre .0 .arrays .dimensions _ (omega arith)) (k .reached)
 
-read-subscript-requires : tie.Need-read-subscript-requires Inv-loop μ-loop
-read-subscript-requires c κs = (c .before .loop .inv .reached, c .before .before .before .before .before .before .before .before .before .before .pre .0 .shallow)
+read-affine-requires : tie.Need-read-affine-requires Inv-loop μ-loop
+read-affine-requires c κs = (c .before .loop .inv .reached, c .before .before .before .before .before .before .before .before .before .before .pre .0 .shallow)
 
 enum-told : tie.Need-enum-told Inv-loop μ-loop
 enum-told c = search needs
 
-mul-lay-subscript : tie.Need-mul-lay-subscript Inv-loop μ-loop
-mul-lay-subscript c = search needs
+mul-lay-affine : tie.Need-mul-lay-affine Inv-loop μ-loop
+mul-lay-affine c = search needs
 
-add-lay-subscript : tie.Need-add-lay-subscript Inv-loop μ-loop
-add-lay-subscript c = search needs
+add-lay-affine : tie.Need-add-lay-affine Inv-loop μ-loop
+add-lay-affine c = search needs
 
-lay-subscript-requires : tie.Need-lay-subscript-requires Inv-loop μ-loop
-lay-subscript-requires c κs = let e = read-value (c .before .before .enum-told .given .1) (c .before .before .before .before .read-subscript .ensures .reads) in
+mul-lay-affine-2 : tie.Need-mul-lay-affine-2 Inv-loop μ-loop
+mul-lay-affine-2 c = search needs
+
+lay-affine-requires : tie.Need-lay-affine-requires Inv-loop μ-loop
+lay-affine-requires c κs = let e = read-value (c .before .before .enum-told .given .1) (c .before .before .before .before .read-affine .ensures .reads) in
     let p = c .before .before .before .before .before .before .before .before .before .before .before .before .before .before .before .pre .0 in
-    next-in _ _ _ _ _ _ _ _ _ (c .before .before .before .before .before .before .loop .inv) _ _ (c .before .before .before .before .before .loop-test .taken) e (p .words) (c .before .before .before .before .before .before .before .before .before .before .before .before .before .before .before .pre .1) (p .shallow) (c .before .before .before .before .read-subscript .ensures .within)
+    next-in _ _ _ _ _ _ _ _ _ (c .before .before .before .before .before .before .loop .inv) _ _ (c .before .before .before .before .before .loop-test .taken) e (p .words) (c .before .before .before .before .before .before .before .before .before .before .before .before .before .before .before .pre .1) (p .shallow) (c .before .before .before .before .read-affine .ensures .within)
 
 add-d : tie.Need-add-d Inv-loop μ-loop
 add-d c = search needs
@@ -87,8 +90,8 @@ loop-less : tie.Need-loop-less Inv-loop μ-loop
 loop-less c = search needs
 
 loop-again : tie.Need-loop-again Inv-loop μ-loop
-loop-again c = let e = read-value (c .before .before .before .before .enum-told .given .1) (c .before .before .before .before .before .before .read-subscript .ensures .reads) in
-    filling-more _ _ _ _ _ _ _ _ _ (c .before .before .before .before .before .before .before .before .loop .inv) _ _ (c .before .before .before .before .before .before .before .loop-test .taken) e _ (c .before .lay-subscript .ensures) (search needs) (c .before .before .before .before .before .before .read-subscript .ensures .reads .reached)
+loop-again c = let e = read-value (c .before .before .before .before .enum-told .given .1) (c .before .before .before .before .before .before .read-affine .ensures .reads) in
+    filling-more _ _ _ _ _ _ _ _ _ (c .before .before .before .before .before .before .before .before .loop .inv) _ _ (c .before .before .before .before .before .before .before .loop-test .taken) e _ (c .before .lay-affine .ensures) (search needs) (c .before .before .before .before .before .before .read-affine .ensures .reads .reached)
 
 enum-known-status : tie.Need-enum-known-status Inv-loop μ-loop
 enum-known-status c = search needs
@@ -103,7 +106,7 @@ returns-2 : tie.Need-returns-2 Inv-loop μ-loop
 returns-2 c = let i = c .before .before .before .before .before .loop .inv in
     let k = known-of (OnNatural _ _ _ _) (c .before .before .before .before .before .before .before .before .v .given .1) (c .before .before .before .before .before .before .before .before .before .before .read-natural .ensures .known) in
     let e = seen (naturalAnswer _) (c .before .before .before .before .before .before .before .before .v .given .1) (c .before .before .before .before .before .before .before .before .before .before .read-natural .ensures .same) in
-    let g = read-refusal (c .before .status .given .1) (c .before .before .before .read-subscript .ensures .reads) in
+    let g = read-refusal (c .before .status .given .1) (c .before .before .before .read-affine .ensures .reads) in
     let p = c .before .before .before .before .before .before .before .before .before .before .before .before .before .before .pre .0 in
     record {
       access = record { array = 0; subscripts = [] };
@@ -154,11 +157,12 @@ read-access-spec =
     slice-write-owners
     add-next
     loop-holds
-    read-subscript-requires
+    read-affine-requires
     enum-told
-    mul-lay-subscript
-    add-lay-subscript
-    lay-subscript-requires
+    mul-lay-affine
+    add-lay-affine
+    mul-lay-affine-2
+    lay-affine-requires
     add-d
     loop-less
     loop-again

@@ -29,7 +29,7 @@ pub record SubscriptRead (depth : ℕ) (s : Subscript) : Type 0 where
   pub ranges : SubscriptRanges s
   pub wide : length (s .coefficients) ≡ depth
 
-subscript-meets : (depth : ℕ) → Meets (subscript depth) (As (SubscriptRead depth) subscriptWords)
+pub subscript-meets : (depth : ℕ) → Meets (subscript depth) (As (SubscriptRead depth) subscriptWords)
 unfolding subscript
 subscript-meets depth = bind number-meets (λ c s. bind (numbers-meet depth) (λ cs e. done-meets (record { constant = c; coefficients = cs })
     (record { holds = record { ranges = record { constant = s; coefficients = e .holds }; wide = e .number }; words = ap (c ∷_) (append-nil cs) })))
