@@ -6,7 +6,7 @@ use Prim.Native.Nat.{ℕ, _+_, _*_, _≤_}
 use lib.ListN.{length, take}
 use Rattle.lists.specs.Membership.{All}
 use Rattle.model.specs.Grammar as Grammar
-use Rattle.model.specs.Grammar.{elements, total, shape, array}
+use Rattle.model.specs.Grammar.{elements, total, shape, array, mostDimensions, mostArrays, arrayRoom}
 use Rattle.model.specs.Ranges.{ArrayRanges}
 use Rattle.reading.specs.Refusals.{Reads}
 use Rattle.reading.specs.declared.Status.the-variants.{Fine}
@@ -23,8 +23,8 @@ shapeOf a = take (a .dimensions) (a .extents)
 
 -- counts within the arrays
 pub record ShapeIn (a : Shape) : Type 0 where
-  pub few : a .dimensions ≤ 3
-  pub room : length (a .extents) ≡ 3
+  pub few : a .dimensions ≤ mostDimensions
+  pub room : length (a .extents) ≡ mostDimensions
 
 pub record ReadsShape (b : List ℕ) (k : ℕ) (r : ShapeRead) : Type 0 where
   pub reads : Reads (shape b k) b (r .status) (shapeOf (r .shape)) (r .next)
@@ -43,7 +43,7 @@ pub record ReadsArray (t : ℕ) (b : List ℕ) (k : ℕ) (r : ShapeRead) : Type 
 
 -- an array can be laid; `room` is the number of words
 pub record LayShapeIn (room i : ℕ) (a : Shape) : Type 0 where
-  pub fits : i * 4 + 4 ≤ room
+  pub fits : i * arrayRoom + arrayRoom ≤ room
   pub within : ShapeIn a
 
 -- ---- all arrays
@@ -52,9 +52,9 @@ pub record ReadsArrays (b : List ℕ) (at : ℕ) (e e′ : List ℕ) (r : Arrays
   pub arrays : List (List ℕ)
   pub reads : Reads (Grammar.arrays b at) b (r .status) arrays (r .next)
   pub count : length arrays ≡ r .count
-  pub few : r .count ≤ 4
+  pub few : r .count ≤ mostArrays
   pub ranges : All ArrayRanges arrays
   pub room : total arrays ≤ 16384
-  pub laid : e′ ≡ layRows 4 e 0 (map shapeWords arrays)
+  pub laid : e′ ≡ layRows arrayRoom e 0 (map shapeWords arrays)
   -- as they stand on the slice
-  pub same : arraysOf (take (r .count * 4) e′) ≡ arrays
+  pub same : arraysOf (take (r .count * arrayRoom) e′) ≡ arrays

@@ -3,10 +3,14 @@ ghost use mathlib.Core.Path.{_≡_};
 ghost use Prim.Native.Nat.{_*_, _≤_};
 ghost use lib.ListN.{length};
 ghost use Rattle.lists.specs.Parts.{put};
+ghost use Rattle.model.specs.Grammar.{mostDimensions, arrayRoom, mostExtents};
 ghost use Rattle.reading.specs.Refusals.{Reached};
 ghost use Rattle.reading.specs.declared.Status.the-variants.{Refused};
 ghost use Rattle.arrays.specs.Laid.{shapeWords};
 ghost use Rattle.arrays.specs.Arrays.{shapeOf, LayShapeIn, ReadsShape, ReadsArray, ReadsArrays};
+use model::ARRAY_ROOM;
+use model::ARRAYS;
+use model::DIMENSIONS;
 use reading::Natural;
 use reading::Refusal;
 use reading::Status;
@@ -14,7 +18,7 @@ use reading::Status;
 // An array: its first `dimensions` extents.
 pub struct Shape {
     pub dimensions: usize,
-    pub extents: [usize; 3],
+    pub extents: [usize; DIMENSIONS],
 }
 
 // With the number of its elements.
@@ -33,29 +37,29 @@ pub struct ArraysRead {
 }
 
 fn no_shape(r: Refusal, at: usize) -> ShapeRead
-    ensures { λ q. ⌜ (q .status ≡ Refused r) × (q .next ≡ at) × (q .shape .dimensions ≡ 0) × (length (q .shape .extents) ≡ 3) × (q .elements ≡ 1) ⌝ }
+    ensures { λ q. ⌜ (q .status ≡ Refused r) × (q .next ≡ at) × (q .shape .dimensions ≡ 0) × (length (q .shape .extents) ≡ mostDimensions) × (q .elements ≡ 1) ⌝ }
 {
     ShapeRead {
         status: Status::Refused(r),
         shape: Shape {
             dimensions: 0,
-            extents: [0usize; 3],
+            extents: [0usize; DIMENSIONS],
         },
         elements: 1,
         next: at,
     }
 }
 
-// A count from 1 to 3 and as many extents from 1 to 4096.
+// A count and as many extents from 1 to 4096.
 pub fn read_shape(s: &[u8], at: usize) -> ShapeRead
     requires { ⌜ Reached (now s) at ⌝ }
     ensures { λ r. ⌜ ReadsShape (now (s .entry)) at r ⌝ }
 {
-    let dimensions = match reading::read_count(s, at, 1, 3) {
+    let dimensions = match reading::read_count(s, at, 1, DIMENSIONS) {
         Natural::Value(v) => v,
         Natural::Refused(r) => return no_shape(r, at),
     };
-    let mut extents = [0usize; 3];
+    let mut extents = [0usize; DIMENSIONS];
     let mut elements = 1;
     let mut next = at + 1;
     let mut k = 0;
@@ -102,9 +106,9 @@ pub fn read_array(s: &[u8], at: usize, total: usize) -> ShapeRead
 // Array i of all.
 fn lay_shape(extents: &mut [usize], i: usize, shape: Shape)
     requires { ⌜ LayShapeIn (length (now extents)) i shape ⌝ }
-    ensures { λ _. ⌜ now (extents .exit) ≡ put (now (extents .entry)) (i * 4) (shapeWords (shapeOf shape)) ⌝ }
+    ensures { λ _. ⌜ now (extents .exit) ≡ put (now (extents .entry)) (i * arrayRoom) (shapeWords (shapeOf shape)) ⌝ }
 {
-    let at = i * 4;
+    let at = i * ARRAY_ROOM;
     let dimensions = shape.dimensions;
     let row = shape.extents;
     extents[at] = dimensions;
@@ -115,12 +119,12 @@ fn lay_shape(extents: &mut [usize], i: usize, shape: Shape)
     }
 }
 
-// A count from 1 to 4 and as many arrays.
+// A count and as many arrays.
 pub fn read_arrays(s: &[u8], at: usize, extents: &mut [usize]) -> ArraysRead
-    requires { ⌜ Reached (now s) at × (length (now extents) ≡ 16) ⌝ }
+    requires { ⌜ Reached (now s) at × (length (now extents) ≡ mostExtents) ⌝ }
     ensures { λ r. ⌜ ReadsArrays (now (s .entry)) at (now (extents .entry)) (now (extents .exit)) r ⌝ }
 {
-    let count = match reading::read_count(s, at, 1, 4) {
+    let count = match reading::read_count(s, at, 1, ARRAYS) {
         Natural::Value(v) => v,
         Natural::Refused(r) => {
             return ArraysRead {

@@ -5,11 +5,12 @@ use lib.IntN.{ℤ}
 use lib.ListN.{length}
 use Rattle.model.specs.Ticket.{Access, Statement}
 use Rattle.model.specs.Bounds.{accessesOf}
+use Rattle.model.specs.Grammar.{mostDimensions, rowRoom}
 use Rattle.arrays.specs.Laid.{layRows}
 use Rattle.nest.specs.Laid.{affineWords}
 
 unfoldable pub layAccess : List ℤ → ℕ → Access → List ℤ
-layAccess s k a = layRows 8 s (k * 3) (map affineWords (a .subscripts))
+layAccess s k a = layRows rowRoom s (k * mostDimensions) (map affineWords (a .subscripts))
 
 -- accesses from access k on
 unfoldable pub layAccesses : List ℤ → ℕ → List Access → List ℤ

@@ -8,7 +8,7 @@ use Rattle.lists.specs.Parts.{put}
 use Rattle.model.specs.Ticket as Model
 use Rattle.model.specs.Bounds.{accessesOf}
 use Rattle.model.specs.Grammar as Grammar
-use Rattle.model.specs.Grammar.{Reader, _>>=_, count, times}
+use Rattle.model.specs.Grammar.{Reader, _>>=_, count, times, mostStatements, mostWrites, mostReads, mostAccesses, mostArrays, mostDimensions, mostLoops, arrayRoom, mostWords}
 use Rattle.reading.specs.Refusals.{Reached, Reads}
 use Rattle.reading.specs.declared.Status.the-variants.{Fine}
 use Rattle.elements.specs.Layout.{arraysOf}
@@ -18,20 +18,20 @@ use Rattle.body.specs.declared.AccessesRead.{AccessesRead}
 use Rattle.body.specs.declared.StatementRead.{StatementRead}
 use Rattle.body.specs.declared.BodyRead.{BodyRead}
 
--- ---- what the readers ask: m arrays on a slice, and room for 20 accesses
+-- ---- what the readers ask: m arrays on a slice, and room for all accesses
 
 pub record ArraysIn (e : List ℕ) (m : ℕ) : Type 0 where
-  pub length-is : length e ≡ m * 4
-  pub few : m ≤ 4
-  pub dimensions : (i : ℕ) → i < m → getD e (i * 4) 0 ≤ 3
+  pub length-is : length e ≡ m * arrayRoom
+  pub few : m ≤ mostArrays
+  pub dimensions : (i : ℕ) → i < m → getD e (i * arrayRoom) 0 ≤ mostDimensions
   pub extents : (j : ℕ) → getD e j 0 ≤ 4096
 
 pub record Room (b : List ℕ) (at n : ℕ) (e : List ℕ) (m rows names : ℕ) : Type 0 where
   pub reached : Reached b at
-  pub shallow : n ≤ 6
+  pub shallow : n ≤ mostLoops
   pub arrays : ArraysIn e m
-  pub words : rows ≡ 480
-  pub owners : names ≡ 20
+  pub words : rows ≡ mostWords
+  pub owners : names ≡ mostAccesses
 
 -- ---- one access
 
@@ -47,16 +47,16 @@ pub record Laid (k : ℕ) (as′ : List Model.Access) (w w′ : List ℤ) (o o�
   pub words : w′ ≡ layAccesses w k as′
   pub named : o′ ≡ put o k (arrayNumbers as′)
 
--- a count from lo to 4 and as many accesses
+-- a count from lo on and as many accesses
 unfoldable pub accesses : ℕ → ℕ → List (List ℕ) → Reader (List Model.Access)
 accesses lo n as′ = do
-  m ← count lo 4
+  m ← count lo mostReads
   times m (Grammar.access n as′)
 
 pub record ReadsAccesses (b : List ℕ) (at lo n : ℕ) (e : List ℕ) (k : ℕ) (w w′ : List ℤ) (o o′ : List ℕ) (r : AccessesRead) : Type 0 where
   pub list : List Model.Access
   pub reads : Reads (accesses lo n (arraysOf e) b at) b (r .status) list (r .next)
-  pub few : r .count ≤ 4
+  pub few : r .count ≤ mostReads
   pub count : r .status ≡ Fine → length list ≡ r .count
   pub laid : r .status ≡ Fine → Laid k list w w′ o o′
 
@@ -71,7 +71,7 @@ pub record StatementLaid (s : Model.Statement) (k : ℕ) (w w′ : List ℤ) (o 
 pub record ReadsStatement (b : List ℕ) (at n : ℕ) (e : List ℕ) (k : ℕ) (w w′ : List ℤ) (o o′ : List ℕ) (r : StatementRead) : Type 0 where
   pub statement : Model.Statement
   pub reads : Reads (Grammar.statement n (arraysOf e) b at) b (r .status) statement (r .next)
-  pub few : r .size ≤ 5
+  pub few : r .size ≤ mostWrites + mostReads
   pub laid : r .status ≡ Fine → StatementLaid statement k w w′ o o′ r
 
 -- sizes, rules and constants beside the accesses
@@ -86,6 +86,6 @@ pub record BodyLaid (ss : List Model.Statement) (w w′ : List ℤ) (o o′ ms r
 pub record ReadsBody (b : List ℕ) (at n : ℕ) (e : List ℕ) (w w′ : List ℤ) (o o′ ms rs cs : List ℕ) (r : BodyRead) : Type 0 where
   pub statements : List Model.Statement
   pub reads : Reads (Grammar.statements n (arraysOf e) b at) b (r .status) statements (r .next)
-  pub few : r .count ≤ 4
-  pub few-accesses : r .accesses ≤ 20
+  pub few : r .count ≤ mostStatements
+  pub few-accesses : r .accesses ≤ mostAccesses
   pub laid : r .status ≡ Fine → BodyLaid statements w w′ o o′ ms rs cs r

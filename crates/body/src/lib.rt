@@ -4,9 +4,15 @@ ghost use Prim.Native.Nat.{_+_, _*_, _<_, _≤_};
 ghost use mathlib.Core.Bool.{cond};
 ghost use lib.Dec.{eqb};
 ghost use lib.ListN.{length};
+ghost use Rattle.model.specs.Grammar.{mostStatements, mostWrites, mostReads, mostAccesses};
 ghost use Rattle.reading.specs.Refusals.{Reached};
 ghost use Rattle.reading.specs.declared.Status.the-variants.{Refused};
 ghost use Rattle.body.specs.Statements.{Room, ReadsAccess, ReadsAccesses, ReadsStatement, ReadsBody};
+use model::ARRAY_ROOM;
+use model::DIMENSIONS;
+use model::READS;
+use model::ROW_ROOM;
+use model::STATEMENTS;
 use reading::Natural;
 use reading::Refusal;
 use reading::Status;
@@ -50,7 +56,7 @@ fn read_access(
     owners: &mut [usize],
     k: usize,
 ) -> AccessRead
-    requires { ⌜ Room (now s) at depth (now extents) arrays (length (now words)) (length (now owners)) × (k < 20) ⌝ }
+    requires { ⌜ Room (now s) at depth (now extents) arrays (length (now words)) (length (now owners)) × (k < mostAccesses) ⌝ }
     ensures { λ r. ⌜ ReadsAccess (now (s .entry)) at depth (now (extents .entry)) k (now (words .entry)) (now (words .exit)) (now (owners .entry)) (now (owners .exit)) r ⌝ }
 {
     let number = match reading::read_natural(s, at, 1, arrays) {
@@ -63,7 +69,7 @@ fn read_access(
         }
     };
     let array = number - 1;
-    let dimensions = extents[array * 4];
+    let dimensions = extents[array * ARRAY_ROOM];
     owners[k] = array;
     let mut next = at + 1;
     let mut d = 0;
@@ -73,7 +79,7 @@ fn read_access(
         match status {
             Status::Fine => {
                 let subscript = one.affine;
-                nest::lay_affine(words, (k * 3 + d) * 8, subscript, depth);
+                nest::lay_affine(words, (k * DIMENSIONS + d) * ROW_ROOM, subscript, depth);
                 next = one.next;
                 d += 1;
             }
@@ -91,7 +97,7 @@ fn read_access(
     }
 }
 
-// A count from `least` to 4 and as many accesses, from access k on.
+// A count from `least` on and as many accesses, from access k on.
 fn read_accesses(
     s: &[u8],
     at: usize,
@@ -103,10 +109,10 @@ fn read_accesses(
     owners: &mut [usize],
     k: usize,
 ) -> AccessesRead
-    requires { ⌜ Room (now s) at depth (now extents) arrays (length (now words)) (length (now owners)) × (k + 4 ≤ 20) ⌝ }
+    requires { ⌜ Room (now s) at depth (now extents) arrays (length (now words)) (length (now owners)) × (k + mostReads ≤ mostAccesses) ⌝ }
     ensures { λ r. ⌜ ReadsAccesses (now (s .entry)) at least depth (now (extents .entry)) k (now (words .entry)) (now (words .exit)) (now (owners .entry)) (now (owners .exit)) r ⌝ }
 {
-    let count = match reading::read_count(s, at, least, 4) {
+    let count = match reading::read_count(s, at, least, READS) {
         Natural::Value(v) => v,
         Natural::Refused(r) => {
             return AccessesRead {
@@ -179,7 +185,7 @@ fn read_statement(
     owners: &mut [usize],
     k: usize,
 ) -> StatementRead
-    requires { ⌜ Room (now s) at depth (now extents) arrays (length (now words)) (length (now owners)) × (k + 5 ≤ 20) ⌝ }
+    requires { ⌜ Room (now s) at depth (now extents) arrays (length (now words)) (length (now owners)) × (k + (mostWrites + mostReads) ≤ mostAccesses) ⌝ }
     ensures { λ r. ⌜ ReadsStatement (now (s .entry)) at depth (now (extents .entry)) k (now (words .entry)) (now (words .exit)) (now (owners .entry)) (now (owners .exit)) r ⌝ }
 {
     let rule = match reading::read_natural(s, at, 0, 3) {
@@ -216,7 +222,7 @@ fn read_statement(
     }
 }
 
-// The section: a count from 1 to 4 and as many statements, in body order.
+// The section: a count and as many statements, in body order.
 pub fn read_body(
     s: &[u8],
     at: usize,
@@ -229,10 +235,10 @@ pub fn read_body(
     rules: &mut [usize],
     constants: &mut [usize],
 ) -> BodyRead
-    requires { ⌜ Room (now s) at depth (now extents) arrays (length (now words)) (length (now owners)) × (length (now sizes) ≡ 4) × (length (now rules) ≡ 4) × (length (now constants) ≡ 4) ⌝ }
+    requires { ⌜ Room (now s) at depth (now extents) arrays (length (now words)) (length (now owners)) × (length (now sizes) ≡ mostStatements) × (length (now rules) ≡ mostStatements) × (length (now constants) ≡ mostStatements) ⌝ }
     ensures { λ r. ⌜ ReadsBody (now (s .entry)) at depth (now (extents .entry)) (now (words .entry)) (now (words .exit)) (now (owners .entry)) (now (owners .exit)) (now (sizes .exit)) (now (rules .exit)) (now (constants .exit)) r ⌝ }
 {
-    let count = match reading::read_count(s, at, 1, 4) {
+    let count = match reading::read_count(s, at, 1, STATEMENTS) {
         Natural::Value(v) => v,
         Natural::Refused(r) => {
             return BodyRead {

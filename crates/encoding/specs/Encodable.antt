@@ -8,6 +8,7 @@ use Rattle.model.specs.Encode.{nestWords}
 use Rattle.model.specs.Shape.{WellFormed}
 use Rattle.model.specs.Store.{sum}
 use Rattle.model.specs.Ranges.{Small, NestRanges}
+use Rattle.model.specs.Grammar.{mostStatements, mostLoops, mostLimits}
 use Rattle.elements.specs.Layout.{AccessesOk}
 use Rattle.sheet.specs.Sheets.{Sheet, nestOf, SheetIn}
 use Rattle.lengths.specs.Slices.{nestAt, SlicesIn}
@@ -27,7 +28,7 @@ pub record StatementsIn (w : List ℤ) (o a : List ℕ) (n : ℕ) (ms rs es : Li
   pub accesses : AccessesOk w o a n
   pub all-accesses : sum ms ≤ length o
   pub each : All (λ m. 1 ≤ m) ms
-  pub few : length ms ≤ 4
+  pub few : length ms ≤ mostStatements
   pub rules : length ms ≤ length rs
   pub constants : length ms ≤ length es
 
@@ -36,8 +37,8 @@ pub record Encodable (s : List ℤ) (c : List ℕ) (n : ℕ) (v a ms rs es o : L
   pub held : SlicesIn s c n v a ms rs es o w
   pub small : All Small (nestWords (nestAt s c n v a ms rs es o w))
 
--- every nest of up to 6 loops and 16 limits a side whose numbers are in their ranges
+-- every nest whose numbers are in their ranges
 pub record SheetEncodable (P : Sheet) : Type 0 where
   pub sheet : SheetIn P
-  pub ranges : NestRanges 6 16 (nestOf P)
+  pub ranges : NestRanges mostLoops mostLimits (nestOf P)
   pub formed : WellFormed (nestOf P)

@@ -7,6 +7,10 @@ ghost use Rattle.lengths.specs.Slices.{statementAt, statementsAt, nestAt, Slice
 ghost use Rattle.lengths.specs.Lengths.{ArraysIn};
 ghost use Rattle.encoding.specs.Encodable.{AccessesIn, StatementIn, StatementsIn, Encodable, SheetEncodable};
 ghost use Rattle.encoding.specs.Encoding.{Encodes};
+use model::ACCESS_ROOM;
+use model::ARRAY_ROOM;
+use model::DIMENSIONS;
+use model::ROW_ROOM;
 use sheet::Outline;
 
 // How many bytes were written, or how many there would be.
@@ -20,12 +24,12 @@ fn put_arrays(out: &mut [u8], at: usize, arrays: &[usize]) -> usize
     requires { ⌜ Writable (now out) at (counted arrayWords (arraysOf (now arrays))) × ArraysIn (now arrays) ⌝ }
     ensures { λ r. ⌜ Written (now (out .entry)) (now (out .exit)) at (counted arrayWords (arraysOf (now (arrays .entry)))) r ⌝ }
 {
-    let count = arrays.len() / 4;
+    let count = arrays.len() / ARRAY_ROOM;
     let mut next = writing::put_natural(out, at, count);
     let mut i = 0;
     while i < count {
-        let n = arrays[i * 4];
-        next = writing::put_naturals(out, next, arrays, i * 4, n + 1);
+        let n = arrays[i * ARRAY_ROOM];
+        next = writing::put_naturals(out, next, arrays, i * ARRAY_ROOM, n + 1);
         i += 1;
     }
     next
@@ -45,11 +49,11 @@ fn put_access(
     ensures { λ r. ⌜ Written (now (out .entry)) (now (out .exit)) at (accessWords (accessAt (now (words .entry)) (now (owners .entry)) (now (extents .entry)) n k)) r ⌝ }
 {
     let array = owners[k];
-    let dimensions = extents[array * 4];
+    let dimensions = extents[array * ARRAY_ROOM];
     let mut next = writing::put_natural(out, at, array + 1);
     let mut d = 0;
     while d < dimensions {
-        next = writing::put_words(out, next, words, (k * 3 + d) * 8, n + 1);
+        next = writing::put_words(out, next, words, (k * DIMENSIONS + d) * ROW_ROOM, n + 1);
         d += 1;
     }
     next
@@ -227,13 +231,13 @@ pub fn encode_sheet(outline: Outline, limits: &[i16], words: &[i16], out: &mut [
         limits,
         &counts,
         depth,
-        &written[..outline.arrays * 4],
-        &extents[..outline.arrays * 4],
+        &written[..outline.arrays * ARRAY_ROOM],
+        &extents[..outline.arrays * ARRAY_ROOM],
         &sizes[..outline.statements],
         &rules,
         &constants,
         &owners[..accesses],
-        &words[..accesses * 24],
+        &words[..accesses * ACCESS_ROOM],
         out,
     )
 }

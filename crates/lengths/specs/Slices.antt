@@ -8,6 +8,7 @@ use lib.ListN.{length, getD}
 use Rattle.lists.specs.Membership.{All}
 use Rattle.model.specs.Ticket.{Statement, Nest}
 use Rattle.model.specs.Store.{sum}
+use Rattle.model.specs.Grammar.{mostStatements}
 use Rattle.bounds.specs.Flat.{loopsFrom, NestOk}
 use Rattle.elements.specs.Layout.{arraysOf, accessAt, accessesFrom, AccessesOk}
 use Rattle.lengths.specs.Lengths.{ArraysIn}
@@ -40,6 +41,6 @@ pub record SlicesIn (s : List ℤ) (c : List ℕ) (n : ℕ) (v a ms rs es o : Li
   pub accesses : AccessesOk w o a n
   pub all-accesses : sum ms ≡ length o
   pub each : All (λ m. 1 ≤ m) ms
-  pub few-statements : length ms ≤ 4
+  pub few-statements : length ms ≤ mostStatements
   pub rules : length ms ≤ length rs
   pub constants : length ms ≤ length es

@@ -2,7 +2,9 @@
 ghost use mathlib.Core.Path.{_≡_};
 ghost use Prim.Native.Nat.{_+_, _*_, _≤_, _<_, _/_};
 ghost use lib.ListN.{length};
+ghost use Rattle.model.specs.Grammar.{mostAccesses, mostLoops, arrayRoom, mostExtents};
 ghost use Rattle.lengths.specs.Lengths.{sums, loopLength, arrayLength, accessLength, nestLength, CountsIn, ArraysIn, OwnersIn, LengthIn};
+use model::ARRAY_ROOM;
 
 // Loop k.
 fn loop_words(counts: &[usize], k: usize) -> usize
@@ -14,7 +16,7 @@ fn loop_words(counts: &[usize], k: usize) -> usize
 
 fn loops_words(counts: &[usize], depth: usize) -> usize
     requires { ⌜ CountsIn (now counts) depth ⌝ }
-    ensures { λ r. ⌜ (r ≡ sums (loopLength (now (counts .entry))) 0 depth) × (r ≤ 1548) ⌝ }
+    ensures { λ r. ⌜ (r ≡ sums (loopLength (now (counts .entry))) 0 depth) × (r ≤ mostLoops * 258) ⌝ }
 {
     let mut total = 0;
     let mut k = 0;
@@ -27,13 +29,13 @@ fn loops_words(counts: &[usize], depth: usize) -> usize
 
 fn arrays_words(extents: &[usize]) -> usize
     requires { ⌜ ArraysIn (now extents) ⌝ }
-    ensures { λ r. ⌜ (r ≡ sums (arrayLength (now (extents .entry))) 0 (length (now (extents .entry)) / 4)) × (r ≤ 16) ⌝ }
+    ensures { λ r. ⌜ (r ≡ sums (arrayLength (now (extents .entry))) 0 (length (now (extents .entry)) / arrayRoom)) × (r ≤ mostExtents) ⌝ }
 {
-    let count = extents.len() / 4;
+    let count = extents.len() / ARRAY_ROOM;
     let mut total = 0;
     let mut i = 0;
     while i < count {
-        total += extents[i * 4] + 1;
+        total += extents[i * ARRAY_ROOM] + 1;
         i += 1;
     }
     total
@@ -45,12 +47,12 @@ fn access_words(owners: &[usize], extents: &[usize], n: usize, k: usize) -> usiz
     ensures { λ r. ⌜ (r ≡ accessLength (now (owners .entry)) (now (extents .entry)) n k) × (r ≤ 22) ⌝ }
 {
     let array = owners[k];
-    extents[array * 4] * (n + 1) + 1
+    extents[array * ARRAY_ROOM] * (n + 1) + 1
 }
 
 fn accesses_words(owners: &[usize], extents: &[usize], n: usize) -> usize
     requires { ⌜ OwnersIn (now owners) (now extents) n ⌝ }
-    ensures { λ r. ⌜ (r ≡ sums (accessLength (now (owners .entry)) (now (extents .entry)) n) 0 (length (now (owners .entry)))) × (r ≤ 440) ⌝ }
+    ensures { λ r. ⌜ (r ≡ sums (accessLength (now (owners .entry)) (now (extents .entry)) n) 0 (length (now (owners .entry)))) × (r ≤ mostAccesses * 22) ⌝ }
 {
     let mut total = 0;
     let mut k = 0;

@@ -6,6 +6,7 @@ use lib.ListN.{length, set}
 use Rattle.lists.specs.Parts.{put}
 use Rattle.model.specs.Ticket.{Limit, Loop, Subscript}
 use Rattle.model.specs.Encode.{limitWords}
+use Rattle.model.specs.Grammar.{rowRoom}
 
 -- a constant and its coefficients
 unfoldable pub affineWords : Subscript → List ℤ
@@ -14,7 +15,7 @@ affineWords f = f .constant ∷ f .coefficients
 -- limits from limit j on
 unfoldable pub layLimits : List ℤ → ℕ → List Limit → List ℤ
 layLimits s j [] = s
-layLimits s j (l ∷ ls) = layLimits (put s (j * 8) (limitWords l)) (suc j) ls
+layLimits s j (l ∷ ls) = layLimits (put s (j * rowRoom) (limitWords l)) (suc j) ls
 
 unfoldable pub layLoop : List ℤ → ℕ → Loop → List ℤ
 layLoop s k L = layLimits (layLimits s (k * 32) (L .lower)) (k * 32 + 16) (L .upper)

@@ -4,11 +4,15 @@ ghost use Prim.Native.Nat.{_+_, _*_, _<_, _≤_};
 ghost use lib.ListN.{length};
 ghost use Rattle.lists.specs.Parts.{put};
 ghost use Rattle.model.specs.Encode.{limitWords};
-ghost use Rattle.model.specs.Grammar.{number};
+ghost use Rattle.model.specs.Grammar.{number, mostLoops, rowRoom};
 ghost use Rattle.reading.specs.Refusals.{Reached, Reads};
 ghost use Rattle.reading.specs.declared.Status.the-variants.{Refused};
 ghost use Rattle.nest.specs.Laid.{affineWords};
 ghost use Rattle.nest.specs.Nested.{affineOf, LayAffineIn, ReadsAffine, limitOf, LimitIn, LayLimitIn, SideIn, Room, ReadsLimit, ReadsSide, ReadsLoop, ReadsNest};
+use model::LOOPS;
+use model::ROW_ROOM;
+use model::TICKET_LIMITS;
+use model::TICKET_LOOPS;
 use reading::Natural;
 use reading::Number;
 use reading::Refusal;
@@ -17,7 +21,7 @@ use reading::Status;
 // constant + coefficients · indices.
 pub struct Affine {
     pub constant: i32,
-    pub coefficients: [i32; 6],
+    pub coefficients: [i32; LOOPS],
 }
 
 pub struct ConstantRead {
@@ -37,7 +41,7 @@ pub struct AffineRead {
 pub struct Limit {
     pub multiplier: u32,
     pub constant: i32,
-    pub coefficients: [i32; 6],
+    pub coefficients: [i32; LOOPS],
 }
 
 pub struct LimitRead {
@@ -85,7 +89,7 @@ pub fn read_constant(s: &[u8], at: usize) -> ConstantRead
 
 // A constant and one coefficient for each of n loops. They are read from where the constant was refused too, and not looked at.
 pub fn read_affine(s: &[u8], at: usize, n: usize) -> AffineRead
-    requires { ⌜ Reached (now s) at × (n ≤ 6) ⌝ }
+    requires { ⌜ Reached (now s) at × (n ≤ mostLoops) ⌝ }
     ensures { λ r. ⌜ ReadsAffine (now (s .entry)) at n r ⌝ }
 {
     let first = read_constant(s, at);
@@ -112,7 +116,7 @@ fn no_limit(r: Refusal, at: usize) -> LimitRead
         limit: Limit {
             multiplier: 0,
             constant: 0,
-            coefficients: [0i32; 6],
+            coefficients: [0i32; LOOPS],
         },
         next: at,
     }
@@ -120,7 +124,7 @@ fn no_limit(r: Refusal, at: usize) -> LimitRead
 
 // A limit of a loop that has `outer` loops outside.
 pub fn read_limit(s: &[u8], at: usize, outer: usize) -> LimitRead
-    requires { ⌜ Reached (now s) at × (outer ≤ 6) ⌝ }
+    requires { ⌜ Reached (now s) at × (outer ≤ mostLoops) ⌝ }
     ensures { λ r. ⌜ ReadsLimit (now (s .entry)) at outer r ⌝ }
 {
     let multiplier = match reading::read_natural(s, at, 1, 32767) {
@@ -156,9 +160,9 @@ pub fn lay_affine(words: &mut [i16], at: usize, affine: Affine, n: usize)
 // Limit j of all, of a loop with `outer` loops outside.
 fn lay_limit(words: &mut [i16], j: usize, limit: Limit, outer: usize)
     requires { ⌜ LayLimitIn (length (now words)) j outer limit ⌝ }
-    ensures { λ _. ⌜ now (words .exit) ≡ put (now (words .entry)) (j * 8) (limitWords (limitOf outer limit)) ⌝ }
+    ensures { λ _. ⌜ now (words .exit) ≡ put (now (words .entry)) (j * rowRoom) (limitWords (limitOf outer limit)) ⌝ }
 {
-    let at = j * 8;
+    let at = j * ROW_ROOM;
     let coefficients = limit.coefficients;
     let affine = Affine {
         constant: limit.constant,
@@ -168,12 +172,12 @@ fn lay_limit(words: &mut [i16], j: usize, limit: Limit, outer: usize)
     lay_affine(words, at + 1, affine, outer);
 }
 
-// A count from 1 to 4 and as many limits, laid from limit j on.
+// A count and as many limits, laid from limit j on.
 fn read_side(s: &[u8], at: usize, outer: usize, words: &mut [i16], j: usize) -> SideRead
     requires { ⌜ SideIn (now s) at outer j (length (now words)) ⌝ }
     ensures { λ r. ⌜ ReadsSide (now (s .entry)) at outer j (now (words .entry)) (now (words .exit)) r ⌝ }
 {
-    let count = match reading::read_count(s, at, 1, 4) {
+    let count = match reading::read_count(s, at, 1, TICKET_LIMITS) {
         Natural::Value(v) => v,
         Natural::Refused(r) => {
             return SideRead {
@@ -213,7 +217,7 @@ fn read_side(s: &[u8], at: usize, outer: usize, words: &mut [i16], j: usize) -> 
 
 // Loop k: lower limits, then upper limits. They are read from where the lower ones were refused too, and not looked at.
 fn read_loop(s: &[u8], at: usize, k: usize, words: &mut [i16], counts: &mut [usize]) -> LoopRead
-    requires { ⌜ Reached (now s) at × (k < 6) × Room (now words) (now counts) ⌝ }
+    requires { ⌜ Reached (now s) at × (k < mostLoops) × Room (now words) (now counts) ⌝ }
     ensures { λ r. ⌜ ReadsLoop (now (s .entry)) at k (now (words .entry)) (now (words .exit)) (now (counts .entry)) (now (counts .exit)) r ⌝ }
 {
     let low = read_side(s, at, k, words, k * 32);
@@ -229,12 +233,12 @@ fn read_loop(s: &[u8], at: usize, k: usize, words: &mut [i16], counts: &mut [usi
     }
 }
 
-// The section: a count from 1 to 4 and as many loops, each with those before it outside.
+// The section: a count and as many loops, each with those before it outside.
 pub fn read_nest(s: &[u8], at: usize, limits: &mut [i16], counts: &mut [usize]) -> NestRead
     requires { ⌜ Reached (now s) at × Room (now limits) (now counts) ⌝ }
     ensures { λ r. ⌜ ReadsNest (now (s .entry)) at (now (limits .exit)) (now (counts .exit)) r ⌝ }
 {
-    let depth = match reading::read_count(s, at, 1, 4) {
+    let depth = match reading::read_count(s, at, 1, TICKET_LOOPS) {
         Natural::Value(v) => v,
         Natural::Refused(r) => {
             return NestRead {

@@ -4,9 +4,10 @@ ghost use Prim.Native.Nat.{_<_, _≤_};
 ghost use lib.IntN.{pos};
 ghost use lib.ListN.{length, take};
 ghost use Rattle.model.specs.Words.{signed};
-ghost use Rattle.model.specs.Grammar.{count, natural, number, loopNumber, times, between};
+ghost use Rattle.model.specs.Grammar.{count, natural, number, loopNumber, times, between, mostLoops};
 ghost use Rattle.reading.specs.Refusals.{numberOf, placeOf, firstOf, Reached, Reads};
 ghost use Rattle.reading.specs.Words.{ReadBits, Ranged, ReadNatural, ReadNumber};
+use model::LOOPS;
 
 // Document 01's numbers 1 to 16 in their order, with the place: a word, a step, a loop or a statement.
 pub enum Refusal {
@@ -211,18 +212,18 @@ pub fn read_number(s: &[u8], at: usize) -> Number
     }
 }
 
-// One number for each loop, at most six.
+// One number for each loop.
 pub struct RowRead {
     pub status: Status,
-    pub row: [i32; 6],
+    pub row: [i32; LOOPS],
     pub next: usize,
 }
 
 pub fn read_row(s: &[u8], at: usize, n: usize) -> RowRead
-    requires { ⌜ Reached (now s) at × (n ≤ 6) ⌝ }
-    ensures { λ r. ⌜ Reads (times n number (now (s .entry)) at) (now (s .entry)) (r .status) (take n (r .row)) (r .next) × (length (r .row) ≡ 6) ⌝ }
+    requires { ⌜ Reached (now s) at × (n ≤ mostLoops) ⌝ }
+    ensures { λ r. ⌜ Reads (times n number (now (s .entry)) at) (now (s .entry)) (r .status) (take n (r .row)) (r .next) × (length (r .row) ≡ mostLoops) ⌝ }
 {
-    let mut row = [0i32; 6];
+    let mut row = [0i32; LOOPS];
     let mut next = at;
     let mut k = 0;
     while k < n {

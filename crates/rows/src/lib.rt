@@ -7,8 +7,10 @@ ghost use Rattle.lists.specs.Parts.{put};
 ghost use Rattle.lists.specs.Tests.{all};
 ghost use Rattle.integers.specs.Affine.{Within};
 ghost use Rattle.integers.specs.Difference.{size};
+ghost use Rattle.model.specs.Grammar.{mostLoops};
 ghost use Rattle.model.specs.Judge.{small};
 ghost use Rattle.rows.specs.Rows.{Tried};
+use model::LOOPS;
 
 // ---- the test
 
@@ -24,8 +26,8 @@ pub fn small_number(x: i32) -> bool
     true
 }
 
-pub fn small_row(cs: [i32; 6], n: usize) -> bool
-    requires { ⌜ n ≤ 6 ⌝ }
+pub fn small_row(cs: [i32; LOOPS], n: usize) -> bool
+    requires { ⌜ n ≤ mostLoops ⌝ }
     ensures { λ r. ⌜ r ≡ all small (take n cs) ⌝ }
 {
     let mut k = 0;
@@ -55,7 +57,7 @@ pub fn word_at(words: &[i16], at: usize) -> i32
 }
 
 // Six words, whether or not all of them count: with no loop.
-pub fn row_at(words: &[i16], at: usize) -> [i32; 6]
+pub fn row_at(words: &[i16], at: usize) -> [i32; LOOPS]
     requires { ⌜ at + 6 ≤ length (now words) ⌝ }
     ensures { λ r. ⌜ r ≡ take 6 (drop at (now (words .entry))) ⌝ }
 {
@@ -90,8 +92,8 @@ pub fn lay_row(words: &mut [i16], at: usize, row: &[i32])
 }
 
 // The words stay as they are if a number is too large for them.
-pub fn put_row(words: &mut [i16], at: usize, n: usize, row: [i32; 6]) -> bool
-    requires { ⌜ (at + n ≤ length (now words)) × (n ≤ 6) ⌝ }
+pub fn put_row(words: &mut [i16], at: usize, n: usize, row: [i32; LOOPS]) -> bool
+    requires { ⌜ (at + n ≤ length (now words)) × (n ≤ mostLoops) ⌝ }
     ensures { λ r. ⌜ Tried (all small (take n row)) (now (words .entry)) at (take n row) r (now (words .exit)) ⌝ }
 {
     if !small_row(row, n) {

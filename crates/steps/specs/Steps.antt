@@ -10,7 +10,7 @@ use Rattle.integers.specs.Sign.{eqZ}
 use Rattle.model.specs.Answer.{Answer, accepted}
 use Rattle.model.specs.Ticket as Model
 use Rattle.model.specs.Grammar as Grammar
-use Rattle.model.specs.Grammar.{Read, Reader, _>>=_, _>>_}
+use Rattle.model.specs.Grammar.{Read, Reader, _>>=_, _>>_, mostLoops}
 use Rattle.reading.specs.Refusals.{refusal, Reached, Reads}
 use Rattle.steps.specs.declared.Step.{Step}
 use Rattle.steps.specs.declared.Step.the-variants.{Swap, Reverse, Lean, Strip}
@@ -37,7 +37,7 @@ stepAnswer k (StepRead.Refused r) = refusal r
 -- the words are there, and the nest has at most 6 loops after the step
 pub record StepIn (b : List ℕ) (k depth : ℕ) (x : Step) : Type 0 where
   pub reached : Reached b (k + 3)
-  pub few : Grammar.depthAfter (stepOf x) depth ≤ 6
+  pub few : Grammar.depthAfter (stepOf x) depth ≤ mostLoops
 
 abbrev pub OnStep : List ℕ → ℕ → ℕ → StepRead → Type 0
 OnStep b k depth (StepRead.Taken x) = StepIn b k depth x
@@ -54,7 +54,7 @@ nextLoop a m = cond (ltb a m) (a + 1) a
 
 -- the last loop that a section may name
 abbrev pub sectionable : ℕ → ℕ
-sectionable m = cond (ltb m 6) m 0
+sectionable m = cond (ltb m mostLoops) m 0
 
 -- the word c of a skew: by 1 (true) or by −1
 unfoldable pub direction : Reader Bool

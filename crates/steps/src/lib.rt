@@ -2,10 +2,12 @@
 ghost use mathlib.Core.Path.{_≡_};
 ghost use Prim.Native.Nat.{_+_, _≤_};
 ghost use Rattle.model.specs.Grammar as Grammar;
+ghost use Rattle.model.specs.Grammar.{mostLoops};
 ghost use Rattle.reading.specs.Refusals.{Reached};
 ghost use Rattle.steps.specs.Steps.{ReadsStep, ReadsDirection, ReadsSteps, StepsIn, nextLoop, sectionable, oneStep, stepOf};
 ghost use Rattle.reading.specs.declared.Status.the-variants.{Refused};
 ghost use lib.ListN.{length};
+use model::LOOPS;
 use reading::Bits;
 use reading::Natural;
 use reading::Refusal;
@@ -57,7 +59,7 @@ pub enum StepRead {
 
 // Each step is read after its kind: number is the step's, depth that of the nest when it is reached.
 pub fn read_exchange(s: &[u8], at: usize, number: usize, depth: usize) -> StepRead
-    requires { ⌜ Reached (now s) at × (depth ≤ 6) ⌝ }
+    requires { ⌜ Reached (now s) at × (depth ≤ mostLoops) ⌝ }
     ensures { λ r. ⌜ ReadsStep (Grammar.exchangeStep number depth (now (s .entry)) at) (now (s .entry)) at depth r ⌝ }
 {
     let a = match reading::read_loop_number(s, at, number, 1, depth) {
@@ -76,14 +78,14 @@ pub fn read_exchange(s: &[u8], at: usize, number: usize, depth: usize) -> StepRe
 
 // The next loop, or none inside the last.
 fn inner_most(a: usize, depth: usize) -> usize
-    requires { ⌜ a ≤ depth × (depth ≤ 6) ⌝ }
-    ensures { λ r. ⌜ (r ≡ nextLoop a depth) × (r ≤ 6) ⌝ }
+    requires { ⌜ a ≤ depth × (depth ≤ mostLoops) ⌝ }
+    ensures { λ r. ⌜ (r ≡ nextLoop a depth) × (r ≤ mostLoops) ⌝ }
 {
     if a < depth { a + 1 } else { a }
 }
 
 pub fn read_reversal(s: &[u8], at: usize, number: usize, depth: usize) -> StepRead
-    requires { ⌜ Reached (now s) at × (depth ≤ 6) ⌝ }
+    requires { ⌜ Reached (now s) at × (depth ≤ mostLoops) ⌝ }
     ensures { λ r. ⌜ ReadsStep (Grammar.reversalStep number depth (now (s .entry)) at) (now (s .entry)) at depth r ⌝ }
 {
     let a = match reading::read_loop_number(s, at, number, 1, depth) {
@@ -126,7 +128,7 @@ pub fn read_direction(s: &[u8], at: usize) -> Direction
 }
 
 pub fn read_skew(s: &[u8], at: usize, number: usize, depth: usize) -> StepRead
-    requires { ⌜ Reached (now s) at × (depth ≤ 6) ⌝ }
+    requires { ⌜ Reached (now s) at × (depth ≤ mostLoops) ⌝ }
     ensures { λ r. ⌜ ReadsStep (Grammar.skewStep number depth (now (s .entry)) at) (now (s .entry)) at depth r ⌝ }
 {
     let a = match reading::read_loop_number(s, at, number, 1, depth) {
@@ -154,14 +156,14 @@ pub fn read_skew(s: &[u8], at: usize, number: usize, depth: usize) -> StepRead
 
 // No loop of a nest of six can be sectioned.
 fn sectioned_most(depth: usize) -> usize
-    requires { ⌜ depth ≤ 6 ⌝ }
-    ensures { λ r. ⌜ (r ≡ sectionable depth) × (r ≤ 6) ⌝ }
+    requires { ⌜ depth ≤ mostLoops ⌝ }
+    ensures { λ r. ⌜ (r ≡ sectionable depth) × (r ≤ mostLoops) ⌝ }
 {
-    if depth < 6 { depth } else { 0 }
+    if depth < LOOPS { depth } else { 0 }
 }
 
 pub fn read_section(s: &[u8], at: usize, number: usize, depth: usize) -> StepRead
-    requires { ⌜ Reached (now s) at × (depth ≤ 6) ⌝ }
+    requires { ⌜ Reached (now s) at × (depth ≤ mostLoops) ⌝ }
     ensures { λ r. ⌜ ReadsStep (Grammar.sectionStep number depth (now (s .entry)) at) (now (s .entry)) at depth r ⌝ }
 {
     let a = match reading::read_loop_number(s, at, number, 1, sectioned_most(depth)) {
@@ -182,7 +184,7 @@ pub fn read_section(s: &[u8], at: usize, number: usize, depth: usize) -> StepRea
 }
 
 pub fn read_step(s: &[u8], at: usize, number: usize, depth: usize) -> StepRead
-    requires { ⌜ Reached (now s) at × (depth ≤ 6) ⌝ }
+    requires { ⌜ Reached (now s) at × (depth ≤ mostLoops) ⌝ }
     ensures { λ r. ⌜ ReadsStep (oneStep number depth (now (s .entry)) at) (now (s .entry)) (at + 1) depth r ⌝ }
 {
     let kind = match reading::read_natural(s, at, 1, 4) {
@@ -205,7 +207,7 @@ pub struct StepsRead {
 
 // The number of loops after a step.
 pub fn depth_after(step: Step, depth: usize) -> usize
-    requires { ⌜ depth ≤ 6 ⌝ }
+    requires { ⌜ depth ≤ mostLoops ⌝ }
     ensures { λ r. ⌜ r ≡ Grammar.depthAfter (stepOf step) depth ⌝ }
 {
     match step {
@@ -242,7 +244,7 @@ fn no_steps(r: Refusal, at: usize) -> StepsRead
 
 // The section: a count from 0 to 8 and as many steps of a nest that has `depth` loops.
 pub fn read_steps(s: &[u8], at: usize, depth: usize) -> StepsRead
-    requires { ⌜ Reached (now s) at × (depth ≤ 6) ⌝ }
+    requires { ⌜ Reached (now s) at × (depth ≤ mostLoops) ⌝ }
     ensures { λ r. ⌜ ReadsSteps (now (s .entry)) at depth r ⌝ }
 {
     let count = match reading::read_count(s, at, 0, 8) {

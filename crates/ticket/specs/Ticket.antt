@@ -13,7 +13,7 @@ use Rattle.model.specs.Ticket as Model
 use Rattle.model.specs.Grammar as Grammar
 use Rattle.model.specs.Ranges.{Small, TicketRanges}
 use Rattle.model.specs.Shape.{WellFormed}
-use Rattle.model.specs.Grammar.{Reader, _>>=_}
+use Rattle.model.specs.Grammar.{Reader, _>>=_, ticketLoops, ticketLimits, nestRoom, mostWords}
 use Rattle.reading.specs.Refusals.{refusal}
 use Rattle.reading.specs.declared.Refusal.the-variants.{TrailingBytes}
 use Rattle.reading.specs.declared.Status.{Status}
@@ -29,7 +29,7 @@ ticketOn P S = record { nest = nestOf P; steps = stepsOf S }
 -- the four sections
 unfoldable pub sections : Reader Model.Ticket
 sections = do
-  n ← Grammar.nest 4 4
+  n ← Grammar.nest ticketLoops ticketLimits
   ts ← Grammar.steps (length (n .loops))
   Grammar.done (record { nest = n; steps = ts })
 
@@ -42,9 +42,9 @@ endOf (Status.Refused r) k n = Status.Refused r
 
 -- the slices that a ticket's limits and accesses are laid over
 pub record Lent (limits words : List ℤ) : Type 0 where
-  pub limits-length : length limits ≡ 1536
+  pub limits-length : length limits ≡ nestRoom
   pub limits-small : Within 32767 limits
-  pub words-length : length words ≡ 480
+  pub words-length : length words ≡ mostWords
   pub words-small : All Small words
 
 abbrev pub decoded : Status → Model.Ticket → Answer Model.Ticket
@@ -58,7 +58,7 @@ ticketOf d limits words = decoded (d .status) (ticketOn (sheetOf (d .outline) li
 -- a sheet and steps that hold a ticket of the grammar: within its ranges, and of at most four loops
 pub record TicketIn (P : Sheet) (S : Steps) : Type 0 where
   pub sheet : SheetIn P
-  pub shallow : P .depth ≤ 4
+  pub shallow : P .depth ≤ ticketLoops
   pub steps : StepsIn S
   pub ranges : TicketRanges (ticketOn P S)
   pub formed : WellFormed (nestOf P)

@@ -4,6 +4,11 @@ ghost use lib.ListN.{length};
 ghost use Rattle.reading.specs.Refusals.{Reached};
 ghost use Rattle.model.specs.Grammar as Grammar;
 ghost use Rattle.ticket.specs.Ticket.{endOf, Lent, Decodes};
+use model::ACCESSES;
+use model::ARRAY_ROOM;
+use model::EXTENTS;
+use model::SIDES;
+use model::STATEMENTS;
 use reading::Refusal;
 use reading::Status;
 use sheet::Outline;
@@ -38,21 +43,21 @@ pub fn decode(bytes: &[u8], limits: &mut [i16], words: &mut [i16]) -> Decoded
     requires { ⌜ Lent (now limits) (now words) ⌝ }
     ensures { λ r. ⌜ Decodes (Grammar.decode (now (bytes .entry))) r (now (limits .exit)) (now (words .exit)) ⌝ }
 {
-    let mut counts = [0usize; 12];
+    let mut counts = [0usize; SIDES];
     let first = nest::read_nest(bytes, 1, limits, &mut counts);
     let depth = first.depth;
-    let mut extents = [0usize; 16];
+    let mut extents = [0usize; EXTENTS];
     let second = arrays::read_arrays(bytes, first.next, &mut extents);
     let arrays = second.count;
-    let mut owners = [0usize; 20];
-    let mut sizes = [0usize; 4];
-    let mut rules = [0usize; 4];
-    let mut constants = [0usize; 4];
+    let mut owners = [0usize; ACCESSES];
+    let mut sizes = [0usize; STATEMENTS];
+    let mut rules = [0usize; STATEMENTS];
+    let mut constants = [0usize; STATEMENTS];
     let third = body::read_body(
         bytes,
         second.next,
         depth,
-        &extents[..arrays * 4],
+        &extents[..arrays * ARRAY_ROOM],
         arrays,
         words,
         &mut owners,

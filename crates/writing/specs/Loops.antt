@@ -4,12 +4,13 @@ use mathlib.Core.List.{List}
 use Prim.Native.Nat.{ℕ, _+_, _≤_, _<_}
 use lib.IntN.{ℤ}
 use lib.ListN.{length}
+use Rattle.model.specs.Grammar.{mostLoops, nestRoom}
 use Rattle.bounds.specs.Flat.{Positive, NestOk}
 
 -- n limits from limit j on, of a loop with `outer` loops outside
 pub record LimitsIn (s : List ℤ) (outer j n : ℕ) : Type 0 where
-  pub words : length s ≡ 1536
-  pub outside : outer ≤ 6
+  pub words : length s ≡ nestRoom
+  pub outside : outer ≤ mostLoops
   pub inside : j + n ≤ 192
   pub positive : Positive s j n
 

@@ -10,6 +10,7 @@ ghost use Rattle.model.specs.Encode.{counted, limitWords, loopWords};
 ghost use Rattle.bounds.specs.Flat.{limitsAt, loopAt, loopsFrom, NestOk};
 ghost use Rattle.writing.specs.Writing.{Writable, Written};
 ghost use Rattle.writing.specs.Loops.{LimitsIn, LoopIn};
+use model::ROW_ROOM;
 
 // Two bytes, the lower first.
 fn put_bits(out: &mut [u8], at: usize, v: usize)
@@ -98,7 +99,7 @@ fn put_side(out: &mut [u8], at: usize, limits: &[i16], outer: usize, j: usize, n
     let mut next = put_natural(out, at, n);
     let mut k = 0;
     while k < n {
-        next = put_words(out, next, limits, (j + k) * 8, outer + 2);
+        next = put_words(out, next, limits, (j + k) * ROW_ROOM, outer + 2);
         k += 1;
     }
     next
