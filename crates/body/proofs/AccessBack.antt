@@ -10,6 +10,7 @@ use Rattle.lists.specs.Membership.{All}
 use Rattle.lists.proofs.MembershipLaws.{all-cons, all-getD, map-all}
 use Rattle.model.specs.Ticket.{Subscript, Access}
 use Rattle.model.specs.Ranges.{Small, SubscriptRanges, AccessRanges}
+use Rattle.model.specs.Grammar.{accessRoom}
 use Rattle.elements.specs.Layout.{formAt, formsFrom, accessAt, accessesFrom}
 use Rattle.arrays.specs.Laid.{layRows}
 use Rattle.nest.specs.Laid.{affineWords}
@@ -64,7 +65,7 @@ pub record Wide (n : ℕ) (a : Access) : Type 0 where
   pub wide : All (λ (s : Subscript). length (s .coefficients) ≡ n) (a .subscripts)
 
 module _ (n : ℕ) (shallow : n ≤ 6) where
-  module _ (s : List ℤ) (k : ℕ) (a : Access) (p : Wide n a) (h : (k + 1) * 24 ≤ length s) where
+  module _ (s : List ℤ) (k : ℕ) (a : Access) (p : Wide n a) (h : (k + 1) * accessRoom ≤ length s) where
     short : All (λ (x : List ℤ). length x ≤ 8) (map affineWords (a .subscripts))
     unfolding affineWords
     short = map-all affineWords (λ (x : Subscript). length (x .coefficients) ≡ n) (λ x. length x ≤ 8) (a .subscripts) (λ x e. omega arith) (p .wide)
@@ -76,7 +77,7 @@ module _ (n : ℕ) (shallow : n ≤ 6) where
     unfolding layAccess
     access-length = rows-length 8 s (k * 3) (map affineWords (a .subscripts)) short fits
 
-    access-front : (m : ℕ) → m ≤ k * 24 → take m (layAccess s k a) ≡ take m s
+    access-front : (m : ℕ) → m ≤ k * accessRoom → take m (layAccess s k a) ≡ take m s
     unfolding layAccess
     access-front m g = rows-front 8 s (k * 3) (map affineWords (a .subscripts)) m (omega arith) short fits
 
@@ -91,14 +92,14 @@ module _ (n : ℕ) (shallow : n ≤ 6) where
         ∙ rows-at 8 s (k * 3) (map affineWords (a .subscripts)) short fits d (affineWords no-subscript) (omega arith)
         ∙ m
 
-  pub accesses-length : (s : List ℤ) (k : ℕ) (xs : List Access) → All (Wide n) xs → (k + length xs) * 24 ≤ length s → length (layAccesses s k xs) ≡ length s
+  pub accesses-length : (s : List ℤ) (k : ℕ) (xs : List Access) → All (Wide n) xs → (k + length xs) * accessRoom ≤ length s → length (layAccesses s k xs) ≡ length s
   unfolding layAccesses
   accesses-length s k [] p h = refl
   accesses-length s k (x ∷ xs) p h =
       let e = access-length s k x (p x (List·Memᴰ·head refl)) (omega arith) in
       accesses-length (layAccess s k x) (suc k) xs (λ y m. p y (List·Memᴰ·tail m)) (omega arith) ∙ e
 
-  accesses-front : (s : List ℤ) (k : ℕ) (xs : List Access) (m : ℕ) → m ≤ k * 24 → All (Wide n) xs → (k + length xs) * 24 ≤ length s → take m (layAccesses s k xs) ≡ take m s
+  accesses-front : (s : List ℤ) (k : ℕ) (xs : List Access) (m : ℕ) → m ≤ k * accessRoom → All (Wide n) xs → (k + length xs) * accessRoom ≤ length s → take m (layAccesses s k xs) ≡ take m s
   unfolding layAccesses
   accesses-front s k [] m g p h = refl
   accesses-front s k (x ∷ xs) m g p h =
@@ -107,7 +108,7 @@ module _ (n : ℕ) (shallow : n ≤ 6) where
       accesses-front (layAccess s k x) (suc k) xs m (omega arith) (λ y i. p y (List·Memᴰ·tail i)) (omega arith) ∙ access-front s k x q (omega arith) m g
 
   -- the words of subscript d of access i
-  pub accesses-at : (s : List ℤ) (k : ℕ) (xs : List Access) → All (Wide n) xs → (k + length xs) * 24 ≤ length s → (i : ℕ) (b : Access) → i < length xs
+  pub accesses-at : (s : List ℤ) (k : ℕ) (xs : List Access) → All (Wide n) xs → (k + length xs) * accessRoom ≤ length s → (i : ℕ) (b : Access) → i < length xs
       → (d : ℕ) → d < length (getD xs i b .subscripts) → wordsAt (layAccesses s k xs) n ((k + i) * 3 + d) ≡ affineWords (getD (getD xs i b .subscripts) d no-subscript)
   unfolding layAccesses
   accesses-at s k [] p h i b g d r = absurd (omega arith)
@@ -116,8 +117,8 @@ module _ (n : ℕ) (shallow : n ≤ 6) where
       let f = q .few in
       let e = access-length s k x q (omega arith) in
       ap (λ t. wordsAt (layAccesses (layAccess s k x) (suc k) xs) n (t * 3 + d)) (add-zero k)
-      ∙ part-front (suc k * 24) (layAccesses (layAccess s k x) (suc k) xs) (layAccess s k x) ((k * 3 + d) * 8) (suc n)
-      (accesses-front (layAccess s k x) (suc k) xs (suc k * 24) (omega arith) (λ y m. p y (List·Memᴰ·tail m)) (omega arith)) (omega arith)
+      ∙ part-front (suc k * accessRoom) (layAccesses (layAccess s k x) (suc k) xs) (layAccess s k x) ((k * 3 + d) * 8) (suc n)
+      (accesses-front (layAccess s k x) (suc k) xs (suc k * accessRoom) (omega arith) (λ y m. p y (List·Memᴰ·tail m)) (omega arith)) (omega arith)
       ∙ access-at s k x q (omega arith) d r
   accesses-at s k (x ∷ xs) p h (suc i) b g d r =
       let e = access-length s k x (p x (List·Memᴰ·head refl)) (omega arith) in

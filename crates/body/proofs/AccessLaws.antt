@@ -11,7 +11,7 @@ use Rattle.lists.specs.Parts.{put}
 use Rattle.lists.proofs.PartLaws.{put-nil, set-put}
 use Rattle.model.specs.Answer.{accepted, refused}
 use Rattle.model.specs.Ticket as Model
-use Rattle.model.specs.Grammar.{count, natural, times, done, extents, subscript, access}
+use Rattle.model.specs.Grammar.{count, natural, times, done, extents, subscript, access, mostWords, mostAccesses, mostReads}
 use Rattle.model.proofs.Answers.AnswerLaws.{leads-accepted}
 use Rattle.model.proofs.Grammar.StatementReading as Reading
 use Rattle.reading.specs.Refusals.{Reached}
@@ -88,7 +88,7 @@ filling-starts b from n m k o h r = record { subscripts = []; number = refl; low
 
 module _ (b : List ℕ) (from n m k : ℕ) (o w : List ℤ) (next d : ℕ) (f : Filling b from n m k o w next d) where
   module _ (x : Affine) (to : ℕ) (h : d < m) (e : subscript n b next ≡ accepted (record { value = affineOf n x; next = to })) where
-    pub next-in : length o ≡ 480 → k < 20 → n ≤ 6 → AffineIn x → LayAffineIn (length w) ((k * 3 + d) * 8) n x
+    pub next-in : length o ≡ mostWords → k < mostAccesses → n ≤ 6 → AffineIn x → LayAffineIn (length w) ((k * 3 + d) * 8) n x
     next-in l g s i = let r = f .room in let t = f .few in record { fits = omega arith; shallow = s; within = i; ranges = subscript-read n b next (affineOf n x) to (f .reached) e .ranges }
 
     pub filling-more : (v : List ℤ) → v ≡ put w ((k * 3 + d) * 8) (affineWords (affineOf n x)) → length v ≡ length w → Reached b to → Filling b from n m k o v to (d + 1)
@@ -127,13 +127,13 @@ lay-append s k (a ∷ as′) bs =
     lay-append (layAccess s k a) (suc k) as′ bs ∙ ap (λ n. layAccesses (layAccesses (layAccess s k a) (suc k) as′) n bs) e
 
 module _ (lo n : ℕ) (as′ : List (List ℕ)) (b : List ℕ) (k : ℕ) where
-  pub no-count : (q p : ℕ) → count lo 4 b k ≡ refused q p → accesses lo n as′ b k ≡ refused q p
+  pub no-count : (q p : ℕ) → count lo mostReads b k ≡ refused q p → accesses lo n as′ b k ≡ refused q p
   unfolding accesses
-  no-count q p e = after-refusal (count lo 4) _ b k q p e
+  no-count q p e = after-refusal (count lo mostReads) _ b k q p e
 
-  counted : (m : ℕ) → count lo 4 b k ≡ accepted (record { value = m; next = k + 1 }) → accesses lo n as′ b k ≡ times m (access n as′) b (k + 1)
+  counted : (m : ℕ) → count lo mostReads b k ≡ accepted (record { value = m; next = k + 1 }) → accesses lo n as′ b k ≡ times m (access n as′) b (k + 1)
   unfolding accesses
-  counted m e = after-value (count lo 4) _ b k m (k + 1) e
+  counted m e = after-value (count lo mostReads) _ b k m (k + 1) e
 
 -- i of m accesses are read and laid from access k on, and the rest goes on from `next`
 pub record Passing (b : List ℕ) (at lo n : ℕ) (as′ : List (List ℕ)) (m k : ℕ) (w₀ w : List ℤ) (o₀ o : List ℕ) (next i : ℕ) : Type 0 where
@@ -149,7 +149,7 @@ pub record Passing (b : List ℕ) (at lo n : ℕ) (as′ : List (List ℕ)) (m k
   pub so : accesses lo n as′ b at ≡ before list (times (m - i) (access n as′) b next)
 
 module _ (b : List ℕ) (at lo n : ℕ) (as′ : List (List ℕ)) (m k : ℕ) (w₀ : List ℤ) (o₀ : List ℕ) where
-  pub passing-starts : count lo 4 b at ≡ accepted (record { value = m; next = at + 1 }) → m ≤ 4 → Reached b (at + 1) → Passing b at lo n as′ m k w₀ w₀ o₀ o₀ (at + 1) 0
+  pub passing-starts : count lo mostReads b at ≡ accepted (record { value = m; next = at + 1 }) → m ≤ 4 → Reached b (at + 1) → Passing b at lo n as′ m k w₀ w₀ o₀ o₀ (at + 1) 0
   unfolding layAccesses
   passing-starts e h r = record {
     list = [];
@@ -165,7 +165,7 @@ module _ (b : List ℕ) (at lo n : ℕ) (as′ : List (List ℕ)) (m k : ℕ) (w
   }
 
   module _ (w : List ℤ) (o : List ℕ) (next i : ℕ) (f : Passing b at lo n as′ m k w₀ w o₀ o next i) where
-    pub passing-more : (a : Model.Access) (to : ℕ) (v : List ℤ) (u : List ℕ) → length o₀ ≡ 20 → k + 4 ≤ 20 → i < m → access n as′ b next ≡ accepted (record { value = a; next = to })
+    pub passing-more : (a : Model.Access) (to : ℕ) (v : List ℤ) (u : List ℕ) → length o₀ ≡ mostAccesses → k + mostReads ≤ mostAccesses → i < m → access n as′ b next ≡ accepted (record { value = a; next = to })
         → v ≡ layAccess w (k + i) a → u ≡ set o (k + i) (a .array) → length v ≡ length w → length u ≡ length o → Reached b to → Passing b at lo n as′ m k w₀ v o₀ u to (i + 1)
     unfolding layAccesses
     passing-more a to v u y g h e q s c d r =

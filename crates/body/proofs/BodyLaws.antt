@@ -13,7 +13,7 @@ use Rattle.lists.proofs.PartLaws.{put-nil, put-put}
 use Rattle.model.specs.Answer.{accepted, refused}
 use Rattle.model.specs.Ticket.{Access, Statement}
 use Rattle.model.specs.Bounds.{accessesOf}
-use Rattle.model.specs.Grammar.{count, times, statement, statements}
+use Rattle.model.specs.Grammar.{count, times, statement, statements, mostAccesses}
 use Rattle.reading.specs.Refusals.{Reached}
 use Rattle.reading.proofs.ReaderLaws.{after-value, after-refusal, before, times-start, times-more, times-no, times-done}
 use Rattle.body.specs.Laid.{layAccesses, arrayNumbers, accessesIn, sizeOf}
@@ -80,7 +80,7 @@ module _ (b : List ℕ) (at n : ℕ) (as′ : List (List ℕ)) (m : ℕ) (w₀ :
   }
 
   module _ (w : List ℤ) (o ms rs cs : List ℕ) (many next i : ℕ) (f : Filling b at n as′ m w₀ w o₀ o ms rs cs many next i) where
-    pub filling-more : (s : Statement) (r : StatementRead) (v : List ℤ) (u : List ℕ) → length o₀ ≡ 20 → i < m → statement n as′ b next ≡ accepted (record { value = s; next = r .next })
+    pub filling-more : (s : Statement) (r : StatementRead) (v : List ℤ) (u : List ℕ) → length o₀ ≡ mostAccesses → i < m → statement n as′ b next ≡ accepted (record { value = s; next = r .next })
         → StatementLaid s many w v o u r → r .size ≤ 5 → length v ≡ length w → length u ≡ length o → Reached b (r .next)
         → Filling b at n as′ m w₀ v o₀ u (set ms i (r .size)) (set rs i (r .rule)) (set cs i (r .constant)) (many + r .size) (r .next) (i + 1)
     unfolding accessesIn

@@ -6,6 +6,7 @@ use native.Mathlib.Omega.{arith}
 use lib.IntN.{ℤ, pos}
 use lib.ListN.{length, getD, take, drop}
 use Rattle.model.specs.Encode.{counted, accessWords}
+use Rattle.model.specs.Grammar.{mostAccesses}
 use Rattle.elements.specs.Layout.{accessAt, accessesFrom}
 use Rattle.writing.proofs.WritingLaws.{spans}
 use Rattle.lengths.specs.Lengths.{ArraysIn}
@@ -31,7 +32,7 @@ module _ (w : List ℤ) (o a : List ℕ) (n k : ℕ) (p : AccessesIn w o a n k 1
   pub owner-small : getD o k 0 * 4 + 4 ≤ 16
   owner-small = let e = owner-ends in let f = p .accesses .few in omega arith
 
-  pub access-small : (k < 20) × (n ≤ 6)
+  pub access-small : (k < mostAccesses) × (n ≤ 6)
   access-small = let h = access-there in let m = p .accesses .many in (omega arith, p .accesses .shallow)
 
   pub access-flat : getD a (getD o k 0 * 4) 0 ≤ 3

@@ -11,6 +11,7 @@ use Rattle.lists.proofs.MembershipLaws.{all-getD}
 use Rattle.lists.proofs.FlatMapLaws.{flatMap-one}
 use Rattle.model.specs.Encode.{counted, accessWords, statementWords}
 use Rattle.model.specs.Store.{sum}
+use Rattle.model.specs.Grammar.{mostAccesses}
 use Rattle.elements.specs.Layout.{accessAt, accessesFrom}
 use Rattle.writing.specs.Writing.{Writable, Written}
 use Rattle.writing.proofs.WritingLaws.{spans, writable-left, writable-right, written-both, Filling, front-next, front-more}
@@ -154,7 +155,7 @@ module _ {w : List ℤ} {o a : List ℕ} {n : ℕ} {ms rs es out₀ : List ℕ} 
     reach-in p = subst (λ x. StatementIn w o a n x (getD ms i 0)) (sym (l .before-it)) (statement-in w o a n ms rs es p i h)
 
     -- no sum is too large
-    pub reach-small : StatementsIn w o a n ms rs es → k + getD ms i 0 ≤ 20
+    pub reach-small : StatementsIn w o a n ms rs es → k + getD ms i 0 ≤ mostAccesses
     reach-small p = let t = reach-in p .all .there in let m = p .accesses .many in omega arith
 
     pub reach-more : {out′ : List ℕ} {q : ℕ} → Written out out′ next (here k) q → Reached w o a n ms rs es out₀ at out′ q (k + getD ms i 0) (i + 1)

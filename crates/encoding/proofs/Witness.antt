@@ -8,7 +8,7 @@ use lib.ListN.{length, getD, replicate, length-replicate, getD-replicate}
 use Rattle.lists.proofs.MembershipLaws.{all-nil, all-cons}
 use Rattle.integers.specs.Affine.{Within}
 use Rattle.integers.proofs.RingLaws.{zarith}
-use Rattle.model.specs.Grammar.{elements, total, extents}
+use Rattle.model.specs.Grammar.{elements, total, extents, mostWords, nestRoom, mostAccesses, accessRoom}
 use Rattle.model.specs.Store.{sum}
 use Rattle.model.specs.Ranges.{InRange, Small, LimitRanges, LoopRanges, ArrayRanges, SubscriptRanges, AccessRanges, StatementRanges, NestRanges}
 use Rattle.model.specs.Shape.{Runs, Fits, FitsAll, WellFormed}
@@ -20,7 +20,7 @@ use Rattle.encoding.specs.Encodable.{SheetEncodable}
 abbrev smallest : Sheet
 smallest = record {
   depth = 1;
-  limits = replicate 1536 (pos 1);
+  limits = replicate nestRoom (pos 1);
   counts = replicate 12 1;
   arrays = 1;
   extents = replicate 16 1;
@@ -29,8 +29,8 @@ smallest = record {
   rules = replicate 4 0;
   constants = replicate 4 0;
   accesses = 1;
-  owners = replicate 20 0;
-  words = replicate 480 (pos 0);
+  owners = replicate mostAccesses 0;
+  words = replicate mostWords (pos 0);
 }
 
 within-ones : (n : ℕ) → Within 32767 (replicate n (pos 1))
@@ -44,15 +44,15 @@ within-zeros (suc n) = (omega arith, within-zeros n)
 count : (i : ℕ) → i < 12 → (1 ≤ getD (smallest .counts) i 0) × (getD (smallest .counts) i 0 ≤ 16)
 count i h = let e = getD-replicate {A = ℕ} 12 i 1 0 h in (omega arith, omega arith)
 
-multiplier : (i : ℕ) → i < 1536 → pos 0 <ℤ getD (smallest .limits) i (pos 0)
-multiplier i h = subst (λ z. pos 0 <ℤ z) (sym (getD-replicate 1536 i (pos 1) (pos 0) h)) (omega zarith)
+multiplier : (i : ℕ) → i < nestRoom → pos 0 <ℤ getD (smallest .limits) i (pos 0)
+multiplier i h = subst (λ z. pos 0 <ℤ z) (sym (getD-replicate nestRoom i (pos 1) (pos 0) h)) (omega zarith)
 
 nest-ok : NestOk (smallest .limits) (smallest .counts) 1
 nest-ok = record {
-  words = length-replicate 1536 (pos 1);
+  words = length-replicate nestRoom (pos 1);
   counts = length-replicate {A = ℕ} 12 1;
   shallow = omega arith;
-  small = within-ones 1536;
+  small = within-ones nestRoom;
   lower-count = λ k h. count (k * 2) (omega arith);
   upper-count = λ k h. count (k * 2 + 1) (omega arith);
   lower-positive = λ k h i b. multiplier ((k * 32 + i) * 8) (let e = count (k * 2) (omega arith) .1 in omega arith);
@@ -76,7 +76,7 @@ accesses-ok = record {
   many = omega arith;
   few = omega arith;
   shallow = omega arith;
-  small = within-zeros 24;
+  small = within-zeros accessRoom;
   dimensions = λ i h. let e = extent (i * 4) in omega arith;
   extents = λ j. let e = extent j in omega arith;
   there = owner;
@@ -97,7 +97,7 @@ sheet-in = record {
   extents-length = refl;
   sizes-length = refl;
   owners-length = refl;
-  words-length = length-replicate 480 (pos 0);
+  words-length = length-replicate mostWords (pos 0);
   rules-length = refl;
   constants-length = refl;
 }
@@ -107,8 +107,8 @@ sheet-in = record {
 limit-ranges : (j : ℕ) → j < 192 → LimitRanges (limitAt (smallest .limits) 0 j)
 unfolding limitAt
 limit-ranges j h =
-    let m = ap natAbs (getD-replicate 1536 (j * 8) (pos 1) (pos 0) (omega arith)) in
-    let c = ap natAbs (getD-replicate 1536 (j * 8 + 1) (pos 1) (pos 0) (omega arith)) in
+    let m = ap natAbs (getD-replicate nestRoom (j * 8) (pos 1) (pos 0) (omega arith)) in
+    let c = ap natAbs (getD-replicate nestRoom (j * 8 + 1) (pos 1) (pos 0) (omega arith)) in
     record { multiplier = record { low = omega arith; high = omega arith }; constant = omega arith; coefficients = all-nil Small }
 
 loop-ranges : LoopRanges 16 (loopAt (smallest .limits) (smallest .counts) 0)

@@ -9,6 +9,7 @@ use lib.ListN.{length, getD, take, drop, length-drop}
 use lib.Seq.{drop-cons, length-take-le}
 use Rattle.model.specs.Ticket.{Subscript}
 use Rattle.model.specs.Encode.{counted, arrayWords, accessWords}
+use Rattle.model.specs.Grammar.{accessRoom}
 use Rattle.elements.specs.Layout.{extentsAt, arraysFrom, arraysOf, formAt, formsFrom, accessAt, accessesFrom}
 use Rattle.writing.proofs.WritingLaws.{spans}
 use Rattle.lengths.proofs.SumLaws.{array-ends}
@@ -58,7 +59,7 @@ unfolding formsFrom spans flatMap
 forms-flat w n j zero h = refl
 forms-flat w n j (suc d) h = ap₂ _++_ (form-words w n j (omega arith)) (forms-flat w n (suc j) d (omega arith))
 
-pub access-spans : (w : List ℤ) (o a : List ℕ) (n k : ℕ) → k * 24 + 24 ≤ length w → getD a (getD o k 0 * 4) 0 ≤ 3
+pub access-spans : (w : List ℤ) (o a : List ℕ) (n k : ℕ) → k * accessRoom + accessRoom ≤ length w → getD a (getD o k 0 * 4) 0 ≤ 3
     → accessWords (accessAt w o a n k) ≡ pos (getD o k 0 + 1) ∷ spans (λ i. take (n + 1) (drop (i * 8) w)) (k * 3) (getD a (getD o k 0 * 4) 0)
 unfolding accessWords accessAt
 access-spans w o a n k h d = ap₂ (λ m ws. pos m ∷ ws) (sym (add-one (getD o k 0))) (forms-flat w n (k * 3) (getD a (getD o k 0 * 4) 0) (omega arith))

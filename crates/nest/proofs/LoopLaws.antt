@@ -13,6 +13,7 @@ use Rattle.integers.specs.Affine.{Within}
 use Rattle.model.specs.Ticket.{Loop}
 use Rattle.model.specs.Shape.{Sized, Shaped}
 use Rattle.model.specs.Ranges.{LoopRanges}
+use Rattle.model.specs.Grammar.{nestRoom}
 use Rattle.bounds.specs.Flat.{limitsAt, Positive}
 use Rattle.nest.specs.Laid.{layLimits, layLoop, layCount, layLoops, layCounts}
 use Rattle.nest.proofs.PutLaws.{getD-front}
@@ -36,7 +37,7 @@ counts-more c k (M ∷ N) L =
 
 -- ---- one loop: what stays
 
-module _ (s : List ℤ) (k : ℕ) (L : Loop) (words : length s ≡ 1536) (shallow : suc k ≤ 6) (sized : Sized k (L .lower) × Sized k (L .upper)) (ranges : LoopRanges 16 L) where
+module _ (s : List ℤ) (k : ℕ) (L : Loop) (words : length s ≡ nestRoom) (shallow : suc k ≤ 6) (sized : Sized k (L .lower) × Sized k (L .upper)) (ranges : LoopRanges 16 L) where
   low-length : length (layLimits s (k * 32) (L .lower)) ≡ length s
   low-length = let h = ranges .few-lower .high in lay-length k (omega arith) s (k * 32) (L .lower) (sized .0) (omega arith)
 
@@ -129,7 +130,7 @@ LaidAll s c k (L ∷ N) = Laid s c k L × LaidAll s c (suc k) N
 
 -- a nest of at most 6 loops, the first of them loop k, in slices of the right lengths
 pub record Fit (s : List ℤ) (c : List ℕ) (k : ℕ) (N : List Loop) : Type 0 where
-  pub words : length s ≡ 1536
+  pub words : length s ≡ nestRoom
   pub counts : length c ≡ 12
   pub shallow : k + length N ≤ 6
   pub shaped : Shaped k N
@@ -161,7 +162,7 @@ module _ (s : List ℤ) (c : List ℕ) (k : ℕ) (L : Loop) (N : List Loop) (f :
     upper-count = upper-count c k L (omega arith);
   }
 
-pub loops-length : (s : List ℤ) (c : List ℕ) (k : ℕ) (N : List Loop) → Fit s c k N → (length (layLoops s k N) ≡ 1536) × (length (layCounts c k N) ≡ 12)
+pub loops-length : (s : List ℤ) (c : List ℕ) (k : ℕ) (N : List Loop) → Fit s c k N → (length (layLoops s k N) ≡ nestRoom) × (length (layCounts c k N) ≡ 12)
 unfolding layLoops layCounts
 loops-length s c k [] f = (f .words, f .counts)
 loops-length s c k (L ∷ N) f = loops-length (layLoop s k L) (layCount c k L) (suc k) N (next-fit s c k L N f)

@@ -11,6 +11,7 @@ use Rattle.model.specs.Ticket as Model
 use Rattle.model.specs.Grammar as Grammar
 use Rattle.model.specs.Ranges.{Small}
 use Rattle.model.proofs.Grammar.GrammarLaws.{decode-ranges, decode-formed}
+use Rattle.model.specs.Grammar.{mostWords, nestRoom, mostAccesses, mostStatements}
 use Rattle.bounds.specs.Flat.{loopsFrom, NestOk}
 use Rattle.reading.specs.Refusals.{answer, firstOf}
 use Rattle.reading.specs.declared.Refusal.{Refusal}
@@ -39,12 +40,12 @@ use Rattle.ticket.proofs.SectionLaws.{joined, ended}
 -- ---- what the readers ask
 
 -- zeros can be lent
-pub zeros-lent : Lent (replicate 1536 (pos 0)) (replicate 480 (pos 0))
+pub zeros-lent : Lent (replicate nestRoom (pos 0)) (replicate mostWords (pos 0))
 zeros-lent = record {
-  limits-length = length-replicate 1536 (pos 0);
-  limits-small = small-within (replicate 1536 (pos 0)) (all-replicate Small 1536 (pos 0) (omega arith));
-  words-length = length-replicate 480 (pos 0);
-  words-small = all-replicate Small 480 (pos 0) (omega arith);
+  limits-length = length-replicate nestRoom (pos 0);
+  limits-small = small-within (replicate nestRoom (pos 0)) (all-replicate Small nestRoom (pos 0) (omega arith));
+  words-length = length-replicate mostWords (pos 0);
+  words-small = all-replicate Small mostWords (pos 0) (omega arith);
 }
 
 pub lent-room : (l w : List ℤ) → Lent l w → Nest.Room l (replicate 12 0)
@@ -116,7 +117,7 @@ module _ (b : List ℕ) (l w : List ℤ) (lent : Lent l w) (O : Outline) (l′ w
   few-arrays : P .arrays ≤ 4
   few-arrays = let l = a .few in omega arith
 
-  few-accesses : P .accesses ≤ 20
+  few-accesses : P .accesses ≤ mostAccesses
   few-accesses = let l = c .few-accesses in omega arith
 
   module _ (v : u ≡ Status.Fine) where
@@ -140,14 +141,14 @@ module _ (b : List ℕ) (l w : List ℤ) (lent : Lent l w) (O : Outline) (l′ w
     unfolding ticketOn
     ticket-same = ap (λ (m : Model.Nest). record { nest = m; steps = stepsOf (S .steps) }) nest-same
 
-    sheet-fine : length (P .sizes) ≡ 4 → length (P .rules) ≡ 4 → length (P .constants) ≡ 4 → length (P .owners) ≡ 20 → SheetIn P
+    sheet-fine : length (P .sizes) ≡ mostStatements → length (P .rules) ≡ mostStatements → length (P .constants) ≡ mostStatements → length (P .owners) ≡ mostAccesses → SheetIn P
     sheet-fine = sheet-in P w (lent .words-length) (lent .words-small) (a .arrays) (c .statements) B nest-ok (a .count ∙ sym arrays-is) few-arrays (a .laid) (c .laid body-fine) statements-is accesses-is few-accesses
         (decode-ranges b decoded-there .nest) (decode-formed b decoded-there)
 
   all-same : decoded u (ticketOn P (S .steps)) ≡ Grammar.decode b
   all-same = same-answer u (ticketOn P (S .steps)) T ticket-same ∙ ticket-read
 
-  ticket-in : length (P .sizes) ≡ 4 → length (P .rules) ≡ 4 → length (P .constants) ≡ 4 → length (P .owners) ≡ 20
+  ticket-in : length (P .sizes) ≡ mostStatements → length (P .rules) ≡ mostStatements → length (P .constants) ≡ mostStatements → length (P .owners) ≡ mostAccesses
       → u ≡ Status.Fine → TicketIn P (S .steps)
   unfolding ticketOn
   ticket-in i j k o v = let t = accepted-there u (ticketOn P (S .steps)) b v all-same in record {
@@ -158,7 +159,7 @@ module _ (b : List ℕ) (l w : List ℤ) (lent : Lent l w) (O : Outline) (l′ w
     formed = decode-formed b t;
   }
 
-  pub decodes : length (P .sizes) ≡ 4 → length (P .rules) ≡ 4 → length (P .constants) ≡ 4 → length (P .owners) ≡ 20 → Decodes (Grammar.decode b) (record { status = u; steps = S .steps; outline = O }) l′ w′
+  pub decodes : length (P .sizes) ≡ mostStatements → length (P .rules) ≡ mostStatements → length (P .constants) ≡ mostStatements → length (P .owners) ≡ mostAccesses → Decodes (Grammar.decode b) (record { status = u; steps = S .steps; outline = O }) l′ w′
   decodes i j k o = record {
     same = all-same;
     within = record { ticket = ticket-in i j k o };

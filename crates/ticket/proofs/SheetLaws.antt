@@ -13,7 +13,7 @@ use Rattle.lists.proofs.FlatMapLaws.{all-flatMap}
 use Rattle.lists.proofs.PartLaws.{take-put-end}
 use Rattle.integers.proofs.AffineLaws.{within-take}
 use Rattle.model.specs.Ticket.{Subscript, Access, Statement, Nest}
-use Rattle.model.specs.Grammar.{extents, total}
+use Rattle.model.specs.Grammar.{extents, total, mostWords, mostAccesses, accessRoom, mostStatements}
 use Rattle.model.specs.Bounds.{accessesOf}
 use Rattle.model.specs.Ranges.{Small, ArrayRanges, AccessRanges, StatementRanges, NestRanges}
 use Rattle.model.specs.Shape.{Fits, WellFormed}
@@ -33,7 +33,7 @@ use Rattle.ticket.proofs.StatementBack.{no-access, sum-sizes, statement
 
 -- zeros, as the small slices are before they are laid over
 abbrev pub noOwners : List ℕ
-noOwners = replicate 20 0
+noOwners = replicate mostAccesses 0
 
 abbrev pub noExtents : List ℕ
 noExtents = replicate 16 0
@@ -47,9 +47,9 @@ loops-count s c k (suc n) = ap suc (loops-count s c (suc k) n)
 abbrev pub nestOn : Sheet → List (List ℕ) → List Statement → Nest
 nestOn P as′ ss = record { loops = loopsFrom (P .limits) (P .counts) 0 (P .depth); arrays = as′; statements = ss }
 
-module _ (P : Sheet) (w : List ℤ) (room : length w ≡ 480) (small : All Small w) (as′ : List (List ℕ)) (ss : List Statement) (t : BodyRead) (nest : NestOk (P .limits) (P .counts) (P .depth)) (array-count : length as′ ≡ P .arrays) (few-arrays : P .arrays ≤ 4)
+module _ (P : Sheet) (w : List ℤ) (room : length w ≡ mostWords) (small : All Small w) (as′ : List (List ℕ)) (ss : List Statement) (t : BodyRead) (nest : NestOk (P .limits) (P .counts) (P .depth)) (array-count : length as′ ≡ P .arrays) (few-arrays : P .arrays ≤ 4)
     (e : P .extents ≡ layRows 4 noExtents 0 (map shapeWords as′)) (b : BodyLaid ss w (P .words) noOwners (P .owners) (P .sizes) (P .rules) (P .constants) t)
-    (statements-is : P .statements ≡ t .count) (accesses-is : P .accesses ≡ t .accesses) (few-accesses : P .accesses ≤ 20)
+    (statements-is : P .statements ≡ t .count) (accesses-is : P .accesses ≡ t .accesses) (few-accesses : P .accesses ≤ mostAccesses)
     (ranges : NestRanges 4 4 (nestOn P as′ ss)) (formed : WellFormed (nestOn P as′ ss)) where
   abbrev all : List Access
   all = accessesIn ss
@@ -83,10 +83,10 @@ module _ (P : Sheet) (w : List ℤ) (room : length w ≡ 480) (small : All Small
 
   -- ---- lengths
 
-  words-room : (0 + length all) * 24 ≤ length w
+  words-room : (0 + length all) * accessRoom ≤ length w
   words-room = let c = access-count in omega arith
 
-  words-length : length (P .words) ≡ 480
+  words-length : length (P .words) ≡ mostWords
   words-length = ap length (b .laid .words) ∙ accesses-length (P .depth) (nest .shallow) w 0 all all-wide words-room ∙ room
 
   -- the numbers of the arrays, as they stand
@@ -114,7 +114,7 @@ module _ (P : Sheet) (w : List ℤ) (room : length w ≡ 480) (small : All Small
       let u = v .few in
       let h = nest .shallow in
       let c = access-count in
-      part-take ((i * 3 + d) * 8) (suc (P .depth)) (P .accesses * 24) (P .words) (omega arith)
+      part-take ((i * 3 + d) * 8) (suc (P .depth)) (P .accesses * accessRoom) (P .words) (omega arith)
       ∙ ap₂ (λ l j. wordsAt l (P .depth) (j * 3 + d)) (b .laid .words) (sym (zero-add i))
       ∙ accesses-at (P .depth) (nest .shallow) w 0 all all-wide words-room i no-access g d r)
 
@@ -125,11 +125,11 @@ module _ (P : Sheet) (w : List ℤ) (room : length w ≡ 480) (small : All Small
       let a = used-length noExtents blank-length as′ (P .arrays) array-count few-arrays (ranges .arrays) (P .extents) e in
       let u = used-arrays noExtents blank-length as′ (P .arrays) array-count few-arrays (ranges .arrays) (P .extents) e in
       record {
-        words = length-take-le (P .accesses * 24) (P .words) (omega arith) ∙ ap (_* 24) (sym o);
+        words = length-take-le (P .accesses * accessRoom) (P .words) (omega arith) ∙ ap (_* accessRoom) (sym o);
         many = omega arith;
         few = omega arith;
         shallow = nest .shallow;
-        small = within-take 32767 (P .words) (P .accesses * 24)
+        small = within-take 32767 (P .words) (P .accesses * accessRoom)
             (small-within (P .words) (subst (All Small) (sym (b .laid .words)) (accesses-small w 0 all small all-ranges)));
         dimensions = few-dimensions noExtents blank-length as′ (P .arrays) array-count few-arrays (ranges .arrays) (P .extents) e;
         extents = small-extents noExtents blank-length as′ (P .arrays) array-count few-arrays (ranges .arrays) (P .extents) e (all-replicate (λ x. x ≤ 4096) 16 0 (omega arith));
@@ -173,7 +173,7 @@ module _ (P : Sheet) (w : List ℤ) (room : length w ≡ 480) (small : All Small
   unfolding nestOf
   sheet-stands = by-parts _ _ arrays-stand statements-same
 
-  pub sheet-in : length (P .sizes) ≡ 4 → length (P .rules) ≡ 4 → length (P .constants) ≡ 4 → length (P .owners) ≡ 20 → SheetIn P
+  pub sheet-in : length (P .sizes) ≡ mostStatements → length (P .rules) ≡ mostStatements → length (P .constants) ≡ mostStatements → length (P .owners) ≡ mostAccesses → SheetIn P
   sheet-in s r c o = record {
     nest = nest;
     some = let n = loops-count (P .limits) (P .counts) 0 (P .depth) in let h = ranges .few-loops .low in omega arith;

@@ -2,6 +2,7 @@
 use borrow.Author.Needs.{needs}
 use Prim.Native.Nat.{_-_}
 use lib.ListN.{length}
+use Rattle.model.specs.Grammar.{mostAccesses}
 use Rattle.lengths.specs.Lengths.{accessLength}
 use Rattle.lengths.proofs.SumLaws.{Summing, sum-start, sum-more, sum-done, sum-small}
 use Rattle.lengths.proofs.accesses_words.Statement.{statement}
@@ -20,7 +21,7 @@ access-words-requires : tie.Need-access-words-requires Inv-loop μ-loop
 access-words-requires c κs = (c .before .before .before .before .pre, c .loop-test .taken)
 
 add-total : tie.Need-add-total Inv-loop μ-loop
-add-total c = let i = sum-small (c .before .before .loop .inv) 20 (c .before .before .before .before .before .pre .many) in let e = c .access-words .ensures .1 in search needs
+add-total c = let i = sum-small (c .before .before .loop .inv) mostAccesses (c .before .before .before .before .before .pre .many) in let e = c .access-words .ensures .1 in search needs
 
 add-k : tie.Need-add-k Inv-loop μ-loop
 add-k c = search needs
@@ -32,7 +33,7 @@ loop-again : tie.Need-loop-again Inv-loop μ-loop
 loop-again c = sum-more (c .before .before .loop .inv) (c .before .loop-test .taken) (c .access-words .ensures .0) (c .access-words .ensures .1)
 
 returns : tie.Need-returns Inv-loop μ-loop
-returns c = let i = c .before .loop .inv in (sum-done i (c .loop-test .left), sum-small i 20 (c .before .before .before .before .pre .many))
+returns c = let i = c .before .loop .inv in (sum-done i (c .loop-test .left), sum-small i mostAccesses (c .before .before .before .before .pre .many))
 
 pub accesses-words-spec : {M : Type 1} → statement M
 accesses-words-spec =
