@@ -3,6 +3,8 @@ ghost use mathlib.Core.Path.{_≡_};
 ghost use Rattle.model.specs.Entries as Entries;
 ghost use Rattle.intake.specs.Answers.{answerOf};
 use intake::Answer;
+use model::NEST_ROOM;
+use model::WORDS;
 use reading::Status;
 
 // Where it accepts, the new order runs each iteration of the old exactly once and every array ends equal, whatever the arrays hold and whatever
@@ -10,8 +12,8 @@ use reading::Status;
 pub fn judge(ticket: &[u8]) -> Answer
     ensures { λ r. ⌜ answerOf r ≡ Entries.judge (now (ticket .entry)) ⌝ }
 {
-    let mut limits = [0i16; 1536];
-    let mut words = [0i16; 480];
+    let mut limits = [0i16; NEST_ROOM];
+    let mut words = [0i16; WORDS];
     let read = ticket::decode(ticket, &mut limits, &mut words);
     let decided = verdict::decide(read, &mut limits, &mut words);
     let status = decided.status;

@@ -10,6 +10,10 @@ ghost use Rattle.finding.specs.Findings.{FindIn};
 ghost use Rattle.list_entry.specs.Listable.{Listable, FoundIn, listNest};
 use admission::Counted;
 use intake::Answer;
+use model::MARKS;
+use model::NEST_ROOM;
+use model::PAIR_MARKS;
+use model::WORDS;
 use reading::Refusal;
 use reading::Status;
 use sheet::Outline;
@@ -89,10 +93,10 @@ fn list_nest(
     ensures { λ r. ⌜ Hands (listNest (nestOf (sheetOf outline (now (limits .entry)) (now (words .entry)))) (now (out .entry))) r (now (out .exit)) ⌝ }
 {
     if outline.statements <= 2 {
-        let mut few = [false; 8748];
+        let mut few = [false; 2 * 2 * PAIR_MARKS];
         return list_with(outline, limits, words, count, &mut few, out);
     }
-    let mut marks = [false; 34992];
+    let mut marks = [false; MARKS];
     list_with(outline, limits, words, count, &mut marks, out)
 }
 
@@ -112,8 +116,8 @@ pub fn list_decoded(read: Decoded, limits: &[i16], words: &[i16], out: &mut [u8]
 pub fn list(ticket: &[u8], out: &mut [u8]) -> Answer
     ensures { λ r. ⌜ Hands (Entries.list (now (ticket .entry)) (now (out .entry))) r (now (out .exit)) ⌝ }
 {
-    let mut limits = [0i16; 1536];
-    let mut words = [0i16; 480];
+    let mut limits = [0i16; NEST_ROOM];
+    let mut words = [0i16; WORDS];
     let read = ticket::decode(ticket, &mut limits, &mut words);
     list_decoded(read, &limits, &words, out)
 }

@@ -8,6 +8,8 @@ ghost use Rattle.admission.specs.Admission.{Waits};
 ghost use Rattle.ticket.specs.Ticket.{DecodedIn, ticketOf};
 ghost use Rattle.quick_entry.specs.Answers.{answerOf, tested, FoundIn, testNest};
 use admission::Counted;
+use model::NEST_ROOM;
+use model::WORDS;
 use reading::Refusal;
 use reading::Status;
 use sheet::Outline;
@@ -107,8 +109,8 @@ pub fn quick_decoded(
 pub fn quick(ticket: &[u8], first: usize, second: usize) -> Tested
     ensures { λ r. ⌜ answerOf r ≡ Entries.quick (now (ticket .entry)) first second ⌝ }
 {
-    let mut limits = [0i16; 1536];
-    let mut words = [0i16; 480];
+    let mut limits = [0i16; NEST_ROOM];
+    let mut words = [0i16; WORDS];
     let read = ticket::decode(ticket, &mut limits, &mut words);
     quick_decoded(read, &limits, &words, first, second)
 }

@@ -2,14 +2,16 @@
 ghost use Rattle.model.specs.Entries as Entries;
 ghost use Rattle.intake.specs.Answers.{Hands};
 use intake::Answer;
+use model::NEST_ROOM;
+use model::WORDS;
 use reading::Status;
 
 // Judges 1 to 13, then 15 and 16. An accepted run leaves the store that the old order leaves (model, Demands: demand-3, run-store).
 pub fn run(ticket: &[u8], store: &mut [u32]) -> Answer
     ensures { λ r. ⌜ Hands (Entries.runEntry (now (ticket .entry)) (now (store .entry))) r (now (store .exit)) ⌝ }
 {
-    let mut limits = [0i16; 1536];
-    let mut words = [0i16; 480];
+    let mut limits = [0i16; NEST_ROOM];
+    let mut words = [0i16; WORDS];
     let read = ticket::decode(ticket, &mut limits, &mut words);
     let decided = verdict::decide(read, &mut limits, &mut words);
     let status = decided.status;

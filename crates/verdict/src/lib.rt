@@ -7,6 +7,7 @@ ghost use Rattle.intake.specs.Intake.{Laid};
 ghost use Rattle.verdict.specs.Verdicts.{Decides, DecidesOn};
 use admission::Counted;
 use directions::DirectionSet;
+use model::VECTORS;
 use reading::Refusal;
 use reading::Status;
 use sheet::Outline;
@@ -49,7 +50,7 @@ fn decide_counted(
     requires { ⌜ Laid (sheetOf outline (now limits) (now words)) steps count ⌝ }
     ensures { λ r. ⌜ DecidesOn (sheetOf outline (now (limits .entry)) (now (words .entry))) steps r (now (limits .exit)) (now (words .exit)) ⌝ }
 {
-    let mut marks = [false; 729];
+    let mut marks = [false; VECTORS];
     let found = finding::find_directions(outline, limits, words, count, &mut marks);
     match found {
         Status::Fine => {}

@@ -3,6 +3,8 @@ ghost use Rattle.model.specs.Entries as Entries;
 ghost use Rattle.intake.specs.Answers.{Hands};
 use encoding::Encoded;
 use intake::Answer;
+use model::NEST_ROOM;
+use model::WORDS;
 use reading::Refusal;
 use reading::Status;
 
@@ -10,8 +12,8 @@ use reading::Status;
 pub fn write(ticket: &[u8], out: &mut [u8]) -> Answer
     ensures { λ r. ⌜ Hands (Entries.write (now (ticket .entry)) (now (out .entry))) r (now (out .exit)) ⌝ }
 {
-    let mut limits = [0i16; 1536];
-    let mut words = [0i16; 480];
+    let mut limits = [0i16; NEST_ROOM];
+    let mut words = [0i16; WORDS];
     let read = ticket::decode(ticket, &mut limits, &mut words);
     let decided = verdict::decide(read, &mut limits, &mut words);
     let status = decided.status;
