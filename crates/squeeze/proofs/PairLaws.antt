@@ -52,7 +52,6 @@ module _ (F : Pairs) (m : List Bool) (p : PairsIn F m) (a b : ℕ) (la : a < len
         let r = p .room in
         record {
           small = p .accesses .small;
-          room = omega arith;
           source = omega arith;
           sink = omega arith;
           dimensions = d;
