@@ -6,7 +6,7 @@ use Prim.Native.Nat.{ℕ, zero, suc, _+_, _*_, _≤_, _<_}
 use native.Mathlib.Omega.{arith}
 use native.Mathlib.Numerals.{add-one}
 use lib.IntN.{ℤ}
-use lib.ListN.{length, getD, take, drop, length-append, take-append-drop}
+use lib.ListN.{length, getD, take, drop}
 use Rattle.integers.specs.Sign.{Sign}
 use Rattle.lists.specs.Membership.{SameMembers}
 use Rattle.lists.proofs.MembershipLaws.{members-refl, members-trans}
@@ -15,7 +15,7 @@ use Rattle.model.specs.Ticket as Model
 use Rattle.model.specs.Grammar.{depthAfter}
 use Rattle.model.specs.Ranges.{StepThere, StepsThere}
 use Rattle.model.specs.Steps.{vectorsAfterAll, somePointsBack}
-use Rattle.model.specs.Judge.{judgeSteps, directionsOf}
+use Rattle.model.specs.Judge.{stages, judgeSteps, directionsOf}
 use Rattle.model.proofs.Verdict.SameVectorsLaws.{vectorsAfter-same, judgeSteps-same}
 use Rattle.reading.proofs.ReaderLaws.{not-fine}
 use Rattle.reading.specs.declared.Refusal.{Refusal}
@@ -26,18 +26,14 @@ use Rattle.steps.specs.Steps.{stepOf, stepsOf, NumberedFrom, StepsIn}
 use Rattle.steps.specs.declared.Numbered.{Numbered}
 use Rattle.steps.specs.declared.Steps.{Steps}
 use Rattle.sheet.specs.declared.Outline.{Outline}
-use Rattle.sheet.specs.Sheets.{Sheet, sheetOf, extentsIn, ownersIn, wordsIn, nestOf, SheetIn}
+use Rattle.sheet.specs.Sheets.{Sheet, sheetOf, nestOf, SheetIn}
 use Rattle.sheet.proofs.StageLaws.{depth-is}
 use Rattle.directions.specs.Sets.{vectorsOf, After}
 use Rattle.directions.specs.declared.DirectionSet.{DirectionSet}
 use Rattle.ticket.specs.Ticket.{ticketOn}
-use Rattle.judgement.specs.Judgement.{unless, judgedAs, StepJudged, JudgeIn, JudgesSteps}
+use Rattle.judgement.specs.Judgement.{unless, judgedAs, moved, Taken, JudgeIn, JudgesSteps}
 use Rattle.judgement.specs.declared.Judged.{Judged}
-use Rattle.judgement.proofs.StepLaws.{moved, judged-back, judged-step, sheet-goes-on, level-goes-on}
-
--- a part that was lent came back as long as it was
-pub part-kept : (v w : List ℤ) (n : ℕ) → length v ≡ length (take n w) → length (v ++ drop n w) ≡ length w
-part-kept v w n e = length-append v (drop n w) ∙ ap (_+ length (drop n w)) e ∙ sym (length-append (take n w) (drop n w)) ∙ ap length (take-append-drop n w)
+use Rattle.judgement.proofs.StepLaws.{judged-back, judged-step, level-goes-on}
 
 -- ---- the step at a place
 
@@ -107,16 +103,16 @@ module _ (S : Steps) (j : StepsIn S) (P : Sheet) (s₀ : DirectionSet) (Q : Shee
         ap (λ (u : Status). judgedAs u M) y
         ∙ sym (so-next ∙ judged-back Q (v .sheet) s (v .level) (x .step) step-there q a b p (x .number) (drop (suc k) (stepsOf S)) e)
 
-    module _ (e : b ≡ false) (z : Status) (l : List ℤ) (c : List ℕ) (w : List ℤ) (g : StepJudged (x .step) (x .number) (Q .limits) (Q .counts) (wordsIn Q) (ownersIn Q) (extentsIn Q) (Q .depth) z l c w) where
-      abbrev R : ℕ → Sheet
-      R m = moved Q m l c (w ++ drop (Q .accesses * 24) (Q .words))
+    abbrev depth : ℕ
+    depth = depthAfter (stepOf (x .step)) (Q .depth)
 
-      abbrev depth : ℕ
-      depth = depthAfter (stepOf (x .step)) (Q .depth)
+    module _ (e : b ≡ false) (z : Status) (l : List ℤ) (c : List ℕ) (w : List ℤ) (g : Taken (stages (stepOf (x .step))) depth (x .number) Q z l c w) where
+      abbrev R : ℕ → Sheet
+      R m = moved Q m l c w
 
       goes-on : judgeSteps 1 (stepsOf S) (vectorsOf s₀) (nestOf P) ≡ unless z (judgeSteps (suc (suc k)) (drop (suc k) (stepsOf S)) (vectorsOf q) (nestOf (R depth)))
       goes-on = so-next
-          ∙ judged-step Q (v .sheet) s (v .level) (x .step) step-there q a b p (x .number) (drop (suc k) (stepsOf S)) e z l c w g
+          ∙ judged-step Q (v .sheet) s (v .level) (x .step) step-there q a b p (x .number) (drop (suc k) (stepsOf S)) e depth z l c w g
           ∙ ap (λ n. unless z (judgeSteps (suc n) (drop (suc k) (stepsOf S)) (vectorsOf q) (nestOf (R depth)))) number-is
 
       pub stops : (y : Refusal) → z ≡ Refused y → (u : Status) → u ≡ Refused y → (M : Model.Nest) → judgedAs u M ≡ judgeSteps 1 (stepsOf S) (vectorsOf s₀) (nestOf P)
@@ -128,7 +124,7 @@ module _ (S : Steps) (j : StepsIn S) (P : Sheet) (s₀ : DirectionSet) (Q : Shee
       one-more f m y = subst (λ n. SoFar S P s₀ (R n) q (k + 1)) (sym y) (rw (add-one k) (record {
         few = omega arith;
         so = goes-on ∙ ap (λ (t : Status). unless t (judgeSteps (suc (suc k)) (drop (suc k) (stepsOf S)) (vectorsOf q) (nestOf (R depth)))) f;
-        sheet = sheet-goes-on Q (v .sheet) s (v .level) (x .step) step-there q a b p (x .number) (drop (suc k) (stepsOf S)) e z l c w g f;
+        sheet = g .sheet f;
         level = level-goes-on Q (v .sheet) s (v .level) (x .step) step-there q a;
         vectors = vectors-next;
         there = next-there .1;

@@ -6,11 +6,13 @@ use Prim.Native.Nat.{ℕ, _≤_}
 use lib.IntN.{ℤ}
 use Rattle.lists.specs.Membership.{SameMembers}
 use Rattle.model.specs.Answer.{Answer, accepted}
+use Rattle.model.specs.Ticket as Model
 use Rattle.model.specs.Bounds.{sprawl}
 use Rattle.model.specs.Ranges.{StepThere, NestRanges, TicketRanges}
 use Rattle.model.specs.Shape.{WellFormed}
 use Rattle.model.specs.Steps.{vectorsAfterAll}
-use Rattle.model.specs.Judge.{judgeSteps, directionsOf, judgeTicket}
+use Rattle.model.specs.Limits.{nestAfterAll}
+use Rattle.model.specs.Judge.{judgeStages, judgeSteps, directionsOf, judgeTicket}
 use Rattle.reading.specs.Refusals.{refusal}
 use Rattle.reading.specs.declared.Refusal.the-variants.{TooManyLimits, NumberOutOfRange}
 use Rattle.reading.specs.declared.Status.{Status}
@@ -20,6 +22,7 @@ use Rattle.steps.specs.declared.Step.{Step}
 use Rattle.steps.specs.declared.Steps.{Steps}
 use Rattle.directions.specs.Sets.{vectorsOf}
 use Rattle.directions.specs.declared.DirectionSet.{DirectionSet}
+use Rattle.sheet.specs.declared.Outline.{Outline}
 use Rattle.sheet.specs.Sheets.{Sheet, sheetOf, nestOf, SheetIn}
 use Rattle.restructure.specs.declared.Stepped.{Stepped}
 use Rattle.stepping.specs.Taking.{Takes}
@@ -44,14 +47,45 @@ pub record DirectionIn (s : DirectionSet) (t : Step) : Type 0 where
   pub there : StepThere (s .depth) (stepOf t)
 
 -- 11, then 12
-abbrev pub stepStatus : Bool → Bool → ℕ → Status
-stepStatus full small k = cond full (Refused (TooManyLimits k)) (cond small Fine (Refused (NumberOutOfRange k)))
+abbrev pub stageStatus : Bool → Bool → ℕ → Status
+stageStatus full small k = cond full (Refused (TooManyLimits k)) (cond small Fine (Refused (NumberOutOfRange k)))
 
--- step k was taken on these slices, and answered so
-pub record StepJudged (t : Step) (k : ℕ) (s : List ℤ) (c : List ℕ) (w : List ℤ) (o a : List ℕ) (depth : ℕ) (r : Status) (s′ : List ℤ) (c′ : List ℕ) (w′ : List ℤ) : Type 0 where
+-- a stage of step k was taken on these slices, and answered so
+pub record StageTaken (t : Step) (k : ℕ) (s : List ℤ) (c : List ℕ) (w : List ℤ) (o a : List ℕ) (depth : ℕ) (r : Status) (s′ : List ℤ) (c′ : List ℕ) (w′ : List ℤ) : Type 0 where
   pub stepped : Stepped
   pub takes : Takes (stepOf t) s c w o a depth stepped s′ c′ w′
-  pub status : r ≡ stepStatus (stepped .full) (stepped .small) k
+  pub status : r ≡ stageStatus (stepped .full) (stepped .small) k
+
+-- P with these loops and subscripts
+abbrev pub moved : Sheet → ℕ → List ℤ → List ℕ → List ℤ → Sheet
+moved P d l c w = record {
+  depth = d;
+  limits = l;
+  counts = c;
+  arrays = P .arrays;
+  extents = P .extents;
+  statements = P .statements;
+  sizes = P .sizes;
+  rules = P .rules;
+  constants = P .constants;
+  accesses = P .accesses;
+  owners = P .owners;
+  words = w;
+}
+
+-- an outline whose loops have become others
+abbrev pub sheetAt : Outline → ℕ → List ℤ → List ℕ → List ℤ → Sheet
+sheetAt O d l c w = moved (sheetOf O l w) d l c w
+
+pub record TakeIn (P : Sheet) (t : Step) : Type 0 where
+  pub sheet : SheetIn P
+  pub there : StepThere (P .depth) (stepOf t)
+
+-- step k was taken on P by the stages ts; where none was refused, the nest after them stands on these slices, with m loops
+pub record Taken (ts : List Model.Step) (m k : ℕ) (P : Sheet) (r : Status) (l : List ℤ) (c : List ℕ) (w : List ℤ) : Type 0 where
+  pub same : judgedAs r tt ≡ judgeStages k ts (nestOf P)
+  pub nest : r ≡ Fine → nestOf (moved P m l c w) ≡ nestAfterAll ts (nestOf P)
+  pub sheet : r ≡ Fine → SheetIn (moved P m l c w)
 
 -- ---- a ticket
 

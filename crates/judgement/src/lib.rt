@@ -3,11 +3,13 @@
 ghost use mathlib.Core.Path.{_≡_};
 ghost use Prim.Native.Nat.{_≤_};
 ghost use Rattle.reading.specs.declared.Status.the-variants.{Refused};
+ghost use Rattle.model.specs.Grammar.{depthAfter};
+ghost use Rattle.model.specs.Judge.{stages};
 ghost use Rattle.steps.specs.Steps.{stepOf};
 ghost use Rattle.directions.specs.Sets.{After};
 ghost use Rattle.sheet.specs.Sheets.{sheetOf, SheetIn};
 ghost use Rattle.stepping.specs.Taking.{TakingIn};
-ghost use Rattle.judgement.specs.Judgement.{DirectionIn, stepStatus, StepJudged, SurveyedNew, JudgeIn, JudgesSteps, Judges};
+ghost use Rattle.judgement.specs.Judgement.{DirectionIn, stageStatus, StageTaken, sheetAt, TakeIn, Taken, SurveyedNew, JudgeIn, JudgesSteps, Judges};
 use directions::DirectionSet;
 use reading::Refusal;
 use reading::Status;
@@ -73,8 +75,8 @@ fn direction_after(set: DirectionSet, step: Step) -> DirectionSet
 }
 
 // Refusals 11 and 12 in this order.
-fn step_status(full: bool, small: bool, number: usize) -> Status
-    ensures { λ r. ⌜ r ≡ stepStatus full small number ⌝ }
+fn stage_status(full: bool, small: bool, number: usize) -> Status
+    ensures { λ r. ⌜ r ≡ stageStatus full small number ⌝ }
 {
     if full {
         return Status::Refused(Refusal::TooManyLimits(number));
@@ -85,22 +87,51 @@ fn step_status(full: bool, small: bool, number: usize) -> Status
     Status::Refused(Refusal::NumberOutOfRange(number))
 }
 
-// Takes step `number` on the slices of a sheet, for refusals 11 and 12.
-fn take(
+// Takes a stage of step `number` on the slices of a sheet.
+fn take_stage(
     limits: &mut [i16],
     counts: &mut [usize],
     words: &mut [i16],
     owners: &[usize],
     extents: &[usize],
     depth: usize,
+    stage: Step,
+    number: usize,
+) -> Status
+    requires { ⌜ TakingIn (now limits) (now counts) (now words) (now owners) (now extents) depth stage ⌝ }
+    ensures { λ r. ⌜ StageTaken stage number (now (limits .entry)) (now (counts .entry)) (now (words .entry)) (now (owners .entry)) (now (extents .entry)) depth r (now (limits .exit)) (now (counts .exit)) (now (words .exit)) ⌝ }
+{
+    let taken = stepping::take_step(limits, counts, words, owners, extents, depth, stage);
+    stage_status(taken.full, taken.small, number)
+}
+
+// Takes step `number`, whose only stage is itself, on a sheet that has by now these loops: the outline tells the parts in use.
+fn take(
+    outline: Outline,
+    limits: &mut [i16],
+    counts: &mut [usize],
+    words: &mut [i16],
+    depth: usize,
     step: Step,
     number: usize,
 ) -> Status
-    requires { ⌜ TakingIn (now limits) (now counts) (now words) (now owners) (now extents) depth step ⌝ }
-    ensures { λ r. ⌜ StepJudged step number (now (limits .entry)) (now (counts .entry)) (now (words .entry)) (now (owners .entry)) (now (extents .entry)) depth r (now (limits .exit)) (now (counts .exit)) (now (words .exit)) ⌝ }
+    requires { ⌜ TakeIn (sheetAt outline depth (now limits) (now counts) (now words)) step ⌝ }
+    ensures { λ r. ⌜ Taken (stages (stepOf step)) (depthAfter (stepOf step) depth) number (sheetAt outline depth (now (limits .entry)) (now (counts .entry)) (now (words .entry))) r (now (limits .exit)) (now (counts .exit)) (now (words .exit)) ⌝ }
 {
-    let taken = stepping::take_step(limits, counts, words, owners, extents, depth, step);
-    step_status(taken.full, taken.small, number)
+    let owners = outline.owners;
+    let extents = outline.extents;
+    let accesses = outline.accesses;
+    let arrays = outline.arrays;
+    take_stage(
+        limits,
+        counts,
+        &mut words[..accesses * 24],
+        &owners[..accesses],
+        &extents[..arrays * 4],
+        depth,
+        step,
+        number,
+    )
 }
 
 // ---- all steps
@@ -118,10 +149,6 @@ fn judge_steps(
 {
     let count = steps.count;
     let all = steps.steps;
-    let owners = outline.owners;
-    let extents = outline.extents;
-    let accesses = outline.accesses;
-    let arrays = outline.arrays;
     let mut counts = outline.counts;
     let mut depth = outline.depth;
     let mut vectors = set;
@@ -134,16 +161,7 @@ fn judge_steps(
         if directions::points_back(after) {
             return refused(Refusal::DependenceReversed(number), outline, set);
         }
-        let status = take(
-            limits,
-            &mut counts,
-            &mut words[..accesses * 24],
-            &owners[..accesses],
-            &extents[..arrays * 4],
-            depth,
-            step,
-            number,
-        );
+        let status = take(outline, limits, &mut counts, words, depth, step, number);
         match status {
             Status::Fine => {}
             Status::Refused(r) => return refused(r, outline, set),
@@ -152,21 +170,23 @@ fn judge_steps(
         vectors = after;
         k += 1;
     }
+    let extents = outline.extents;
     let sizes = outline.sizes;
     let rules = outline.rules;
     let constants = outline.constants;
+    let owners = outline.owners;
     Judged {
         status: Status::Fine,
         outline: Outline {
             depth,
             counts,
-            arrays,
+            arrays: outline.arrays,
             extents,
             statements: outline.statements,
             sizes,
             rules,
             constants,
-            accesses,
+            accesses: outline.accesses,
             owners,
         },
         directions: vectors,

@@ -2,6 +2,7 @@
 pub mod SmallLaws
 pub mod JudgeStepLaws
 pub mod JudgeLaws
+pub mod StageLaws
 pub mod VerdictLaws
 pub mod EntryLaws
 pub mod RunLaws

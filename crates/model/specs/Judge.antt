@@ -36,13 +36,24 @@ smallAccess a = all (λ s. small (s .constant) && all small (s .coefficients)) (
 unfoldable pub smallNumbers : Nest → Bool
 smallNumbers N = all smallLoop (N .loops) && all (λ s. all smallAccess (accessesOf s)) (N .statements)
 
+-- the stages in which a step is taken on the nest: each step of document 01 is its own only one
+unfoldable pub stages : Step → List Step
+stages t = t ∷ []
+
+-- 11, then 12, after each stage of step k
+unfoldable pub judgeStages : ℕ → List Step → Nest → Answer (Unit {0})
+judgeStages k [] N = accepted tt
+judgeStages k (t ∷ ts) N =
+    require (fewLimits (nestAfter t N .loops)) 11 k
+    >> require (smallNumbers (nestAfter t N)) 12 k
+    >> judgeStages k ts (nestAfter t N)
+
 -- from step k on: the set of vectors and the nest go through each step, which is judged when it is taken
 unfoldable pub judgeSteps : ℕ → List Step → List (List Sign) → Nest → Answer Nest
 judgeSteps k [] vs N = accepted N
 judgeSteps k (t ∷ ts) vs N =
     require (not (somePointsBack (vectorsAfter t vs))) 10 k
-    >> require (fewLimits (nestAfter t N .loops)) 11 k
-    >> require (smallNumbers (nestAfter t N)) 12 k
+    >> judgeStages k (stages t) N
     >> judgeSteps (suc k) ts (vectorsAfter t vs) (nestAfter t N)
 
 -- the directions of a nest

@@ -1,33 +1,30 @@
 -- `judge_steps`: the first k steps are judged.
-use mathlib.Core.Path.{_≡_, refl, sym, _∙_, ap, subst}
-use Prim.Native.Nat.{_+_, _*_, _-_}
+use mathlib.Core.Path.{_≡_, sym, _∙_}
+use Prim.Native.Nat.{_-_}
 use native.Mathlib.Omega.{arith}
 use lib.ListN.{length}
 use borrow.Author.Needs.{needs}
-use Rattle.model.specs.Ranges.{StepThere}
 use Rattle.sheet.specs.Sheets.{Sheet, sheetOf}
-use Rattle.sheet.proofs.SheetLaws.{words-count, owners-count, extents-count}
-use Rattle.steps.specs.Steps.{stepOf}
-use Rattle.judgement.proofs.StepLaws.{moved, direction-in, taking-in}
-use Rattle.judgement.proofs.LoopLaws.{part-kept, SoFar, none-judged, step-there, stops-back, stops, one-more, steps-stop, steps-pass}
+use Rattle.judgement.specs.Judgement.{sheetAt}
+use Rattle.judgement.proofs.StepLaws.{direction-in}
+use Rattle.judgement.proofs.LoopLaws.{SoFar, none-judged, step-there, stops-back, stops, one-more, steps-stop, steps-pass}
 use Rattle.judgement.proofs.judge_steps.Statement.{statement}
 use Rattle.judgement.proofs.judge_steps.Tie as tie
 
 abbrev Inv-loop : tie.InvT-loop
-Inv-loop outline limits₀ words₀ set count all owners extents accesses arrays counts₀ depth₀ vectors₀ k₀ limits words counts depth vectors k =
-    SoFar (record { count = count; steps = all }) (sheetOf outline limits₀ words₀) vectors₀ (moved (sheetOf outline limits₀ words₀) depth limits counts words) vectors k
+Inv-loop outline limits₀ words₀ set count all counts₀ depth₀ vectors₀ k₀ limits words counts depth vectors k = SoFar (record { count = count; steps = all }) (sheetOf outline limits₀ words₀) vectors₀ (sheetAt outline depth limits counts words) vectors k
 
 abbrev μ-loop : tie.MeasureT-loop
-μ-loop outline limits₀ words₀ set count all owners extents accesses arrays counts₀ depth₀ vectors₀ k₀ limits words counts depth vectors k = count - k
+μ-loop outline limits₀ words₀ set count all counts₀ depth₀ vectors₀ k₀ limits words counts depth vectors k = count - k
 
 abbrev top : tie.At-loop Inv-loop μ-loop → tie.Start Inv-loop μ-loop
-top c = c .before .before .before .before .before
+top c = c .before .before .before
 
 abbrev P : tie.At-loop Inv-loop μ-loop → Sheet
 P c = sheetOf (top c .args .outline) (top c .args .limits .now) (top c .args .words .now)
 
 abbrev Q : tie.At-loop Inv-loop μ-loop → Sheet
-Q c = moved (P c) (c .loop .depth) (c .loop .limits) (c .loop .counts) (c .loop .words)
+Q c = sheetAt (top c .args .outline) (c .loop .depth) (c .loop .limits) (c .loop .counts) (c .loop .words)
 
 limits-kept : (c : tie.At-loop Inv-loop μ-loop) → length (c .loop .limits) ≡ length (top c .args .limits .now)
 limits-kept c = c .loop .inv .sheet .nest .words ∙ sym (top c .pre .sheet .nest .words)
@@ -36,7 +33,7 @@ words-kept : (c : tie.At-loop Inv-loop μ-loop) → length (c .loop .words) ≡ 
 words-kept c = c .loop .inv .sheet .words-length ∙ sym (top c .pre .sheet .words-length)
 
 loop-holds : tie.Need-loop-holds Inv-loop μ-loop
-loop-holds c = let s = c .before .before .before .before in none-judged _ (s .args .steps) (s .args .set) (s .pre)
+loop-holds c = let s = c .before .before in none-judged _ (s .args .steps) (s .args .set) (s .pre)
 
 mul-numbered : tie.Need-mul-numbered Inv-loop μ-loop
 mul-numbered c = let t = c .loop-test .taken in let f = top (c .before) .pre .steps .few in omega arith
@@ -68,33 +65,9 @@ returns c = let a = c .before .before .before .before .before .before in let s =
 slice-aggregate-take : tie.Need-slice-aggregate-take Inv-loop μ-loop
 slice-aggregate-take c = sym (c .before .before .before .before .before .before .before .loop .inv .sheet .nest .counts)
 
-mul-take : tie.Need-mul-take Inv-loop μ-loop
-mul-take c = let f = c .before .before .before .before .before .before .before .loop .inv .sheet .few-accesses in omega arith
-
-slice-relend-prefix-take : tie.Need-slice-relend-prefix-take Inv-loop μ-loop
-slice-relend-prefix-take c = let i = c .before .before .before .before .before .before .before .loop .inv .sheet in let f = i .few-accesses in let l = i .words-length in omega arith
-
-slice-aggregate-take-2 : tie.Need-slice-aggregate-take-2 Inv-loop μ-loop
-slice-aggregate-take-2 c = sym (words-count (Q (c .before .before .before .before .before .before .before .before)) (c .before .before .before .before .before .before .before .before .loop .inv .sheet))
-
-array-share-prefix-owners : tie.Need-array-share-prefix-owners Inv-loop μ-loop
-array-share-prefix-owners c = let i = c .before .before .before .before .before .before .before .before .loop .inv .sheet in let f = i .few-accesses in let l = i .owners-length in omega arith
-
-slice-aggregate-take-3 : tie.Need-slice-aggregate-take-3 Inv-loop μ-loop
-slice-aggregate-take-3 c = sym (owners-count (Q (c .before .before .before .before .before .before .before .before .before)) (c .before .before .before .before .before .before .before .before .before .loop .inv .sheet))
-
-mul-extents : tie.Need-mul-extents Inv-loop μ-loop
-mul-extents c = let f = c .before .before .before .before .before .before .before .before .before .loop .inv .sheet .few-arrays in omega arith
-
-array-share-prefix-extents : tie.Need-array-share-prefix-extents Inv-loop μ-loop
-array-share-prefix-extents c = let i = c .before .before .before .before .before .before .before .before .before .loop .inv .sheet in let f = i .few-arrays in let l = i .extents-length in omega arith
-
-slice-aggregate-take-4 : tie.Need-slice-aggregate-take-4 Inv-loop μ-loop
-slice-aggregate-take-4 c = sym (extents-count (Q (c .before .before .before .before .before .before .before .before .before .before)) (c .before .before .before .before .before .before .before .before .before .before .loop .inv .sheet))
-
 take-requires : tie.Need-take-requires Inv-loop μ-loop
-take-requires c κs = let a = c .before .before .before .before .before .before .before .before .before .before in let s = top a in let i = a .loop .inv in
-    taking-in (Q a) (i .sheet) (a .loop .vectors) (i .level) _ (step-there (s .args .steps) (s .pre .steps) (P a) (s .args .set) (Q a) (a .loop .vectors) (a .loop .k) i _ (c .before .before .before .before .before .before .before .before .before .loop-test .taken))
+take-requires c κs = let a = c .before .before .before .before .before .before .before .before in let s = top a in let i = a .loop .inv in
+    record { sheet = i .sheet; there = step-there (s .args .steps) (s .pre .steps) (P a) (s .args .set) (Q a) (a .loop .vectors) (a .loop .k) i _ (c .before .before .before .before .before .before .before .loop-test .taken) }
 
 enum-told : tie.Need-enum-told Inv-loop μ-loop
 enum-told c = search needs
@@ -106,19 +79,19 @@ refused-requires-2 : tie.Need-refused-requires-2 Inv-loop μ-loop
 refused-requires-2 c κs = search needs
 
 same-length-3 : tie.Need-same-length-3 Inv-loop μ-loop
-same-length-3 c = c .before .before .before .before .before .before .before .take .kept .0 ∙ limits-kept (c .before .before .before .before .before .before .before .before .before .before .before .before .before .before .before .before .before .before)
+same-length-3 c = c .before .before .before .before .before .before .before .take .kept .1 .0 ∙ limits-kept (c .before .before .before .before .before .before .before .before .before .before .before .before .before .before .before .before)
 
 same-length-4 : tie.Need-same-length-4 Inv-loop μ-loop
-same-length-4 c = let a = c .before .before .before .before .before .before .before .before .before .before .before .before .before .before .before .before .before .before in part-kept (c .before .before .before .before .before .before .before .take .last .1 .1 .0) (a .loop .words) (top a .args .outline .accesses * 24) (c .before .before .before .before .before .before .before .take .kept .1 .1 .0) ∙ words-kept a
+same-length-4 c = c .before .before .before .before .before .before .before .take .kept .1 .1 .1 .0 ∙ words-kept (c .before .before .before .before .before .before .before .before .before .before .before .before .before .before .before .before)
 
 returns-2 : tie.Need-returns-2 Inv-loop μ-loop
-returns-2 c = let a = c .before .before .before .before .before .before .before .before .before .before .before .before .before .before .before .before .before .before in let s = top a in let d = c .before .before .before .before .before .before .before .before .before .before .before .before .before .before .before .direction-after in let b = c .before .before .before .before .before .before .before .before .before .before .before .before .before .before .points-back in let g = c .before .before .before .before .before .before .before .take in
+returns-2 c = let a = c .before .before .before .before .before .before .before .before .before .before .before .before .before .before .before .before in let s = top a in let d = c .before .before .before .before .before .before .before .before .before .before .before .before .before .direction-after in let b = c .before .before .before .before .before .before .before .before .before .before .before .before .points-back in let g = c .before .before .before .before .before .before .before .take in
     steps-stop (P a) (s .args .steps) (s .args .set) (s .pre) (c .refused2 .result) _ _ _ (c .refused2 .ensures)
-    (stops (s .args .steps) (s .pre .steps) (P a) (s .args .set) (Q a) (a .loop .vectors) (a .loop .k) (a .loop .inv) _ (c .before .before .before .before .before .before .before .before .before .before .before .before .before .before .before .before .before .loop-test .taken) (d .result) (d .ensures .0) (b .result) (b .ensures) (c .before .before .before .before .before .before .before .before .before .before .before .before .before .if1 .left)
+    (stops (s .args .steps) (s .pre .steps) (P a) (s .args .set) (Q a) (a .loop .vectors) (a .loop .k) (a .loop .inv) _ (c .before .before .before .before .before .before .before .before .before .before .before .before .before .before .before .loop-test .taken) (d .result) (d .ensures .0) (b .result) (b .ensures) (c .before .before .before .before .before .before .before .before .before .before .before .if1 .left)
     (g .result) _ _ _ (g .ensures) _ (c .before .before .status .given .1) (c .refused2 .result .status) (c .refused2 .ensures) _)
 
 depth-after-requires : tie.Need-depth-after-requires Inv-loop μ-loop
-depth-after-requires c κs = c .before .before .before .before .before .before .before .before .before .before .before .before .before .before .before .before .loop .inv .sheet .nest .shallow
+depth-after-requires c κs = c .before .before .before .before .before .before .before .before .before .before .before .before .before .before .loop .inv .sheet .nest .shallow
 
 add-k : tie.Need-add-k Inv-loop μ-loop
 add-k c = search needs
@@ -127,18 +100,18 @@ loop-less : tie.Need-loop-less Inv-loop μ-loop
 loop-less c = search needs
 
 loop-again : tie.Need-loop-again Inv-loop μ-loop
-loop-again c = let a = c .before .before .before .before .before .before .before .before .before .before .before .before .before .before .before .before .before in let s = top a in let d = c .before .before .before .before .before .before .before .before .before .before .before .before .before .before .direction-after in let b = c .before .before .before .before .before .before .before .before .before .before .before .before .before .points-back in let g = c .before .before .before .before .before .before .take in
-    one-more (s .args .steps) (s .pre .steps) (P a) (s .args .set) (Q a) (a .loop .vectors) (a .loop .k) (a .loop .inv) _ (c .before .before .before .before .before .before .before .before .before .before .before .before .before .before .before .before .loop-test .taken) (d .result) (d .ensures .0) (b .result) (b .ensures) (c .before .before .before .before .before .before .before .before .before .before .before .before .if1 .left)
+loop-again c = let a = c .before .before .before .before .before .before .before .before .before .before .before .before .before .before .before in let s = top a in let d = c .before .before .before .before .before .before .before .before .before .before .before .before .direction-after in let b = c .before .before .before .before .before .before .before .before .before .before .before .points-back in let g = c .before .before .before .before .before .before .take in
+    one-more (s .args .steps) (s .pre .steps) (P a) (s .args .set) (Q a) (a .loop .vectors) (a .loop .k) (a .loop .inv) _ (c .before .before .before .before .before .before .before .before .before .before .before .before .before .before .loop-test .taken) (d .result) (d .ensures .0) (b .result) (b .ensures) (c .before .before .before .before .before .before .before .before .before .before .if1 .left)
     (g .result) _ _ _ (g .ensures) (c .before .enum-told .given .1) (c .depth-after .result) (c .depth-after .ensures)
 
 same-length-5 : tie.Need-same-length-5 Inv-loop μ-loop
-same-length-5 c = limits-kept (c .before .before .before .before)
+same-length-5 c = limits-kept (c .before .before .before .before .before .before)
 
 same-length-6 : tie.Need-same-length-6 Inv-loop μ-loop
-same-length-6 c = words-kept (c .before .before .before .before)
+same-length-6 c = words-kept (c .before .before .before .before .before .before)
 
 returns-3 : tie.Need-returns-3 Inv-loop μ-loop
-returns-3 c = let a = c .before .before .before .before in let s = top a in steps-pass (P a) (s .args .steps) (s .args .set) (s .pre) _ (a .loop .limits) (a .loop .words) (a .loop .vectors) (a .loop .k) (a .loop .inv) (c .before .before .before .loop-test .left)
+returns-3 c = let a = c .before .before .before .before .before .before in let s = top a in steps-pass (P a) (s .args .steps) (s .args .set) (s .pre) _ (a .loop .limits) (a .loop .words) (a .loop .vectors) (a .loop .k) (a .loop .inv) (c .before .before .before .before .before .loop-test .left)
 
 pub judge-steps-spec : {M : Type 1} → statement M
 judge-steps-spec =
@@ -156,14 +129,6 @@ judge-steps-spec =
     same-length-2
     returns
     slice-aggregate-take
-    mul-take
-    slice-relend-prefix-take
-    slice-aggregate-take-2
-    array-share-prefix-owners
-    slice-aggregate-take-3
-    mul-extents
-    array-share-prefix-extents
-    slice-aggregate-take-4
     take-requires
     enum-told
     enum-known-status

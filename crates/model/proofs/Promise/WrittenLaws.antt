@@ -25,7 +25,8 @@ use Rattle.model.proofs.Grammar.GrammarLaws.{Sound, ranges-wider, steps
 use Rattle.model.proofs.Grammar.RoundTripLaws.{encode-decodes}
 use Rattle.model.proofs.Verdict.SmallLaws.{limitNumbers, loopNumbers, subscriptNumbers, accessNumbers, statementNumbers, nestNumbers}
 use Rattle.model.proofs.Verdict.JudgeStepLaws.{Few}
-use Rattle.model.proofs.Verdict.JudgeLaws.{StepsPass, passes-final}
+use Rattle.model.proofs.Verdict.JudgeLaws.{StepsPass}
+use Rattle.model.proofs.Verdict.StageLaws.{passes-final}
 use Rattle.model.proofs.Verdict.VerdictLaws.{judged-accepted, admit-accepted, judgeTicket-accepted}
 
 -- ---- counts, rules and arrays after steps

@@ -14,11 +14,11 @@ use Rattle.model.specs.Answer.{accepted, refused, _>>_}
 use Rattle.model.specs.Ticket.{Step, Nest}
 use Rattle.model.specs.Steps.{vectorsAfter, vectorsAfterAll, somePointsBack}
 use Rattle.model.specs.Limits.{nestAfter, nestAfterAll}
-use Rattle.model.specs.Judge.{judgeSteps}
+use Rattle.model.specs.Judge.{stages, judgeSteps}
 use Rattle.model.proofs.Answers.AnswerLaws.{not-both, then-accepted, then-refused}
 use Rattle.model.proofs.Answers.PassLaws.{then-pass, then-stop}
 use Rattle.model.proofs.Verdict.SmallLaws.{Small}
-use Rattle.model.proofs.Verdict.JudgeStepLaws.{Backwards, Few, StepPasses, Reason, points-back, back-points, ten, eleven, twelve, step-accepted, accepted-step, step-refused, refused-step}
+use Rattle.model.proofs.Verdict.JudgeStepLaws.{Backwards, Few, StepPasses, Reason, points-back, back-points, halted-number, ten, taking, step-accepted, accepted-step, step-refused, refused-step}
 
 -- every step passes when it is taken
 abbrev pub StepsPass : List Step → List (List Sign) → Nest → Type 0
@@ -29,7 +29,7 @@ pub judgeSteps-accepted : (k : ℕ) (ts : List Step) (vs : List (List Sign)) (N 
 unfolding judgeSteps nestAfterAll
 judgeSteps-accepted k [] vs N e = (cc, tt)
 judgeSteps-accepted k (t ∷ ts) vs N e =
-    let r = then-accepted (ten k t vs N >> eleven k t vs N >> twelve k t vs N) (judgeSteps (suc k) ts (vectorsAfter t vs) (nestAfter t N)) e in
+    let r = then-accepted (ten k t vs N >> taking k t vs N) (judgeSteps (suc k) ts (vectorsAfter t vs) (nestAfter t N)) e in
     let q = judgeSteps-accepted (suc k) ts (vectorsAfter t vs) (nestAfter t N) (r .rest) in
     (q .0, (step-accepted k t vs N (r .first), q .1))
 
@@ -45,13 +45,6 @@ pub passes-at : (front : List Step) (t : Step) (back : List Step) (vs : List (Li
 unfolding vectorsAfterAll nestAfterAll
 passes-at [] t back vs N h = h .0
 passes-at (u ∷ front) t back vs N h = passes-at front t back (vectorsAfter u vs) (nestAfter u N) (h .1)
-
--- the final nest
-pub passes-final : (t : Step) (ts : List Step) (vs : List (List Sign)) (N : Nest)
-    → StepsPass (t ∷ ts) vs N → Few (nestAfterAll (t ∷ ts) N .loops) × Small (nestAfterAll (t ∷ ts) N)
-unfolding nestAfterAll
-passes-final t [] vs N h = (h .0 .few, h .0 .small)
-passes-final t (u ∷ ts) vs N h = passes-final u ts (vectorsAfter t vs) (nestAfter t N) (h .1)
 
 -- after steps that pass the judgement goes on with what they made
 pub judgeSteps-resume : (k : ℕ) (front ts : List Step) (vs : List (List Sign)) (N : Nest) → StepsPass front vs N
@@ -87,7 +80,7 @@ judgeSteps-refused k (t ∷ ts) vs N e = ⊎-elim
       pass = (step-accepted k t vs N (f .first), r .pass);
       reason = r .reason;
     })
-    (then-refused (ten k t vs N >> eleven k t vs N >> twelve k t vs N) (judgeSteps (suc k) ts (vectorsAfter t vs) (nestAfter t N)) e)
+    (then-refused (ten k t vs N >> taking k t vs N) (judgeSteps (suc k) ts (vectorsAfter t vs) (nestAfter t N)) e)
 
 pub refused-judgeSteps : (k : ℕ) (ts : List Step) (vs : List (List Sign)) (N : Nest) {n p : ℕ} → Rejected k ts vs N n p → judgeSteps k ts vs N ≡ refused n p
 unfolding judgeSteps
@@ -114,14 +107,13 @@ ten-exact k front t back vs N h = (to, from)
 
     is-ten : Reason t ws M 10 → Backwards (vectorsAfter t ws)
     is-ten (inl r) = r .1
-    is-ten (inr (inl r)) = absurd (let z = r .0 in omega arith)
-    is-ten (inr (inr r)) = absurd (let z = r .0 in omega arith)
+    is-ten (inr r) = absurd (let z = halted-number (stages t) M 10 (r .1) .0 in omega arith)
 
     to : judgeSteps k (front ++ t ∷ back) vs N ≡ refused 10 j → T (somePointsBack (vectorsAfter t ws))
     to e = ⊎-elim
         (λ f. back-points (vectorsAfter t ws) (is-ten (step-refused j t ws M f .1)))
         (λ f. absurd (let q = judgeSteps-refused (suc j) back (vectorsAfter t ws) (nestAfter t M) (f .rest) .number in omega arith))
-        (then-refused (ten j t ws M >> eleven j t ws M >> twelve j t ws M) (judgeSteps (suc j) back (vectorsAfter t ws) (nestAfter t M)) (sym (judgeSteps-resume k front (t ∷ back) vs N h) ∙ e))
+        (then-refused (ten j t ws M >> taking j t ws M) (judgeSteps (suc j) back (vectorsAfter t ws) (nestAfter t M)) (sym (judgeSteps-resume k front (t ∷ back) vs N h) ∙ e))
 
     from : T (somePointsBack (vectorsAfter t ws)) → judgeSteps k (front ++ t ∷ back) vs N ≡ refused 10 j
     from b = judgeSteps-resume k front (t ∷ back) vs N h

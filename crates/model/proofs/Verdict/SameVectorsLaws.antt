@@ -12,7 +12,7 @@ use Rattle.model.specs.Ticket.{Step, Nest}
 use Rattle.model.specs.Directions.{backwards}
 use Rattle.model.specs.Steps.{vectors, vectorsAfter, somePointsBack}
 use Rattle.model.specs.Limits.{nestAfter}
-use Rattle.model.specs.Judge.{fewLimits, smallNumbers, judgeSteps}
+use Rattle.model.specs.Judge.{stages, judgeStages, judgeSteps}
 
 pub vectorsAfter-same : (t : Step) {vs ws : List (List Sign)} → SameMembers vs ws → SameMembers (vectorsAfter t vs) (vectorsAfter t ws)
 unfolding vectorsAfter
@@ -31,5 +31,5 @@ pub judgeSteps-same : (k : ℕ) (ts : List Step) {vs ws : List (List Sign)} (N :
 unfolding judgeSteps
 judgeSteps-same k [] N s = refl
 judgeSteps-same k (t ∷ ts) {vs} {ws} N s = let a = vectorsAfter-same t s in
-    ap₂ (λ b r. require (not b) 10 k >> require (fewLimits (nestAfter t N .loops)) 11 k >> require (smallNumbers (nestAfter t N)) 12 k >> r)
+    ap₂ (λ b r. require (not b) 10 k >> judgeStages k (stages t) N >> r)
     (pointsBack-same a) (judgeSteps-same (suc k) ts (nestAfter t N) a)
