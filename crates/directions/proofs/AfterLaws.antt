@@ -3,6 +3,8 @@ use mathlib.Core.Path.{_≡_, refl, sym, _∙_, subst}
 use mathlib.Core.Bool.{Bool}
 use Prim.Native.Nat.{ℕ, suc, _+_, _-_, _<_}
 use native.Mathlib.Numerals.{add-one}
+use lib.IntN.{ℤ, pos}
+use lib.Signed.{ltZ}
 use Rattle.lists.specs.Membership.{SameMembers}
 use Rattle.model.specs.Ticket.{Step, exchange, reversal, skew, section}
 use Rattle.model.specs.Grammar.{depthAfter}
@@ -12,7 +14,7 @@ use Rattle.directions.specs.Changes.{Pulled}
 use Rattle.directions.specs.declared.DirectionSet.{DirectionSet}
 use Rattle.directions.specs.declared.Change.the-variants.{Exchange, Reversal, Skew, Section}
 use Rattle.directions.proofs.StepLaws.{exchange-after, reversal-after, section-after}
-use Rattle.directions.proofs.SkewLaws.{skew-after}
+use Rattle.directions.proofs.SkewLaws.{added-sign, skew-after}
 
 module _ (s r : DirectionSet) where
   after : (t : Step) (d : ℕ) → r .depth ≡ d → d ≡ depthAfter t (s .depth) → SameMembers (vectorsIn (r .marks) d) (vectorsAfter t (vectorsOf s)) → After t s r
@@ -26,9 +28,11 @@ module _ (s r : DirectionSet) where
   unfolding depthAfter
   reversed-set a p = after (reversal a) (s .depth) (p .depth) refl (reversal-after a (s .marks) (r .marks) (s .depth) (p .marks))
 
-  pub skewed-set : (a b : ℕ) (c : Bool) → a < b → b < s .depth → Pulled (Skew a b c) (s .depth) s r → After (skew a (b - suc a) c) s r
+  pub skewed-set : (a b : ℕ) (c : ℤ) (plus : Bool) → plus ≡ ltZ (pos 0) c → (c ≡ pos 0 → ⊥) → a < b → b < s .depth → Pulled (Skew a b plus) (s .depth) s r
+      → After (skew a (b - suc a) c) s r
   unfolding depthAfter
-  skewed-set a b c h i p = after (skew a (b - suc a) c) (s .depth) (p .depth) refl (skew-after a b c (s .marks) (r .marks) (s .depth) h i (p .marks))
+  skewed-set a b c plus e n h i p =
+      after (skew a (b - suc a) c) (s .depth) (p .depth) refl (skew-after a b c plus (added-sign c plus e n) (s .marks) (r .marks) (s .depth) h i (p .marks))
 
   pub sectioned-set : (a w : ℕ) → a < s .depth → Pulled (Section a) (s .depth + 1) s r → After (section a w) s r
   unfolding depthAfter

@@ -1,9 +1,10 @@
 -- Some numbers of vectors, and for each precondition a value that meets it.
-use mathlib.Core.Path.{_≡_, refl}
+use mathlib.Core.Path.{_≡_, refl, ap}
 use mathlib.Core.Bool.{true, false}
 use mathlib.Core.List.{[], _∷_}
 use Prim.Native.Nat.{_+_, _*_}
 use native.Mathlib.Omega.{arith}
+use lib.IntN.{pos, natAbs}
 use lib.ListN.{replicate, length-replicate}
 use Rattle.integers.specs.Sign.{less, equal, greater}
 use Rattle.model.specs.Directions.{vectorCount}
@@ -50,9 +51,9 @@ reversal-met : ReversalIn pair 1
 unfolding pair
 reversal-met = record { few = omega arith; inside = omega arith }
 
-skew-met : SkewIn pair 0 1
+skew-met : SkewIn pair 0 1 (pos 1)
 unfolding pair
-skew-met = record { few = omega arith; outer = omega arith; inside = omega arith }
+skew-met = record { few = omega arith; outer = omega arith; inside = omega arith; factor = λ e. let n = ap natAbs e in absurd (omega arith) }
 
 section-met : SectionIn pair 1
 unfolding pair

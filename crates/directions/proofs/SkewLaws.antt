@@ -1,22 +1,26 @@
 -- Skew read backwards: a vector comes from those that differ from it in the skewed sign alone, where that sign may be the sum; then the set after
 -- a skew, from its marks.
 use mathlib.Core.Path.{_≡_, refl, sym, _∙_, ap, subst}
-use mathlib.Core.Bool.{Bool}
+use mathlib.Core.Bool.{Bool, true, false}
 use mathlib.Core.List.{List, [], _∷_, Memᴰ·map, Memᴰ·of-map}
 use Prim.Native.Nat.{ℕ, zero, suc, _+_, _-_, _<_}
 use native.Mathlib.Omega.{arith}
 use lib.Dec.{T}
+use lib.IntN.{ℤ, pos}
+use lib.Signed.{ltZ}
 use lib.ListN.{length, getD, set, length-set}
-use Rattle.integers.specs.Sign.{Sign, equal}
+use Rattle.integers.specs.Sign.{Sign, less, equal, greater, sign, turned}
+use Rattle.integers.proofs.SignLaws.{Means, sign-means, means-sign}
+use Rattle.integers.proofs.RangeLaws.{lt-test, test-lt}
 use Rattle.lists.specs.Membership.{Mem, SameMembers}
 use Rattle.lists.specs.Place.{underEach}
 use Rattle.lists.proofs.TestLaws.{any-some, some-any, any-mem, mem-any, and-both, and-intro}
 use Rattle.model.specs.Ticket.{skew}
-use Rattle.model.specs.Directions.{sameSign}
+use Rattle.model.specs.Directions.{bySign, sameSign}
 use Rattle.model.specs.Steps.{anySign, sumSigns, headSum, skewSigns, signedSign, vectors, vectorsAfter}
 use Rattle.preimages.specs.Numbers.{marked}
 use Rattle.directions.specs.Sets.{vectorsIn}
-use Rattle.preimages.specs.Sources.{mayBe, gave, skewSource}
+use Rattle.preimages.specs.Sources.{mayBe, addedSign, gave, skewSource}
 use Rattle.directions.proofs.VectorLaws.{every-sign}
 use Rattle.model.proofs.Listing.LineLaws.{sign-decides}
 use Rattle.directions.proofs.SetLaws.{after-step}
@@ -55,7 +59,7 @@ module _ (e : ℕ) where
   inner-is zero = omega arith
   inner-is (suc a) = omega (arith, inner-is a)
 
-module _ (c : Bool) (e : ℕ) where
+module _ (c : ℤ) (e : ℕ) where
   skew-mem : (t : Sign) (a : ℕ) (v : List Sign) → inner e a < length v → Mem (getD v (inner e a) equal) (sumSigns t (signedSign c (getD v a equal)))
       → Mem v (underEach a (skewSigns e c) (set v (inner e a) t))
   unfolding underEach skewSigns inner
@@ -77,14 +81,25 @@ module _ (c : Bool) (e : ℕ) where
 
 -- ---- the set after a skew
 
-module _ (a b : ℕ) (c : Bool) (old new : List Bool) (d : ℕ) (outer : a < b) (inside : b < d) where
+-- a factor's sign is all that its table asks
+pub added-sign : (c : ℤ) (plus : Bool) → plus ≡ ltZ (pos 0) c → (c ≡ pos 0 → ⊥) → (s : Sign) → signedSign c s ≡ addedSign plus s
+unfolding signedSign
+added-sign c true e n s = ap (λ t. bySign t s equal (turned s)) (means-sign less (pos 0) c (test-lt (sym e)))
+added-sign c false e n s = go (sign (pos 0) c) (sign-means (pos 0) c)
+  where
+    go : (t : Sign) → Means t (pos 0) c → bySign t s equal (turned s) ≡ turned s
+    go less m = let z : _≡_ {A = Bool} true false = sym (lt-test m) ∙ sym e in absurd (subst T z tt)
+    go equal m = absurd (n (sym m))
+    go greater m = refl
+
+module _ (a b : ℕ) (c : ℤ) (plus : Bool) (same : (s : Sign) → signedSign c s ≡ addedSign plus s) (old new : List Bool) (d : ℕ) (outer : a < b) (inside : b < d) where
   abbrev added : List Sign → Sign
-  added v = signedSign c (getD v a equal)
+  added v = addedSign plus (getD v a equal)
 
   place : inner (b - suc a) a ≡ b
   place = omega (arith, inner-is (b - suc a) a)
 
-  into : (v : List Sign) → length v ≡ d → T (skewSource old a b c v) → (u : List Sign) × (length u ≡ d) × T (marked old u) × Mem v (vectors (skew a (b - suc a) c) u)
+  into : (v : List Sign) → length v ≡ d → T (skewSource old a b plus v) → (u : List Sign) × (length u ≡ d) × T (marked old u) × Mem v (vectors (skew a (b - suc a) c) u)
   unfolding skewSource vectors
   into v l h =
       let r = any-some (gave old v b (added v)) anySign h in
@@ -94,20 +109,22 @@ module _ (a b : ℕ) (c : Bool) (old new : List Bool) (d : ℕ) (outer : a < b) 
         set v b t,
         length-set v b t ∙ l,
         q .1,
-        subst (λ k. Mem (getD v k equal) (sumSigns t (added v)) → Mem v (underEach a (skewSigns (b - suc a) c) (set v k t))) place (skew-mem c (b - suc a) t a v (omega (arith, place))) m,
+        subst (λ k. Mem (getD v k equal) (sumSigns t (added v)) → Mem v (underEach a (skewSigns (b - suc a) c) (set v k t))) place
+            (subst (λ x. Mem (getD v (inner (b - suc a) a) equal) (sumSigns t x) → Mem v (underEach a (skewSigns (b - suc a) c) (set v (inner (b - suc a) a) t)))
+            (same (getD v a equal)) (skew-mem c (b - suc a) t a v (omega (arith, place)))) m,
       )
 
-  from : (u v : List Sign) → length u ≡ d → T (marked old u) → Mem v (vectors (skew a (b - suc a) c) u) → (length v ≡ d) × T (skewSource old a b c v)
+  from : (u v : List Sign) → length u ≡ d → T (marked old u) → Mem v (vectors (skew a (b - suc a) c) u) → (length v ≡ d) × T (skewSource old a b plus v)
   unfolding skewSource vectors
   from u v l h m =
-      let r = subst (λ k. Summed (added v) k u v) place (mem-skew c (b - suc a) a u v (omega (arith, place)) m) in
+      let r = subst (λ k. Summed (added v) k u v) place (subst (λ x. Summed x (inner (b - suc a) a) u v) (same (getD v a equal)) (mem-skew c (b - suc a) a u v (omega (arith, place)) m)) in
       let t = getD u b equal in (
         r .0 ∙ l,
         some-any (gave old v b (added v)) anySign (every-sign t)
             (and-intro (mayBe t (added v) (getD v b equal)) (marked old (set v b t)) (mem-any sameSign sign-decides (sumSigns t (added v)) (r .2)) (subst (λ w. T (marked old w)) (r .1) h)),
       )
 
-  pub skew-after : ((v : List Sign) → length v ≡ d → marked new v ≡ skewSource old a b c v)
+  pub skew-after : ((v : List Sign) → length v ≡ d → marked new v ≡ skewSource old a b plus v)
       → SameMembers (vectorsIn new d) (vectorsAfter (skew a (b - suc a) c) (vectorsIn old d))
   skew-after e = after-step (skew a (b - suc a) c) old new d d
       (λ v l h. into v l (subst T (e v l) h))

@@ -3,6 +3,7 @@ use mathlib.Core.Path.{_≡_}
 use mathlib.Core.Bool.{Bool}
 use mathlib.Core.List.{List, [], _∷_, _++_}
 use Prim.Native.Nat.{ℕ, suc, _≤_, _<_}
+use lib.IntN.{ℤ, pos}
 use lib.ListN.{length}
 use Rattle.integers.specs.Sign.{Sign}
 use Rattle.lists.specs.Membership.{SameMembers}
@@ -31,10 +32,11 @@ pub record ReversalIn (s : DirectionSet) (a : ℕ) : Type 0 where
   pub few : s .depth ≤ mostLoops
   pub inside : a < s .depth
 
-pub record SkewIn (s : DirectionSet) (a b : ℕ) : Type 0 where
+pub record SkewIn (s : DirectionSet) (a b : ℕ) (c : ℤ) : Type 0 where
   pub few : s .depth ≤ mostLoops
   pub outer : a < b
   pub inside : b < s .depth
+  pub factor : c ≡ pos 0 → ⊥
 
 -- a seventh loop must not arise
 pub record SectionIn (s : DirectionSet) (a : ℕ) : Type 0 where

@@ -130,17 +130,17 @@ pub fn reversed(s: DirectionSet, a: usize) -> DirectionSet
     pulled(s, Change::Reversal(a), s.depth)
 }
 
-// The set after the skew of loop b by loop a, by 1 or by -1.
-pub fn skewed(s: DirectionSet, a: usize, b: usize, plus: bool) -> DirectionSet
-    requires { ⌜ SkewIn s a b ⌝ }
-    ensures { λ r. ⌜ After (skew a (b - suc a) plus) s r ⌝ }
+// The set after the skew of loop b by loop a: of its factor the sign alone matters.
+pub fn skewed(s: DirectionSet, a: usize, b: usize, factor: i32) -> DirectionSet
+    requires { ⌜ SkewIn s a b factor ⌝ }
+    ensures { λ r. ⌜ After (skew a (b - suc a) factor) s r ⌝ }
 {
     pulled(
         s,
         Change::Skew {
             a: a,
             b: b,
-            plus: plus,
+            plus: 0 < factor,
         },
         s.depth,
     )

@@ -46,7 +46,7 @@ module _ (s : DirectionSet) (t d : Step) (e : t ≡ d) where
   there i = subst (λ (x : Step). StepThere (s .depth) (stepOf x)) e (i .there)
 
 -- by the inner loop's number, and by how far inside it is
-pub skew-distance : (s r : DirectionSet) (a d : ℕ) (c : Bool) → After (skew a (a + 1 + d - suc a) c) s r → After (skew a d c) s r
+pub skew-distance : (s r : DirectionSet) (a d : ℕ) (c : ℤ) → After (skew a (a + 1 + d - suc a) c) s r → After (skew a d c) s r
 skew-distance s r a d c h = let e : a + 1 + d - suc a ≡ d = omega arith in subst (λ n. After (skew a n c) s r) e h
 
 -- at most six loops stay at most six

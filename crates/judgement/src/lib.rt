@@ -53,8 +53,8 @@ fn direction_by(set: DirectionSet, step: Step) -> DirectionSet
         Step::Lean(e) => {
             let a = e.outer;
             let b = a + 1 + e.distance;
-            let plus = e.forward;
-            directions::skewed(set, a, b, plus)
+            let factor = e.factor;
+            directions::skewed(set, a, b, factor)
         }
         Step::Strip(e) => {
             let a = e.target;

@@ -1,14 +1,12 @@
 -- What each function on a limit hands out, from what it did to the constant and to the row.
 use mathlib.Core.Path.{_≡_, refl, sym, _∙_, ap, subst}
-use mathlib.Core.Bool.{Bool}
 use mathlib.Core.List.{List, [], _∷_, _++_}
 use Prim.Native.Nat.{ℕ, _<_, _≤_, _+_, _*_, _-_}
 use lib.ListN.{length, getD, take, set, length-set}
-use lib.IntN.{ℤ, pos, negsuc, negℤ, _+ℤ_, _-ℤ_}
+use lib.IntN.{ℤ, pos, negsuc, negℤ, _+ℤ_, _-ℤ_, _*ℤ_}
 use Rattle.integers.specs.Affine.{Within}
 use Rattle.integers.specs.Difference.{size}
 use Rattle.model.specs.Ticket as Model
-use Rattle.model.specs.Steps.{signed}
 use Rattle.model.specs.Limits.{negated, sectionLower, sectionUpper, elementLimit, skewLimit, onCoefficients}
 use Rattle.nest.specs.Nested.{limitOf}
 use Rattle.nest.specs.declared.Limit.{Limit}
@@ -41,11 +39,11 @@ module _ (n : ℕ) (l : Limit) where
   unfolding negated limitOf
   negated-is d ds e f = record { is = same-limit refl e (f .is ∙ mixed-negates (take n (l .coefficients))); within = record { room = f .room } }
 
-  pub leaning-is : (a : ℕ) (positive : Bool) (k z : ℤ) → length (l .coefficients) ≡ 6 → a < n → k ≡ l .constant → z ≡ getD (l .coefficients) a (pos 0) +ℤ signed positive (pos (l .multiplier))
-      → LimitIs n (record { multiplier = l .multiplier; constant = k; coefficients = set (l .coefficients) a z }) (skewLimit a positive (limitOf n l))
+  pub leaning-is : (a : ℕ) (c : ℤ) (k z : ℤ) → length (l .coefficients) ≡ 6 → a < n → k ≡ l .constant → z ≡ getD (l .coefficients) a (pos 0) +ℤ (c *ℤ pos (l .multiplier))
+      → LimitIs n (record { multiplier = l .multiplier; constant = k; coefficients = set (l .coefficients) a z }) (skewLimit a c (limitOf n l))
   unfolding skewLimit limitOf
-  leaning-is a positive k z m h e f = record {
-    is = same-limit refl e (front-onHead (pos 0) (λ x. x +ℤ signed positive (pos (l .multiplier))) n a (l .coefficients) z h f);
+  leaning-is a c k z m h e f = record {
+    is = same-limit refl e (front-onHead (pos 0) (λ x. x +ℤ (c *ℤ pos (l .multiplier))) n a (l .coefficients) z h f);
     within = record { room = simp length-set m };
   }
 

@@ -1,6 +1,5 @@
 -- Sums and products of numbers within ±32767 fit 32 bits, and the machine reads back what it wrote.
 use mathlib.Core.Path.{_≡_, refl, _∙_}
-use mathlib.Core.Bool.{Bool, true, false, not}
 use mathlib.Core.List.{[], _∷_}
 use Prim.Native.Nat.{ℕ, _<_, _≤_, _*_, _^_}
 use native.Mathlib.Omega.{arith}
@@ -13,9 +12,10 @@ use mir.Val.{SFits, Fits, toZ, ofZ}
 use mir.Facts.{toZ-ofZ, toZ-pos}
 use Rattle.integers.specs.Difference.{size}
 use Rattle.integers.proofs.Linear.{lin, _≐_}
-use Rattle.integers.proofs.Polynomial.{_⊕_, _⊖_, ⊝, #}
-use Rattle.integers.proofs.RangeLaws.{size-add, size-sub, size-mul, sfits}
-use Rattle.model.specs.Steps.{signed}
+use Rattle.integers.proofs.Polynomial.{_⊕_, _⊖_, _⊗_, ⊝, #}
+use Rattle.integers.proofs.RangeLaws.{size-add, size-sub, size-mul, size-natAbs, sfits}
+use Rattle.model.specs.Grammar.{mostFactor}
+use Rattle.model.specs.Ranges.{InRange}
 
 -- ---- one number
 
@@ -27,6 +27,10 @@ small-fits z h = size-fits h (omega arith)
 
 pub small-back : (z : ℤ) → size z ≤ 32767 → toZ w32 (ofZ w32 z) ≡ z
 small-back z h = toZ-ofZ (small-fits z h)
+
+-- a factor that was read
+pub factor-small : (c : ℤ) → InRange 1 mostFactor (natAbs c) → size c ≤ 32767
+factor-small c h = let g = h .high in omega (arith, size-natAbs c)
 
 pub fits-below : {n : ℕ} → n < 2 ^ 32 → Fits w32 n
 fits-below h = record { fits = h }
@@ -75,18 +79,17 @@ module _ (c : ℤ) (p k : ℕ) (s : size c ≤ 32767) (h : p ≤ 32767) (g : k �
 
 -- ---- sums and products
 
-pub sums-fit : (x y : ℤ) → size x ≤ 32767 → size y ≤ 32767 → SFits w32 (x +ℤ y) × SFits w32 (x -ℤ y)
-sums-fit x y h g = (size-fits {n = 65534} (omega (arith, size-add x y)) (omega arith), size-fits {n = 65534} (omega (arith, size-sub x y)) (omega arith))
-
 pub times-fits : (x : ℤ) (w : ℕ) → size x ≤ 32767 → w ≤ 32767 → SFits w32 (x *ℤ pos w)
 times-fits x w h g = let k : size (pos w) ≤ 32767 = omega arith in size-fits {n = 1073676289} (size-mul x (pos w) h k) (omega arith)
 
 pub zero-less : (z : ℤ) → pos 0 -ℤ z ≡ negℤ z
 zero-less z = lin (z ∷ []) (λ z. # 0 ⊖ z ≐ ⊝ z) tt
 
-pub less-plus : (x y : ℤ) → x -ℤ y ≡ x +ℤ negℤ y
-less-plus x y = lin (x ∷ y ∷ []) (λ x y. x ⊖ y ≐ x ⊕ ⊝ y) tt
+-- x + c y, and x − c y by the factor −c
+pub plus-fits : (x c y : ℤ) → size x ≤ 32767 → size c ≤ 32767 → size y ≤ 32767 → SFits w32 (c *ℤ y) × SFits w32 (x +ℤ (c *ℤ y))
+plus-fits x c y h f g =
+    let p : size (c *ℤ y) ≤ 1073676289 = size-mul c y f g in
+    (size-fits p (omega arith), size-fits {n = 1073709056} (omega (arith, size-add x (c *ℤ y))) (omega arith))
 
-pub minus-signed : (x y : ℤ) (positive : Bool) → x +ℤ signed (not positive) y ≡ x -ℤ signed positive y
-minus-signed x y true = lin (x ∷ y ∷ []) (λ x y. x ⊕ ⊝ y ≐ x ⊖ y) tt
-minus-signed x y false = lin (x ∷ y ∷ []) (λ x y. x ⊕ y ≐ x ⊖ ⊝ y) tt
+pub minus-times : (x c y : ℤ) → x +ℤ (negℤ c *ℤ y) ≡ x -ℤ (c *ℤ y)
+minus-times x c y = lin (x ∷ c ∷ y ∷ []) (λ x c y. x ⊕ (⊝ c ⊗ y) ≐ x ⊖ (c ⊗ y)) tt

@@ -1,6 +1,5 @@
 -- The first n places of a row: a number there; one place more; u xs + v ys; a change at a place as stores leave it.
 use mathlib.Core.Path.{_≡_, refl, sym, _∙_, ap, subst}
-use mathlib.Core.Bool.{Bool, not}
 use mathlib.Core.List.{List, [], _∷_, _++_, map, zipWith, append-assoc, append-nil}
 use Prim.Native.Nat.{ℕ, zero, suc, _<_, _≤_, _+_}
 use native.Mathlib.Omega.{arith}
@@ -15,10 +14,9 @@ use Rattle.integers.proofs.Linear.{lin, _≐_}
 use Rattle.integers.proofs.Polynomial.{_⊕_, _⊗_, ⊝, #}
 use Rattle.lists.specs.Place.{under, onHead, swapped}
 use Rattle.lists.proofs.PlaceLaws.{under-onHead, under-swapped}
-use Rattle.model.specs.Steps.{signed}
 use Rattle.model.specs.Limits.{skewCoefficients, splitCoefficients}
 use Rattle.limits.specs.Makes.{mixed}
-use Rattle.limits.proofs.NumberLaws.{minus-signed}
+use Rattle.limits.proofs.NumberLaws.{minus-times}
 
 -- ---- numbers of a front
 
@@ -71,21 +69,21 @@ module _ {A : Type 0} (d : A) where
 
 -- ---- skew
 
-under-skew : (d : ℕ) (positive : Bool) (a : ℕ) (l : List ℤ) → a + 1 + d < length l
-    → under a (skewCoefficients d positive) l ≡ set l a (getD l a (pos 0) -ℤ signed positive (getD l (a + 1 + d) (pos 0)))
+under-skew : (d : ℕ) (c : ℤ) (a : ℕ) (l : List ℤ) → a + 1 + d < length l
+    → under a (skewCoefficients d c) l ≡ set l a (getD l a (pos 0) -ℤ (c *ℤ getD l (a + 1 + d) (pos 0)))
 unfolding under skewCoefficients
-under-skew d positive zero [] h = absurd (omega arith)
-under-skew d positive (suc a) [] h = absurd (omega arith)
-under-skew d positive zero (x ∷ l) h = let e : 0 + 1 + d ≡ suc d = omega arith in rw e refl
-under-skew d positive (suc a) (x ∷ l) h = let e : suc a + 1 + d ≡ suc (a + 1 + d) = omega arith in rw e (ap (x ∷_) (under-skew d positive a l (omega arith)))
+under-skew d c zero [] h = absurd (omega arith)
+under-skew d c (suc a) [] h = absurd (omega arith)
+under-skew d c zero (x ∷ l) h = let e : 0 + 1 + d ≡ suc d = omega arith in rw e refl
+under-skew d c (suc a) (x ∷ l) h = let e : suc a + 1 + d ≡ suc (a + 1 + d) = omega arith in rw e (ap (x ∷_) (under-skew d c a l (omega arith)))
 
-pub front-skewed : (n a d : ℕ) (positive : Bool) (l : List ℤ) (z : ℤ) → n ≤ length l → a + 1 + d < n → z ≡ getD l a (pos 0) +ℤ signed (not positive) (getD l (a + 1 + d) (pos 0))
-    → take n (set l a z) ≡ under a (skewCoefficients d positive) (take n l)
-front-skewed n a d positive l z g h e =
+pub front-skewed : (n a d : ℕ) (c : ℤ) (l : List ℤ) (z : ℤ) → n ≤ length l → a + 1 + d < n → z ≡ getD l a (pos 0) +ℤ (negℤ c *ℤ getD l (a + 1 + d) (pos 0))
+    → take n (set l a z) ≡ under a (skewCoefficients d c) (take n l)
+front-skewed n a d c l z g h e =
     let k : length (take n l) ≡ n = length-take-le n l g in
     take-set-lt n l a z (omega arith)
-    ∙ ap (set (take n l) a) (e ∙ minus-signed (getD l a (pos 0)) (getD l (a + 1 + d) (pos 0)) positive)
-    ∙ rw (← (getD-take n l a (pos 0) (omega arith)), ← (getD-take n l (a + 1 + d) (pos 0) h)) (sym (under-skew d positive a (take n l) (omega arith)))
+    ∙ ap (set (take n l) a) (e ∙ minus-times (getD l a (pos 0)) c (getD l (a + 1 + d) (pos 0)))
+    ∙ rw (← (getD-take n l a (pos 0) (omega arith)), ← (getD-take n l (a + 1 + d) (pos 0) h)) (sym (under-skew d c a (take n l) (omega arith)))
 
 -- ---- section: the places from a on move by one
 

@@ -1,6 +1,7 @@
 -- The changes that a step makes to every limit of a side: what each is in the model, how many loops stand outside after it, and what it asks.
 use Prim.Native.Nat.{ℕ, _+_, _<_, _≤_}
 use lib.IntN.{negℤ}
+use Rattle.integers.specs.Difference.{size}
 use Rattle.lists.specs.Place.{under, onHead, swapped}
 use Rattle.model.specs.Ticket as Model
 use Rattle.model.specs.Limits.{onCoefficients, negated, skewLimit, skewCoefficients, sectionLower, sectionUpper, elementLimit, splitCoefficients}
@@ -12,8 +13,8 @@ unfoldable pub changeOf : Change → Model.Limit → Model.Limit
 changeOf Negate l = negated l
 changeOf (Turn a) l = onCoefficients (under a (onHead negℤ)) l
 changeOf (Swap a) l = onCoefficients (under a swapped) l
-changeOf (Lean s) l = skewLimit (s .outer) (s .positive) l
-changeOf (Skew s) l = onCoefficients (under (s .outer) (skewCoefficients (s .between) (s .positive))) l
+changeOf (Lean s) l = skewLimit (s .outer) (s .factor) l
+changeOf (Skew s) l = onCoefficients (under (s .outer) (skewCoefficients (s .between) (s .factor))) l
 changeOf (Low w) l = sectionLower w l
 changeOf (Up w) l = sectionUpper w l
 changeOf (Element w) l = elementLimit w l
@@ -31,13 +32,13 @@ outerAfter (Up w) n = n
 outerAfter (Element w) n = n + 1
 outerAfter (Split s) n = n + 1
 
--- the loops that the change names are outside, and a row has room for it
+-- the loops that the change names are outside, a row has room for it, and a factor is a word
 unfoldable pub Allowed : Change → ℕ → Type 0
 Allowed Negate n = n ≤ mostLoops
 Allowed (Turn a) n = (a < n) × (n ≤ mostLoops)
 Allowed (Swap a) n = (a + 1 < n) × (n ≤ mostLoops)
-Allowed (Lean s) n = (s .outer < n) × (n ≤ mostLoops)
-Allowed (Skew s) n = (s .outer + 1 + s .between < n) × (n ≤ mostLoops)
+Allowed (Lean s) n = (s .outer < n) × (n ≤ mostLoops) × (size (s .factor) ≤ 32767)
+Allowed (Skew s) n = (s .outer + 1 + s .between < n) × (n ≤ mostLoops) × (size (s .factor) ≤ 32767)
 Allowed (Low w) n = (1 ≤ w) × (w ≤ 256)
 Allowed (Up w) n = (1 ≤ w) × (w ≤ 256)
 Allowed (Element w) n = (n < mostLoops) × (w ≤ 256)

@@ -8,7 +8,6 @@ ghost use Rattle.integers.specs.Difference.{size};
 ghost use Rattle.lists.specs.Place.{under, onHead, swapped};
 ghost use Rattle.model.specs.Encode.{limitWords};
 ghost use Rattle.model.specs.Judge.{smallLimit};
-ghost use Rattle.model.specs.Steps.{signed};
 ghost use Rattle.model.specs.Limits.{negated, skewLimit, skewCoefficients, sectionLower, sectionUpper, elementLimit, splitCoefficients};
 ghost use Rattle.model.specs.Grammar.{mostLoops};
 ghost use Rattle.nest.specs.Nested.{limitOf};
@@ -38,12 +37,12 @@ pub fn minus(x: i32) -> i32
     -x
 }
 
-// x + y, or x − y
-fn plus(x: i32, y: i32, positive: bool) -> i32
-    requires { ⌜ (size x ≤ 32767) × (size y ≤ 32767) ⌝ }
-    ensures { λ r. ⌜ r ≡ x +ℤ signed positive y ⌝ }
+// x + c y
+fn plus(x: i32, c: i32, y: i32) -> i32
+    requires { ⌜ (size x ≤ 32767) × (size c ≤ 32767) × (size y ≤ 32767) ⌝ }
+    ensures { λ r. ⌜ r ≡ x +ℤ (c *ℤ y) ⌝ }
 {
-    if positive { x + y } else { x - y }
+    x + c * y
 }
 
 fn times(x: i32, w: u32) -> i32
@@ -98,15 +97,15 @@ pub fn swapped(cs: [i32; LOOPS], n: usize, a: usize) -> [i32; LOOPS]
 }
 
 // The loop d + 1 places inside loop a is skewed: what its coefficient takes from that of a.
-pub fn skewed(cs: [i32; LOOPS], n: usize, a: usize, d: usize, positive: bool) -> [i32; LOOPS]
-    requires { ⌜ (a + 1 + d < n) × (n ≤ mostLoops) × Within 32767 (take n cs) ⌝ }
-    ensures { λ r. ⌜ RowIs n r (under a (skewCoefficients d positive) (take n cs)) ⌝ }
+pub fn skewed(cs: [i32; LOOPS], n: usize, a: usize, d: usize, factor: i32) -> [i32; LOOPS]
+    requires { ⌜ (a + 1 + d < n) × (n ≤ mostLoops) × (size factor ≤ 32767) × Within 32767 (take n cs) ⌝ }
+    ensures { λ r. ⌜ RowIs n r (under a (skewCoefficients d factor) (take n cs)) ⌝ }
 {
     let mut r = cs;
     let b = a + 1 + d;
     let x = cs[a];
     let y = cs[b];
-    let z = plus(x, y, !positive);
+    let z = plus(x, minus(factor), y);
     r[a] = z;
     r
 }
@@ -148,14 +147,14 @@ fn negated(l: Limit, n: usize) -> Limit
 }
 
 // The skewed loop's own limits.
-fn leaning(l: Limit, n: usize, a: usize, positive: bool) -> Limit
-    requires { ⌜ (a < n) × (n ≤ mostLoops) × SmallLimit (limitOf n l) ⌝ }
-    ensures { λ r. ⌜ LimitIs n r (skewLimit a positive (limitOf n l)) ⌝ }
+fn leaning(l: Limit, n: usize, a: usize, factor: i32) -> Limit
+    requires { ⌜ (a < n) × (n ≤ mostLoops) × (size factor ≤ 32767) × SmallLimit (limitOf n l) ⌝ }
+    ensures { λ r. ⌜ LimitIs n r (skewLimit a factor (limitOf n l)) ⌝ }
 {
     let p = l.multiplier as i32;
     let mut cs = l.coefficients;
     let x = cs[a];
-    let y = plus(x, p, positive);
+    let y = plus(x, factor, p);
     cs[a] = y;
     Limit {
         multiplier: l.multiplier,
@@ -257,11 +256,11 @@ pub fn put_limit(words: &mut [i16], j: usize, l: Limit, n: usize) -> bool
 
 // ---- the changes that a step makes to every limit of a side
 
-// Of the skew of the loop `between` + 1 places inside loop `outer`, by 1 or −1.
+// Of the skew of the loop `between` + 1 places inside loop `outer`.
 pub struct Slant {
     pub outer: usize,
     pub between: usize,
-    pub positive: bool,
+    pub factor: i32,
 }
 
 pub struct Cut {
@@ -296,14 +295,14 @@ pub fn changed(l: Limit, n: usize, change: Change) -> Limit
         Change::Swap(a) => with_row(l, swapped(cs, n, a)),
         Change::Lean(s) => {
             let a = s.outer;
-            let positive = s.positive;
-            leaning(l, n, a, positive)
+            let factor = s.factor;
+            leaning(l, n, a, factor)
         }
         Change::Skew(s) => {
             let a = s.outer;
             let d = s.between;
-            let positive = s.positive;
-            with_row(l, skewed(cs, n, a, d, positive))
+            let factor = s.factor;
+            with_row(l, skewed(cs, n, a, d, factor))
         }
         Change::Low(w) => section_lower(l, n, w),
         Change::Up(w) => section_upper(l, n, w),

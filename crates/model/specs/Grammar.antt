@@ -3,7 +3,7 @@ use mathlib.Core.Bool.{Bool, cond, _&&_, not}
 use mathlib.Core.List.{List, [], _∷_}
 use Prim.Native.Nat.{ℕ, zero, suc, _+_, _*_, _-_}
 use lib.Dec.{eqb, ltb, leb}
-use lib.IntN.{ℤ, pos, negsuc, natAbs}
+use lib.IntN.{ℤ, pos, negsuc, negℤ, natAbs}
 use lib.Signed.{leZ, ltZ}
 use lib.ListN.{length, getD}
 use Rattle.integers.specs.Sign.{eqZ}
@@ -274,13 +274,17 @@ reversalStep k m = do
   c ← natural 0 0
   done (reversal (a - 1))
 
+-- the greatest factor of a skew, on either side of 0
+abbrev pub mostFactor : ℕ
+mostFactor = 1
+
 unfoldable pub skewStep : ℕ → ℕ → Reader Step
 skewStep k m = do
   a ← loopNumber k (between (pos 1) (pos m))
   b ← loopNumber k (λ w. between (pos 1) (pos m) w && ltZ (pos a) w)
-  c ← within (negsuc 0) (pos 1)
+  c ← within (negℤ (pos mostFactor)) (pos mostFactor)
   must (not (eqZ c (pos 0))) 4
-  done (skew (a - 1) (b - a - 1) (eqZ c (pos 1)))
+  done (skew (a - 1) (b - a - 1) c)
 
 -- one loop more than a nest can have shows at the word a
 unfoldable pub sectionStep : ℕ → ℕ → Reader Step

@@ -9,7 +9,6 @@ use Rattle.integers.specs.Sign.{eqZ}
 use Rattle.lists.specs.Place.{under, onHead, swapped}
 use Rattle.lists.specs.Tests.{sameBy, unique}
 use Rattle.model.specs.Ticket.{Limit, Loop, Subscript, Access, Statement, Step, exchange, reversal, skew, section, Nest}
-use Rattle.model.specs.Steps.{signed}
 
 -- deeper loops change their coefficients alone
 unfoldable pub onCoefficients : (List ℤ → List ℤ) → Limit → Limit
@@ -33,19 +32,19 @@ reverseAt a (L ∷ N) = record { lower = map negated (L .upper); upper = map neg
 -- ---- skew: old b = new b − c × a, substituted everywhere
 
 -- what b's coefficient k gives to a's: k b is k (new b) − k c a
-unfoldable pub skewCoefficients : ℕ → Bool → List ℤ → List ℤ
+unfoldable pub skewCoefficients : ℕ → ℤ → List ℤ → List ℤ
 skewCoefficients d c [] = []
-skewCoefficients d c (x ∷ xs) = (x -ℤ signed c (getD xs d (pos 0))) ∷ xs
+skewCoefficients d c (x ∷ xs) = (x -ℤ (c *ℤ (getD xs d (pos 0)))) ∷ xs
 
 -- in b's own limits p b is p (new b) − p c a, and p c a moves across
-unfoldable pub skewLimit : ℕ → Bool → Limit → Limit
-skewLimit a c l = record { multiplier = l .multiplier; constant = l .constant; coefficients = under a (onHead (λ x. x +ℤ signed c (pos (l .multiplier)))) (l .coefficients) }
+unfoldable pub skewLimit : ℕ → ℤ → Limit → Limit
+skewLimit a c l = record { multiplier = l .multiplier; constant = l .constant; coefficients = under a (onHead (λ x. x +ℤ (c *ℤ (pos (l .multiplier))))) (l .coefficients) }
 
-unfoldable pub skewInner : ℕ → ℕ → Bool → List Loop → List Loop
+unfoldable pub skewInner : ℕ → ℕ → ℤ → List Loop → List Loop
 skewInner a d c [] = []
 skewInner a d c (L ∷ N) = onLimits (skewLimit a c) L ∷ deeper (under a (skewCoefficients d c)) N
 
-unfoldable pub skewAt : ℕ → ℕ → Bool → List Loop → List Loop
+unfoldable pub skewAt : ℕ → ℕ → ℤ → List Loop → List Loop
 skewAt a d c [] = []
 skewAt a d c (L ∷ N) = L ∷ under d (skewInner a d c) N
 

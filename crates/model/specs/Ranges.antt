@@ -5,14 +5,14 @@ use mathlib.Core.Bool.{Bool, true, false}
 use mathlib.Core.List.{List, [], _∷_, _++_, flatMap}
 use Prim.Native.Nat.{ℕ, suc, _+_, _*_, _-_, _≤_, _<_}
 use lib.Dec.{T}
-use lib.IntN.{ℤ, pos, negsuc, natAbs}
+use lib.IntN.{ℤ, pos, negsuc, negℤ, natAbs}
 use lib.Signed.{_≤ℤ_}
 use lib.ListN.{length}
 use Rattle.lists.specs.Membership.{All}
 use Rattle.model.specs.Answer.{accepted}
 use Rattle.model.specs.Words.{wordAt}
 use Rattle.model.specs.Ticket.{Limit, Loop, Subscript, Access, Statement, Step, exchange, reversal, skew, section, Nest, Ticket}
-use Rattle.model.specs.Grammar.{between, total, depthAfter, mostStatements}
+use Rattle.model.specs.Grammar.{between, total, depthAfter, mostStatements, mostFactor}
 use Rattle.model.specs.Encode.{counted, loopWords, arrayWords, statementWords}
 use Rattle.model.specs.Grammar.{mostReads, mostArrays, mostDimensions, ticketLoops, mostLoops, ticketLimits}
 
@@ -75,7 +75,7 @@ pub record NestRanges (d m : ℕ) (N : Nest) : Type 0 where
 abbrev pub StepThere : ℕ → Step → Type 0
 StepThere m (exchange a) = suc a < m
 StepThere m (reversal a) = a < m
-StepThere m (skew a d c) = suc (a + d) < m
+StepThere m (skew a d c) = (suc (a + d) < m) × InRange 1 mostFactor (natAbs c)
 StepThere m (section a w) = (a < m) × (m < mostLoops) × InRange 2 256 w
 
 abbrev pub StepsThere : ℕ → List Step → Type 0
@@ -95,15 +95,11 @@ kindOf (reversal a) = 2
 kindOf (skew a d c) = 3
 kindOf (section a w) = 4
 
-abbrev pub directionWord : Bool → ℤ
-directionWord true = pos 1
-directionWord false = negsuc 0
-
 -- a, b and c
 abbrev pub arguments : Step → List ℤ
 arguments (exchange a) = pos (suc a) ∷ pos (suc (suc a)) ∷ pos 0 ∷ []
 arguments (reversal a) = pos (suc a) ∷ pos 0 ∷ pos 0 ∷ []
-arguments (skew a d c) = pos (suc a) ∷ pos (suc (suc (a + d))) ∷ directionWord c ∷ []
+arguments (skew a d c) = pos (suc a) ∷ pos (suc (suc (a + d))) ∷ c ∷ []
 arguments (section a w) = pos (suc a) ∷ pos w ∷ pos 0 ∷ []
 
 abbrev pub stepWords : Step → List ℤ
@@ -146,7 +142,7 @@ pub data WordRange : ℤ → ℤ → Type 0 where
   nought : WordRange (pos 0) (pos 0)
   array : {n : ℕ} → InRange 1 mostArrays n → WordRange (pos 1) (pos n)
   kind : WordRange (pos 1) (pos 4)
-  direction : WordRange (negsuc 0) (pos 1)
+  factor : WordRange (negℤ (pos mostFactor)) (pos mostFactor)
   width : WordRange (pos 2) (pos 256)
 
 -- word p, counted from 1, is there and is w

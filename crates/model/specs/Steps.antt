@@ -1,30 +1,25 @@
 -- The steps: what each makes of a point, how it is undone, and what it makes of a vector of signs (Wolfe's tables).
-use mathlib.Core.Bool.{Bool, true, false}
+use mathlib.Core.Bool.{Bool}
 use mathlib.Core.List.{List, [], _∷_, _++_, map, flatMap}
 use Prim.Native.Nat.{ℕ}
 use lib.IntN.{ℤ, pos, negℤ, _+ℤ_, _-ℤ_, _*ℤ_}
 use Rattle.integers.specs.Division.{floorDiv}
-use Rattle.integers.specs.Sign.{Sign, less, equal, greater, turned}
+use Rattle.integers.specs.Sign.{Sign, less, equal, greater, sign, turned}
 use Rattle.lists.specs.Place.{under, underEach, onHead, swapped}
 use Rattle.lists.specs.Tests.{any}
 use Rattle.model.specs.Ticket.{Step, exchange, reversal, skew, section}
-use Rattle.model.specs.Directions.{backwards}
+use Rattle.model.specs.Directions.{bySign, backwards}
 
 -- ---- points
 
--- c × x, for c = 1 (true) or −1
-abbrev pub signed : Bool → ℤ → ℤ
-signed true x = x
-signed false x = negℤ x
-
 -- the loop d + 1 places inside: new b = old b + c × a
-unfoldable pub skewed : ℕ → Bool → List ℤ → List ℤ
+unfoldable pub skewed : ℕ → ℤ → List ℤ → List ℤ
 skewed d c [] = []
-skewed d c (x ∷ p) = x ∷ under d (onHead (λ y. y +ℤ signed c x)) p
+skewed d c (x ∷ p) = x ∷ under d (onHead (λ y. y +ℤ (c *ℤ x))) p
 
-unfoldable pub unskewed : ℕ → Bool → List ℤ → List ℤ
+unfoldable pub unskewed : ℕ → ℤ → List ℤ → List ℤ
 unskewed d c [] = []
-unskewed d c (x ∷ p) = x ∷ under d (onHead (λ y. y -ℤ signed c x)) p
+unskewed d c (x ∷ p) = x ∷ under d (onHead (λ y. y -ℤ (c *ℤ x))) p
 
 -- index = w × S + E, E from 0 to w − 1
 unfoldable pub sectioned : ℕ → List ℤ → List ℤ
@@ -72,16 +67,15 @@ sumSigns greater less = anySign
 sumSigns greater equal = greater ∷ []
 sumSigns greater greater = greater ∷ []
 
--- the sign at b becomes that of a sum of the signs at a and b, or of b minus a
-abbrev pub signedSign : Bool → Sign → Sign
-signedSign true s = s
-signedSign false s = turned s
+-- the sign at b becomes that of a sum: of the sign at b and that at a, which a negative factor turns
+unfoldable pub signedSign : ℤ → Sign → Sign
+signedSign c s = bySign (sign (pos 0) c) s equal (turned s)
 
 unfoldable pub headSum : Sign → List Sign → List (List Sign)
 headSum s [] = [] ∷ []
 headSum s (t ∷ v) = map (λ r. r ∷ v) (sumSigns t s)
 
-unfoldable pub skewSigns : ℕ → Bool → List Sign → List (List Sign)
+unfoldable pub skewSigns : ℕ → ℤ → List Sign → List (List Sign)
 skewSigns d c [] = [] ∷ []
 skewSigns d c (s ∷ v) = map (λ r. s ∷ r) (underEach d (headSum (signedSign c s)) v)
 

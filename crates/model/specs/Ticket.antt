@@ -1,5 +1,4 @@
 -- What a ticket holds. Loops, arrays, statements and places are counted from 0 here and from 1 in document 01's words and answers.
-use mathlib.Core.Bool.{Bool}
 use mathlib.Core.List.{List}
 use Prim.Native.Nat.{ℕ}
 use lib.IntN.{ℤ}
@@ -35,7 +34,7 @@ pub data Step : Type 0 where
   exchange : ℕ → Step
   reversal : ℕ → Step
   -- by loop a the loop d + 1 places inside it, by 1 (true) or by −1
-  skew : ℕ → ℕ → Bool → Step
+  skew : ℕ → ℕ → ℤ → Step
   -- loop a by width w
   section : ℕ → ℕ → Step
 

@@ -13,10 +13,10 @@ use Rattle.lists.specs.Place.{under, onHead, swapped}
 use Rattle.lists.specs.Tests.{any}
 use Rattle.lists.proofs.MembershipLaws.{all-getD-default, all-nil, all-cons}
 use Rattle.lists.proofs.TestLaws.{cond-cases}
-use Rattle.model.specs.Steps.{anySign, signedSign}
+use Rattle.model.specs.Steps.{anySign}
 use Rattle.model.specs.Directions.{vectorCount}
 use Rattle.preimages.specs.Numbers.{digit, digitsIn, base3, number, digitsOf, Digits, marked}
-use Rattle.preimages.specs.Sources.{Source, joined, joinedDigit, mayBeDigit, gave, gaveDigits, Signed, SkewSource, skewSource}
+use Rattle.preimages.specs.Sources.{Source, joined, joinedDigit, mayBeDigit, gave, gaveDigits, addedSign, Signed, SkewSource, skewSource}
 use Rattle.preimages.proofs.NumberLaws.{digits-below, number-digits, digitsOf-number, vector-digits}
 use Rattle.preimages.proofs.DigitLaws.{digit-at, digit-set, set-digits, digit-turned, turned-digits, swapped-digits, joinedDigits, joined-digits, mayBe-digits}
 
@@ -125,7 +125,7 @@ pub skew-source-is : (old : List Bool) (d : List ℕ) (n a b s : ℕ) (c : Bool)
 unfolding skewSource any anySign
 skew-source-is old d n a b s c e h k r w v i l q =
     let f = vector-of d n e v q in
-    let x = signedSign c (getD v a equal) in
+    let x = addedSign c (getD v a equal) in
     let g : s ≡ digit x = k .same (getD v a equal) (ap (λ y. getD y a 0) f ∙ digit-at 6 v a (omega arith) l) in
     w ∙ rw (f, g, gave-digits old v b x less i l, gave-digits old v b x equal i l, gave-digits old v b x greater i l, or-false (gave old v b x greater))
 

@@ -5,10 +5,10 @@ use mathlib.Core.List.{List, [], _∷_}
 use Prim.Native.Nat.{ℕ, _+_, _≤_, _<_}
 use lib.Dec.{eqb, ltb}
 use lib.ListN.{length, getD, set}
-use Rattle.integers.specs.Sign.{Sign, less, equal, greater}
+use Rattle.integers.specs.Sign.{Sign, less, equal, greater, turned}
 use Rattle.lists.specs.Tests.{any}
 use Rattle.model.specs.Directions.{bySign, sameSign, vectorCount}
-use Rattle.model.specs.Steps.{anySign, sumSigns, signedSign}
+use Rattle.model.specs.Steps.{anySign, sumSigns}
 use Rattle.preimages.specs.Numbers.{digit, number, base3, Digits, marked}
 
 -- a number, and a nest of at most six loops that has the loops named
@@ -48,13 +48,18 @@ mayBe t s r = any (sameSign r) (sumSigns t s)
 unfoldable pub mayBeDigit : ℕ → ℕ → ℕ → Bool
 mayBeDigit t s r = cond (eqb t 1) (eqb r s) (cond (eqb s 1) (eqb r t) (cond (eqb s t) (eqb r t) true))
 
+-- the sign that is added: as it is by a factor above 0 (true), else turned over
+abbrev pub addedSign : Bool → Sign → Sign
+addedSign true s = s
+addedSign false s = turned s
+
 -- the vector with t at b was marked and may have given v, s the sign that is added at b
 abbrev pub gave : List Bool → List Sign → ℕ → Sign → Sign → Bool
 gave old v b s t = mayBe t s (getD v b equal) && marked old (set v b t)
 
 -- some vector gave v
 unfoldable pub skewSource : List Bool → ℕ → ℕ → Bool → List Sign → Bool
-skewSource old a b c v = any (gave old v b (signedSign c (getD v a equal))) anySign
+skewSource old a b c v = any (gave old v b (addedSign c (getD v a equal))) anySign
 
 pub record SkewSourceIn (a b n : ℕ) : Type 0 where
   pub below : n < vectorCount
@@ -65,10 +70,10 @@ pub record SkewSourceIn (a b n : ℕ) : Type 0 where
 abbrev pub SkewSource : List Bool → ℕ → ℕ → Bool → ℕ → Bool → Type 0
 SkewSource old a b c n r = (v : List Sign) → b < length v → length v ≤ 6 → number v ≡ n → r ≡ skewSource old a b c v
 
--- s is the sign x, or that turned over
+-- s is the digit of the sign that is added
 pub record Signed (c : Bool) (x s : ℕ) : Type 0 where
   pub small : s < 3
-  pub same : (t : Sign) → x ≡ digit t → s ≡ digit (signedSign c t)
+  pub same : (t : Sign) → x ≡ digit t → s ≡ digit (addedSign c t)
 
 -- what the code holds of it: digits, the sign that is added at b, and t
 pub record GaveIn (d : List ℕ) (b s t : ℕ) : Type 0 where

@@ -122,7 +122,7 @@ fn gave(old: &[bool; VECTORS], d: [usize; 6], b: usize, s: usize, t: usize) -> b
     false
 }
 
-// Whether the skew of loop b by loop a turns some marked vector into the one with number n.
+// Whether the skew of loop b by loop a turns some marked vector into the one with number n; `plus` by a factor above 0, else by one below.
 pub fn skew_source(old: &[bool; VECTORS], n: usize, a: usize, b: usize, plus: bool) -> bool
     requires { ⌜ SkewSourceIn a b n ⌝ }
     ensures { λ r. ⌜ SkewSource (now (old .entry)) a b plus n r ⌝ }

@@ -109,81 +109,81 @@ module _ (s : List ℤ) (c : List ℕ) (depth a many : ℕ) (p : ReversalIn s c 
 
 -- ---- skew of the loop b = a + 1 + d
 
-abbrev pub slanted : ℕ → ℕ → Bool → Slant
-slanted a d positive = record { outer = a; between = d; positive = positive }
+abbrev pub slanted : ℕ → ℕ → ℤ → Slant
+slanted a d factor = record { outer = a; between = d; factor = factor }
 
-module _ (s : List ℤ) (c : List ℕ) (depth a d : ℕ) (positive : Bool) (many : ℕ) (p : SkewIn s c depth a d) (deep : depth ≡ a + 1 + d + 1 + many) where
-  pub skew-in : LoopsIn (Skew (slanted a d positive)) s c (a + 1 + d + 1) many 0
+module _ (s : List ℤ) (c : List ℕ) (depth a d : ℕ) (factor : ℤ) (many : ℕ) (p : SkewIn s c depth a d factor) (deep : depth ≡ a + 1 + d + 1 + many) where
+  pub skew-in : LoopsIn (Skew (slanted a d factor)) s c (a + 1 + d + 1) many 0
   unfolding Allowed outerAfter
   skew-in = let few = p .nest .shallow in record {
     words = p .nest .words;
     counts = p .nest .counts;
     room = omega arith;
-    allowed = λ j h. (omega arith, omega arith);
+    allowed = λ j h. (omega arith, omega arith, p .near);
     outer = λ j h. omega arith;
     small = p .nest .small;
     there = λ j h. ok-at s c depth (a + 1 + d + 1 + j) (p .nest) (omega arith);
   }
 
   skewedLoop : Loop
-  skewedLoop = onSides (Lean (slanted a d positive)) (Lean (slanted a d positive)) (loopAt s c (a + 1 + d))
+  skewedLoop = onSides (Lean (slanted a d factor)) (Lean (slanted a d factor)) (loopAt s c (a + 1 + d))
 
   skewed-few : T (few skewedLoop)
   unfolding skewedLoop onSides
   skewed-few =
       let o = ok-at s c depth (a + 1 + d) (p .nest) (p .place) in
       let L = loopAt s c (a + 1 + d) in
-      let f = changeOf (Lean (slanted a d positive)) in
+      let f = changeOf (Lean (slanted a d factor)) in
       few-sides skewedLoop (omega (arith, lower-few s c (a + 1 + d) o, length-map (L .lower) f)) (omega (arith, upper-few s c (a + 1 + d) o, length-map (L .upper) f))
 
   -- it begins at the skewed loop
-  skew-inner : (N : List Loop) → under a (skewAt a d positive) N ≡ under (a + 1 + d) (skewInner a d positive) N
+  skew-inner : (N : List Loop) → under a (skewAt a d factor) N ≡ under (a + 1 + d) (skewInner a d factor) N
   skew-inner N =
       let e : a + suc d ≡ a + 1 + d = omega arith in
-      under-same (skewAt a d positive) (under (suc d) (skewInner a d positive)) at-outer a N ∙ under-under (skewInner a d positive) a (suc d) N ∙ ap (λ i. under i (skewInner a d positive) N) e
+      under-same (skewAt a d factor) (under (suc d) (skewInner a d factor)) at-outer a N ∙ under-under (skewInner a d factor) a (suc d) N ∙ ap (λ i. under i (skewInner a d factor) N) e
     where
-      at-outer : (l : List Loop) → skewAt a d positive l ≡ under (suc d) (skewInner a d positive) l
+      at-outer : (l : List Loop) → skewAt a d factor l ≡ under (suc d) (skewInner a d factor) l
       at-outer [] = unfold skewAt in unfold under in refl
       at-outer (L ∷ l) = unfold skewAt in unfold under in refl
 
-  skewed-is : loopsAfter (skew a d positive) (loopsFrom s c 0 depth) ≡ loopsFrom s c 0 (a + 1 + d) ++ ((skewedLoop ∷ []) ++ map (onLimits (changeOf (Skew (slanted a d positive)))) (loopsFrom s c (a + 1 + d + 1) many))
+  skewed-is : loopsAfter (skew a d factor) (loopsFrom s c 0 depth) ≡ loopsFrom s c 0 (a + 1 + d) ++ ((skewedLoop ∷ []) ++ map (onLimits (changeOf (Skew (slanted a d factor)))) (loopsFrom s c (a + 1 + d + 1) many))
   unfolding loopsAfter skewInner deeper changeOf onSides onLimits loopsFrom skewedLoop
   skewed-is =
       let b = a + 1 + d in
       let e : depth ≡ b + suc many = omega arith in
       let f : suc b ≡ b + 1 = omega arith in
-      skew-inner (loopsFrom s c 0 depth) ∙ ap (λ n. under b (skewInner a d positive) (loopsFrom s c 0 n)) e ∙ under-loops (skewInner a d positive) s c b (suc many)
-      ∙ ap (λ k. loopsFrom s c 0 b ++ (skewedLoop ∷ map (onLimits (changeOf (Skew (slanted a d positive)))) (loopsFrom s c k many))) f
+      skew-inner (loopsFrom s c 0 depth) ∙ ap (λ n. under b (skewInner a d factor) (loopsFrom s c 0 n)) e ∙ under-loops (skewInner a d factor) s c b (suc many)
+      ∙ ap (λ k. loopsFrom s c 0 b ++ (skewedLoop ∷ map (onLimits (changeOf (Skew (slanted a d factor)))) (loopsFrom s c k many))) f
 
-  skew-same : depthAfter (skew a d positive) depth ≡ depth
+  skew-same : depthAfter (skew a d factor) depth ≡ depth
   unfolding depthAfter
   skew-same = refl
 
-  module _ (r₁ : Bool) (t₁ : List ℤ) (d₁ : List ℕ) (m₁ : LoopsMade (Skew (slanted a d positive)) s c (a + 1 + d + 1) many 0 r₁ t₁ d₁) where
-    pub skewed-large : r₁ ≡ false → After (skew a d positive) s c depth (record { full = false; small = false }) t₁ d₁
-    skewed-large e = inside-large s c depth (p .nest) (Skew (slanted a d positive)) (a + 1 + d) many deep (skew a d positive) skewedLoop skewed-is skew-same skewed-few r₁ t₁ d₁ m₁ e
+  module _ (r₁ : Bool) (t₁ : List ℤ) (d₁ : List ℕ) (m₁ : LoopsMade (Skew (slanted a d factor)) s c (a + 1 + d + 1) many 0 r₁ t₁ d₁) where
+    pub skewed-large : r₁ ≡ false → After (skew a d factor) s c depth (record { full = false; small = false }) t₁ d₁
+    skewed-large e = inside-large s c depth (p .nest) (Skew (slanted a d factor)) (a + 1 + d) many deep (skew a d factor) skewedLoop skewed-is skew-same skewed-few r₁ t₁ d₁ m₁ e
 
     module _ (e : r₁ ≡ true) where
-      leans : LoopsMade (Skew (slanted a d positive)) s c (a + 1 + d + 1) many 0 true t₁ d₁
-      leans = subst (λ (b : Bool). LoopsMade (Skew (slanted a d positive)) s c (a + 1 + d + 1) many 0 b t₁ d₁) e m₁
+      leans : LoopsMade (Skew (slanted a d factor)) s c (a + 1 + d + 1) many 0 true t₁ d₁
+      leans = subst (λ (b : Bool). LoopsMade (Skew (slanted a d factor)) s c (a + 1 + d + 1) many 0 b t₁ d₁) e m₁
 
-      pub lean-in : LoopIn (Lean (slanted a d positive)) (Lean (slanted a d positive)) t₁ d₁ (a + 1 + d) (a + 1 + d)
+      pub lean-in : LoopIn (Lean (slanted a d factor)) (Lean (slanted a d factor)) t₁ d₁ (a + 1 + d) (a + 1 + d)
       unfolding Allowed outerAfter
       lean-in = let few = p .nest .shallow in let h = p .place in record {
         words = m₁ .words ∙ p .nest .words;
         counts = m₁ .counts ∙ p .nest .counts;
         further = (omega arith, omega arith);
-        allowed = ((omega arith, omega arith), (omega arith, omega arith));
+        allowed = ((omega arith, omega arith, p .near), (omega arith, omega arith, p .near));
         outer = (refl, refl);
         small = m₁ .whole e .small;
-        there = still-ok (Skew (slanted a d positive)) s c depth (a + 1 + d + 1) many 0 (p .nest) t₁ d₁ leans (a + 1 + d) (omega arith) (p .place);
+        there = still-ok (Skew (slanted a d factor)) s c depth (a + 1 + d + 1) many 0 (p .nest) t₁ d₁ leans (a + 1 + d) (omega arith) (p .place);
       }
 
-      pub skewed-done : (r : Bool) (t₂ : List ℤ) (d₂ : List ℕ) → LoopMade t₁ d₁ (a + 1 + d) (onSides (Lean (slanted a d positive)) (Lean (slanted a d positive)) (loopAt t₁ d₁ (a + 1 + d))) r t₂ d₂
-          → After (skew a d positive) s c depth (record { full = false; small = r }) t₂ d₂
+      pub skewed-done : (r : Bool) (t₂ : List ℤ) (d₂ : List ℕ) → LoopMade t₁ d₁ (a + 1 + d) (onSides (Lean (slanted a d factor)) (Lean (slanted a d factor)) (loopAt t₁ d₁ (a + 1 + d))) r t₂ d₂
+          → After (skew a d factor) s c depth (record { full = false; small = r }) t₂ d₂
       unfolding skewedLoop
       skewed-done r t₂ d₂ m₂ =
           let b = a + 1 + d in
-          let q = still-there (Skew (slanted a d positive)) s c depth (b + 1) many 0 (p .nest) t₁ d₁ leans b (omega arith) (p .place) in
-          one-done s c depth (p .nest) (Skew (slanted a d positive)) b many deep (skew a d positive) skewedLoop skewed-is skew-same skewed-few r₁ t₁ d₁ m₁ e r t₂ d₂
-          (subst (λ (L : Loop). LoopMade t₁ d₁ b (onSides (Lean (slanted a d positive)) (Lean (slanted a d positive)) L) r t₂ d₂) q m₂)
+          let q = still-there (Skew (slanted a d factor)) s c depth (b + 1) many 0 (p .nest) t₁ d₁ leans b (omega arith) (p .place) in
+          one-done s c depth (p .nest) (Skew (slanted a d factor)) b many deep (skew a d factor) skewedLoop skewed-is skew-same skewed-few r₁ t₁ d₁ m₁ e r t₂ d₂
+          (subst (λ (L : Loop). LoopMade t₁ d₁ b (onSides (Lean (slanted a d factor)) (Lean (slanted a d factor)) L) r t₂ d₂) q m₂)

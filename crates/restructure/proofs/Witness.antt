@@ -3,7 +3,7 @@ use mathlib.Core.Path.{_≡_, sym, subst}
 use mathlib.Core.List.{List}
 use Prim.Native.Nat.{ℕ, _+_, _*_, _≤_, _<_}
 use native.Mathlib.Omega.{arith}
-use lib.IntN.{ℤ, pos}
+use lib.IntN.{ℤ, pos, negsuc}
 use lib.Signed.{_<ℤ_}
 use lib.ListN.{length, getD, replicate, length-replicate, getD-replicate}
 use Rattle.integers.proofs.AffineLaws.{within-all}
@@ -57,8 +57,8 @@ nest-ok = record {
 pub reversal-in : ReversalIn words counts 2 1
 reversal-in = record { nest = nest-ok; place = omega arith }
 
-pub skew-in : SkewIn words counts 2 0 0
-skew-in = record { nest = nest-ok; place = omega arith }
+pub skew-in : SkewIn words counts 2 0 0 (negsuc 0)
+skew-in = record { nest = nest-ok; place = omega arith; near = omega arith }
 
 pub section-in : SectionIn words counts 2 1 4
 section-in = record { nest = nest-ok; place = omega arith; room = omega arith; positive = omega arith; narrow = omega arith }

@@ -5,6 +5,7 @@ use mathlib.Core.List.{List}
 use Prim.Native.Nat.{ℕ, _+_, _<_, _≤_}
 use lib.IntN.{ℤ}
 use lib.ListN.{length}
+use Rattle.integers.specs.Difference.{size}
 use Rattle.lists.specs.Tests.{all}
 use Rattle.model.specs.Ticket.{Step}
 use Rattle.model.specs.Grammar.{depthAfter, mostLoops, mostSides, nestRoom}
@@ -17,9 +18,10 @@ pub record ReversalIn (s : List ℤ) (c : List ℕ) (depth a : ℕ) : Type 0 whe
   pub nest : NestOk s c depth
   pub place : a < depth
 
-pub record SkewIn (s : List ℤ) (c : List ℕ) (depth a d : ℕ) : Type 0 where
+pub record SkewIn (s : List ℤ) (c : List ℕ) (depth a d : ℕ) (factor : ℤ) : Type 0 where
   pub nest : NestOk s c depth
   pub place : a + 1 + d < depth
+  pub near : size factor ≤ 32767
 
 pub record SectionIn (s : List ℤ) (c : List ℕ) (depth a w : ℕ) : Type 0 where
   pub nest : NestOk s c depth

@@ -42,24 +42,24 @@ pub fn reversed(limits: &mut [i16], counts: &mut [usize], depth: usize, a: usize
     }
 }
 
-// The loop d + 1 places inside loop a, by 1 or −1.
+// The loop d + 1 places inside loop a.
 pub fn skewed(
     limits: &mut [i16],
     counts: &mut [usize],
     depth: usize,
     a: usize,
     d: usize,
-    positive: bool,
+    factor: i32,
 ) -> Stepped
-    requires { ⌜ SkewIn (now limits) (now counts) depth a d ⌝ }
-    ensures { λ r. ⌜ After (skew a d positive) (now (limits .entry)) (now (counts .entry)) depth r (now (limits .exit)) (now (counts .exit)) ⌝ }
+    requires { ⌜ SkewIn (now limits) (now counts) depth a d factor ⌝ }
+    ensures { λ r. ⌜ After (skew a d factor) (now (limits .entry)) (now (counts .entry)) depth r (now (limits .exit)) (now (counts .exit)) ⌝ }
 {
     let b = a + 1 + d;
     let start = b + 1;
     let slant = Slant {
         outer: a,
         between: d,
-        positive: positive,
+        factor: factor,
     };
     if !loop_changes::change_from(limits, counts, start, depth - start, 0, Change::Skew(slant)) {
         return Stepped {

@@ -22,8 +22,8 @@ fn step_loops(limits: &mut [i16], counts: &mut [usize], depth: usize, step: Step
         Step::Lean(e) => {
             let a = e.outer;
             let d = e.distance;
-            let positive = e.forward;
-            restructure::skewed(limits, counts, depth, a, d, positive)
+            let factor = e.factor;
+            restructure::skewed(limits, counts, depth, a, d, factor)
         }
         Step::Strip(e) => {
             let a = e.target;

@@ -1,2 +1,3 @@
 -- Laws of the steps that the code's proofs cite.
+pub mod FactorLaws
 pub mod StepLaws

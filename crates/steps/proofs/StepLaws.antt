@@ -1,5 +1,5 @@
 -- The steps' words: the tests of loop numbers as ranges, and each step from its words.
-use mathlib.Core.Path.{_≡_, refl, sym, ap, _∙_, subst}
+use mathlib.Core.Path.{_≡_, refl, sym, ap, ap₂, _∙_, subst}
 use mathlib.Core.Bool.{Bool, true, false, cond, _&&_, not}
 use mathlib.Core.List.{List, [], _∷_, _++_, append-nil}
 use Prim.Native.Nat.{ℕ, zero, suc, _+_, _-_, _<_, _≤_}
@@ -10,16 +10,16 @@ use lib.ListN.{length, take, set}
 use lib.Seq.{take-suc-set, length-take-le}
 use borrow.Author.Tests.{lt-ltb, le-leb, lt-leb, eq-eqb, leb-true, ltb-true, eqb-true}
 use lib.Dec.{T, leb, ltb, eqb}
-use lib.IntN.{ℤ, pos, negsuc, natAbs}
+use lib.IntN.{ℤ, pos, negsuc, negℤ, natAbs}
 use lib.Signed.{ltZ}
 use Rattle.lists.proofs.TestLaws.{true-T, T-true, T-same, and-both, and-intro}
 use Rattle.integers.specs.Sign.{eqZ}
 use Rattle.model.specs.Answer as Answer
 use Rattle.model.specs.Answer.{Answer, accepted, refused, require}
 use Rattle.model.specs.Ticket as Model
-use Rattle.model.specs.Grammar.{Read, Reader, _>>=_, _>>_, done, must, mustAt, between, within, natural, number, loopNumber, skewStep, stepOf, depthAfter, stepsFrom}
+use Rattle.model.specs.Grammar.{Read, Reader, _>>=_, _>>_, done, must, mustAt, between, within, natural, number, loopNumber, mostFactor, skewStep, stepOf, depthAfter, stepsFrom}
 use Rattle.reading.proofs.ReaderLaws.{after-value, after-refusal, regrouped, before, before-none, before-one}
-use Rattle.steps.specs.Steps.{nextLoop, sectionable, direction, oneStep, NumberedFrom}
+use Rattle.steps.specs.Steps.{nextLoop, sectionable, factor, oneStep, NumberedFrom}
 use Rattle.steps.specs.declared.Numbered.{Numbered}
 
 -- ---- tests of loop numbers
@@ -134,22 +134,22 @@ module _ {A B C D : Type 0} (m₁ : Reader A) (m₂ : A → Reader B) (m₃ : A 
           let z : k + 2 + 1 ≡ k + 3 = omega arith in
           up-to-third ∙ after-value (m₃ a x) _ b (k + 2) c (k + 3) (h ∙ ap (λ j. accepted (record { value = c; next = j })) z)
 
--- ---- a skew, whose last word is a direction
+-- ---- a skew, whose last word is a factor
 
-module _ {D : Type 0} (g : Bool → D) (b : List ℕ) (k : ℕ) where
-  by-test : (t x : Bool) (j : ℕ) → (must t 4 >> done (g x)) b j ≡ Answer._>>=_ ((must t 4 >> done x) b j) (λ r. done (g (r .value)) b (r .next))
-  unfolding _>>_ _>>=_ must done require Answer._>>=_
-  by-test true x j = refl
-  by-test false x j = refl
+-- the reader of a factor, then what is made of it
+pub factor-last : {D : Type 0} (g : ℤ → D) (b : List ℕ) (k : ℕ)
+    → (within (negℤ (pos mostFactor)) (pos mostFactor) >>= (λ c. must (not (eqZ c (pos 0))) 4 >> done (g c))) b k ≡ (factor >>= (λ c. done (g c))) b k
+unfolding factor _>>=_
+factor-last g b k = by (within (negℤ (pos mostFactor)) (pos mostFactor) b k)
+  where
+    by-test : (t : Bool) (c : ℤ) (j : ℕ) → (must t 4 >> done (g c)) b j ≡ Answer._>>=_ ((must t 4 >> done c) b j) (λ r. done (g (r .value)) b (r .next))
+    by-test true c j = unfold _>>_ _>>=_ must done require Answer._>>=_ in refl
+    by-test false c j = unfold _>>_ _>>=_ must done require Answer._>>=_ in refl
 
-  pub direction-last : (within (negsuc 0) (pos 1) >>= (λ c. must (not (eqZ c (pos 0))) 4 >> done (g (eqZ c (pos 1))))) b k ≡ (direction >>= (λ t. done (g t))) b k
-  unfolding direction _>>=_
-  direction-last = by (within (negsuc 0) (pos 1) b k)
-    where
-      by : (a : Answer (Read ℤ)) → Answer._>>=_ a (λ r. (must (not (eqZ (r .value) (pos 0))) 4 >> done (g (eqZ (r .value) (pos 1)))) b (r .next))
-          ≡ Answer._>>=_ (Answer._>>=_ a (λ r. (must (not (eqZ (r .value) (pos 0))) 4 >> done (eqZ (r .value) (pos 1))) b (r .next))) (λ r. done (g (r .value)) b (r .next))
-      by (accepted r) = unfold Answer._>>=_ in by-test (not (eqZ (r .value) (pos 0))) (eqZ (r .value) (pos 1)) (r .next)
-      by (refused n p) = unfold Answer._>>=_ in refl
+    by : (a : Answer (Read ℤ)) → Answer._>>=_ a (λ r. (must (not (eqZ (r .value) (pos 0))) 4 >> done (g (r .value))) b (r .next))
+        ≡ Answer._>>=_ (Answer._>>=_ a (λ r. (must (not (eqZ (r .value) (pos 0))) 4 >> done (r .value)) b (r .next))) (λ r. done (g (r .value)) b (r .next))
+    by (accepted r) = unfold Answer._>>=_ in by-test (not (eqZ (r .value) (pos 0))) (r .value) (r .next)
+    by (refused n p) = unfold Answer._>>=_ in refl
 
 module _ (step m : ℕ) (b : List ℕ) (k a : ℕ) (low : 1 ≤ a) (high : a ≤ m) (e : loopNumber step (between (pos 1) (pos m)) b k ≡ accepted (record { value = a; next = k + 1 })) where
   pub skew-no-inner : (q p : ℕ) → loopNumber step (between (pos (a + 1)) (pos m)) b (k + 1) ≡ refused q p → skewStep step m b k ≡ refused q p
@@ -158,25 +158,26 @@ module _ (step m : ℕ) (b : List ℕ) (k a : ℕ) (low : 1 ≤ a) (high : a ≤
       after-value (loopNumber step (between (pos 1) (pos m))) _ b k a (k + 1) e
       ∙ after-refusal (loopNumber step (λ w. between (pos 1) (pos m) w && ltZ (pos a) w)) _ b (k + 1) q p (same-test step _ _ (skew-test a m low high) b (k + 1) ∙ f)
 
-  module _ (c : ℕ) (f : loopNumber step (between (pos (a + 1)) (pos m)) b (k + 1) ≡ accepted (record { value = c; next = k + 1 + 1 })) where
-    up-to-direction : skewStep step m b k ≡ (direction >>= (λ t. done (Model.skew (a - 1) (c - a - 1) t))) b (k + 2)
+  module _ (x : ℕ) (f : loopNumber step (between (pos (a + 1)) (pos m)) b (k + 1) ≡ accepted (record { value = x; next = k + 1 + 1 })) where
+    up-to-factor : skewStep step m b k ≡ (factor >>= (λ c. done (Model.skew (a - 1) (x - a - 1) c))) b (k + 2)
     unfolding skewStep
-    up-to-direction =
+    up-to-factor =
         let z : k + 1 + 1 ≡ k + 2 = omega arith in
         after-value (loopNumber step (between (pos 1) (pos m))) _ b k a (k + 1) e
-        ∙ after-value (loopNumber step (λ w. between (pos 1) (pos m) w && ltZ (pos a) w)) _ b (k + 1) c (k + 2)
-        (same-test step _ _ (skew-test a m low high) b (k + 1) ∙ f ∙ ap (λ j. accepted (record { value = c; next = j })) z)
-        ∙ direction-last (λ t. Model.skew (a - 1) (c - a - 1) t) b (k + 2)
+        ∙ after-value (loopNumber step (λ w. between (pos 1) (pos m) w && ltZ (pos a) w)) _ b (k + 1) x (k + 2)
+        (same-test step _ _ (skew-test a m low high) b (k + 1) ∙ f ∙ ap (λ j. accepted (record { value = x; next = j })) z)
+        ∙ factor-last (λ c. Model.skew (a - 1) (x - a - 1) c) b (k + 2)
 
-    pub skew-no-direction : (q p : ℕ) → direction b (k + 2) ≡ refused q p → skewStep step m b k ≡ refused q p
-    skew-no-direction q p h = up-to-direction ∙ after-refusal direction _ b (k + 2) q p h
+    pub skew-no-factor : (q p : ℕ) → factor b (k + 2) ≡ refused q p → skewStep step m b k ≡ refused q p
+    skew-no-factor q p h = up-to-factor ∙ after-refusal factor _ b (k + 2) q p h
 
-    pub one-skew : (t : Bool) → direction b (k + 2) ≡ accepted (record { value = t; next = k + 2 + 1 })
-        → skewStep step m b k ≡ accepted (record { value = Model.skew (a - 1) (c - a - 1) t; next = k + 3 })
+    -- t is the factor as it was stored
+    pub one-skew : (c t : ℤ) → t ≡ c → factor b (k + 2) ≡ accepted (record { value = c; next = k + 2 + 1 })
+        → skewStep step m b k ≡ accepted (record { value = Model.skew (a - 1) (x - a - 1) t; next = k + 3 })
     unfolding done
-    one-skew t h =
+    one-skew c t s h =
         let z : k + 2 + 1 ≡ k + 3 = omega arith in
-        up-to-direction ∙ after-value direction _ b (k + 2) t (k + 3) (h ∙ ap (λ j. accepted (record { value = t; next = j })) z)
+        up-to-factor ∙ after-value factor _ b (k + 2) t (k + 3) (h ∙ ap₂ (λ c j. accepted (record { value = c; next = j })) (sym s) z)
 
 pub skew-no-outer : (step m : ℕ) (b : List ℕ) (k q p : ℕ) → loopNumber step (between (pos 1) (pos m)) b k ≡ refused q p → skewStep step m b k ≡ refused q p
 unfolding skewStep

@@ -1,17 +1,21 @@
 -- The steps that the structs hold, and what reading one gives.
 use mathlib.Core.Path.{_≡_}
-use mathlib.Core.Bool.{Bool, true, false, cond, not}
+use mathlib.Core.Bool.{Bool, cond, _&&_, not}
 use mathlib.Core.List.{List, [], _∷_, map}
 use Prim.Native.Nat.{ℕ, suc, _+_, _≤_}
 use lib.Dec.{ltb}
-use lib.IntN.{pos, negsuc}
+use lib.IntN.{ℤ, pos, negℤ, natAbs}
 use lib.ListN.{length, take}
 use Rattle.integers.specs.Sign.{eqZ}
 use Rattle.model.specs.Answer.{Answer, accepted}
 use Rattle.model.specs.Ticket as Model
 use Rattle.model.specs.Grammar as Grammar
 use Rattle.model.specs.Grammar.{Read, Reader, _>>=_, _>>_, mostLoops}
+use Rattle.model.specs.Ranges.{InRange}
 use Rattle.reading.specs.Refusals.{refusal, Reached, Reads}
+use Rattle.reading.specs.Words.{numberAnswer}
+use Rattle.reading.specs.declared.Number.{Number}
+use Rattle.reading.specs.declared.Number.the-variants as Number
 use Rattle.steps.specs.declared.Step.{Step}
 use Rattle.steps.specs.declared.Step.the-variants.{Swap, Reverse, Lean, Strip}
 use Rattle.steps.specs.declared.Numbered.{Numbered}
@@ -19,13 +23,11 @@ use Rattle.steps.specs.declared.Steps.{Steps}
 use Rattle.steps.specs.declared.StepsRead.{StepsRead}
 use Rattle.steps.specs.declared.StepRead.{StepRead}
 use Rattle.steps.specs.declared.StepRead.the-variants as StepRead
-use Rattle.steps.specs.declared.Direction.{Direction}
-use Rattle.steps.specs.declared.Direction.the-variants as Direction
 
 abbrev pub stepOf : Step → Model.Step
 stepOf (Swap e) = Model.exchange (e .outer)
 stepOf (Reverse e) = Model.reversal (e .target)
-stepOf (Lean e) = Model.skew (e .outer) (e .distance) (e .forward)
+stepOf (Lean e) = Model.skew (e .outer) (e .distance) (e .factor)
 stepOf (Strip e) = Model.section (e .target) (e .width)
 
 -- ---- one step, of three words after its kind
@@ -56,26 +58,27 @@ nextLoop a m = cond (ltb a m) (a + 1) a
 abbrev pub sectionable : ℕ → ℕ
 sectionable m = cond (ltb m mostLoops) m 0
 
--- the word c of a skew: by 1 (true) or by −1
-unfoldable pub direction : Reader Bool
-direction = do
-  c ← Grammar.within (negsuc 0) (pos 1)
+-- the word c of a skew: its factor
+unfoldable pub isFactor : ℤ → Bool
+isFactor c = Grammar.between (negℤ (pos Grammar.mostFactor)) (pos Grammar.mostFactor) c && not (eqZ c (pos 0))
+
+unfoldable pub factor : Reader ℤ
+factor = do
+  c ← Grammar.within (negℤ (pos Grammar.mostFactor)) (pos Grammar.mostFactor)
   Grammar.must (not (eqZ c (pos 0))) 4
-  Grammar.done (eqZ c (pos 1))
+  Grammar.done c
 
-abbrev pub directionAnswer : ℕ → Direction → Answer (Read Bool)
-directionAnswer k Direction.Forward = accepted (record { value = true; next = k + 1 })
-directionAnswer k Direction.Backward = accepted (record { value = false; next = k + 1 })
-directionAnswer k (Direction.Refused r) = refusal r
+pub record FactorIn (b : List ℕ) (k : ℕ) (c : ℤ) : Type 0 where
+  pub reached : Reached b (k + 1)
+  pub near : InRange 1 Grammar.mostFactor (natAbs c)
 
-abbrev pub OnDirection : List ℕ → ℕ → Direction → Type 0
-OnDirection b k Direction.Forward = Reached b (k + 1)
-OnDirection b k Direction.Backward = Reached b (k + 1)
-OnDirection b k (Direction.Refused r) = Unit {0}
+abbrev pub OnFactor : List ℕ → ℕ → Number → Type 0
+OnFactor b k (Number.Value c) = FactorIn b k c
+OnFactor b k (Number.Refused r) = Unit {0}
 
-pub record ReadsDirection (b : List ℕ) (k : ℕ) (r : Direction) : Type 0 where
-  pub same : directionAnswer k r ≡ direction b k
-  pub known : OnDirection b k r
+pub record ReadsFactor (b : List ℕ) (k : ℕ) (r : Number) : Type 0 where
+  pub same : numberAnswer k r ≡ factor b k
+  pub known : OnFactor b k r
 
 -- the kind and what follows it
 unfoldable pub oneStep : ℕ → ℕ → Reader Model.Step

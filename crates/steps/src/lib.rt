@@ -1,15 +1,17 @@
 // The steps section of a ticket. `at` is the number of a word, from 1.
 ghost use mathlib.Core.Path.{_≡_};
 ghost use Prim.Native.Nat.{_+_, _≤_};
+ghost use Rattle.model.specs.Words.{signed};
 ghost use Rattle.model.specs.Grammar as Grammar;
 ghost use Rattle.model.specs.Grammar.{mostLoops};
 ghost use Rattle.reading.specs.Refusals.{Reached};
-ghost use Rattle.steps.specs.Steps.{ReadsStep, ReadsDirection, ReadsSteps, StepsIn, nextLoop, sectionable, oneStep, stepOf};
+ghost use Rattle.steps.specs.Steps.{ReadsStep, isFactor, ReadsFactor, ReadsSteps, StepsIn, nextLoop, sectionable, oneStep, stepOf};
 ghost use Rattle.reading.specs.declared.Status.the-variants.{Refused};
 ghost use lib.ListN.{length};
 use model::LOOPS;
 use reading::Bits;
 use reading::Natural;
+use reading::Number;
 use reading::Refusal;
 use reading::Status;
 
@@ -26,7 +28,7 @@ pub struct Reversal {
 pub struct Skew {
     pub outer: usize,
     pub distance: usize,
-    pub forward: bool,
+    pub factor: i32,
 }
 
 pub struct Section {
@@ -102,28 +104,35 @@ pub fn read_reversal(s: &[u8], at: usize, number: usize, depth: usize) -> StepRe
     }
 }
 
-// 1 or −1.
-pub enum Direction {
-    Forward,
-    Backward,
-    Refused(Refusal),
+// The greatest factor of a skew, on either side of 0.
+pub const MOST_FACTOR: u16 = 1;
+
+// Whether the bits of a word are those of a factor, which is not 0.
+fn is_factor(v: u16) -> bool
+    ensures { λ r. ⌜ r ≡ isFactor (signed v) ⌝ }
+{
+    if v == 0 {
+        return false;
+    }
+    if v <= MOST_FACTOR {
+        return true;
+    }
+    65535 - MOST_FACTOR < v
 }
 
-pub fn read_direction(s: &[u8], at: usize) -> Direction
+// The factor of a skew.
+pub fn read_factor(s: &[u8], at: usize) -> Number
     requires { ⌜ Reached (now s) at ⌝ }
-    ensures { λ r. ⌜ ReadsDirection (now (s .entry)) at r ⌝ }
+    ensures { λ r. ⌜ ReadsFactor (now (s .entry)) at r ⌝ }
 {
     match reading::bits_at(s, at) {
         Bits::Value(v) => {
-            if v == 1 {
-                return Direction::Forward;
+            if is_factor(v) {
+                return Number::Value(reading::signed_of(v));
             }
-            if v == 65535 {
-                return Direction::Backward;
-            }
-            Direction::Refused(Refusal::WordOutOfRange(at))
+            Number::Refused(Refusal::WordOutOfRange(at))
         }
-        Bits::Torn => Direction::Refused(Refusal::Truncated(at)),
+        Bits::Torn => Number::Refused(Refusal::Truncated(at)),
     }
 }
 
@@ -139,18 +148,13 @@ pub fn read_skew(s: &[u8], at: usize, number: usize, depth: usize) -> StepRead
         Natural::Value(v) => v,
         Natural::Refused(r) => return StepRead::Refused(r),
     };
-    match read_direction(s, at + 2) {
-        Direction::Forward => StepRead::Taken(Step::Lean(Skew {
+    match read_factor(s, at + 2) {
+        Number::Value(c) => StepRead::Taken(Step::Lean(Skew {
             outer: a - 1,
             distance: b - a - 1,
-            forward: true,
+            factor: c,
         })),
-        Direction::Backward => StepRead::Taken(Step::Lean(Skew {
-            outer: a - 1,
-            distance: b - a - 1,
-            forward: false,
-        })),
-        Direction::Refused(r) => StepRead::Refused(r),
+        Number::Refused(r) => StepRead::Refused(r),
     }
 }
 

@@ -27,8 +27,8 @@ fn row_after(cs: [i32; LOOPS], n: usize, step: Step) -> [i32; LOOPS]
         Step::Lean(e) => {
             let a = e.outer;
             let d = e.distance;
-            let positive = e.forward;
-            limits::skewed(cs, n, a, d, positive)
+            let factor = e.factor;
+            limits::skewed(cs, n, a, d, factor)
         }
         Step::Strip(e) => {
             let a = e.target;

@@ -1,12 +1,17 @@
+use mathlib.Core.Path.{subst}
 use mathlib.Core.List.{[]}
 use Prim.Native.Nat.{_+_, _≤_}
 use native.Mathlib.Omega.{arith}
-use lib.IntN.{negℤ}
+use lib.IntN.{ℤ, negℤ}
+use lib.ListN.{take}
 use borrow.Author.Needs.{needs}
 use Rattle.lists.specs.Place.{under, onHead, swapped}
-use Rattle.model.specs.Limits.{skewCoefficients, splitCoefficients}
+use Rattle.model.specs.Limits.{skewLimit, skewCoefficients, splitCoefficients}
+use Rattle.nest.specs.Nested.{limitOf}
+use Rattle.limits.specs.Makes.{RowIs, LimitIs}
 use Rattle.limits.specs.Change.{changeOf, outerAfter, Allowed}
 use Rattle.limits.specs.declared.Change.the-variants.{Negate, Turn, Swap, Lean, Skew, Low, Up, Element, Split}
+use Rattle.limits.proofs.NumberLaws.{small-back}
 use Rattle.limits.proofs.LimitLaws.{numbers, row-is, done, allowed}
 use Rattle.limits.proofs.changed.Statement.{statement}
 use Rattle.limits.proofs.changed.Tie as tie
@@ -39,13 +44,13 @@ enum-known-change-3 : tie.Need-enum-known-change-3
 enum-known-change-3 c = search needs
 
 leaning-requires : tie.Need-leaning-requires
-leaning-requires c κs = let s = c .before .before .before .before in unfold Allowed in let a = allowed (s .args .change) (Lean (c .before .change3 .given .0 .0)) (s .args .n) (c .before .change3 .given .1) (s .pre .0) in (a .0, a .1, s .pre .1)
+leaning-requires c κs = let s = c .before .before .before .before .before in unfold Allowed in let a = allowed (s .args .change) (Lean (c .before .before .change3 .given .0 .0)) (s .args .n) (c .before .before .change3 .given .1) (s .pre .0) in (a .0, a .1, rw (small-back _ (a .2)) (a .2), s .pre .1)
 
 enum-known-change-4 : tie.Need-enum-known-change-4
 enum-known-change-4 c = search needs
 
 skewed-requires : tie.Need-skewed-requires
-skewed-requires c κs = let s = c .before .before .before .before in unfold Allowed in let a = allowed (s .args .change) (Skew (c .before .change4 .given .0 .0)) (s .args .n) (c .before .change4 .given .1) (s .pre .0) in (a .0, a .1, numbers (s .args .n) (s .args .l) (s .pre .1) .coefficients)
+skewed-requires c κs = let s = c .before .before .before .before .before in unfold Allowed in let a = allowed (s .args .change) (Skew (c .before .before .change4 .given .0 .0)) (s .args .n) (c .before .before .change4 .given .1) (s .pre .0) in (a .0, a .1, rw (small-back _ (a .2)) (a .2), numbers (s .args .n) (s .args .l) (s .pre .1) .coefficients)
 
 with-row-requires-3 : tie.Need-with-row-requires-3
 with-row-requires-3 c κs = search needs
@@ -97,15 +102,26 @@ returns-3 c =
     (row-is (s .args .n) (s .args .l) (s .args .n) (under v swapped) (c .with-row2 .result) (c .before .swapped .result) (c .with-row2 .ensures) (c .before .swapped .ensures))
 
 returns-4 : tie.Need-returns-4
-returns-4 c = let s = c .before .before .before .before .before in unfold changeOf outerAfter in done (s .args .change) (Lean (c .before .before .change3 .given .0 .0)) (s .args .n) (s .args .l) (c .leaning .result) (c .before .before .change3 .given .1) (c .leaning .ensures)
+returns-4 c =
+    let s = c .before .before .before .before .before .before in
+    let v = c .before .before .before .change3 .given .0 .0 in
+    let e = c .before .before .before .change3 .given .1 in
+    unfold changeOf outerAfter Allowed in
+    let f = allowed (s .args .change) (Lean v) (s .args .n) e (s .pre .0) .2 in
+    done (s .args .change) (Lean v) (s .args .n) (s .args .l) (c .leaning .result) e
+    (subst (λ (z : ℤ). LimitIs (s .args .n) (c .leaning .result) (skewLimit (v .outer) z (limitOf (s .args .n) (s .args .l)))) (small-back (v .factor) f) (c .leaning .ensures))
 
 returns-5 : tie.Need-returns-5
 returns-5 c =
-    let s = c .before .before .before .before .before .before in
-    let v = c .before .before .before .change4 .given .0 .0 in
-    unfold changeOf outerAfter in
-    done (s .args .change) (Skew v) (s .args .n) (s .args .l) (c .with-row3 .result) (c .before .before .before .change4 .given .1)
-    (row-is (s .args .n) (s .args .l) (s .args .n) (under (v .outer) (skewCoefficients (v .between) (v .positive))) (c .with-row3 .result) (c .before .skewed .result) (c .with-row3 .ensures) (c .before .skewed .ensures))
+    let s = c .before .before .before .before .before .before .before in
+    let v = c .before .before .before .before .change4 .given .0 .0 in
+    let e = c .before .before .before .before .change4 .given .1 in
+    let cs = c .before .skewed .result in
+    unfold changeOf outerAfter Allowed in
+    let f = allowed (s .args .change) (Skew v) (s .args .n) e (s .pre .0) .2 in
+    done (s .args .change) (Skew v) (s .args .n) (s .args .l) (c .with-row3 .result) e
+    (row-is (s .args .n) (s .args .l) (s .args .n) (under (v .outer) (skewCoefficients (v .between) (v .factor))) (c .with-row3 .result) cs (c .with-row3 .ensures)
+    (subst (λ (z : ℤ). RowIs (s .args .n) cs (under (v .outer) (skewCoefficients (v .between) z) (take (s .args .n) (s .args .l .coefficients)))) (small-back (v .factor) f) (c .before .skewed .ensures)))
 
 returns-6 : tie.Need-returns-6
 returns-6 c = let s = c .before .before .before .before .before in unfold changeOf outerAfter in done (s .args .change) (Low (c .before .before .change5 .given .0 .0)) (s .args .n) (s .args .l) (c .section-lower .result) (c .before .before .change5 .given .1) (c .section-lower .ensures)

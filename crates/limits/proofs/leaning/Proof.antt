@@ -18,13 +18,13 @@ use Rattle.limits.proofs.leaning.Tie as tie
 
 at : (c : tie.After-x) → size (getD (c .before .before .before .args .l .coefficients) (c .before .before .before .args .a) (pos 0)) ≤ 32767
 unfolding limitOf
-at c = let s = c .before .before .before in let n : length (s .args .l .coefficients) ≡ 6 = search needs in front-at (s .args .n) (s .args .l .coefficients) (s .args .a) (omega arith) (s .pre .2 .coefficients)
+at c = let s = c .before .before .before in let n : length (s .args .l .coefficients) ≡ 6 = search needs in front-at (s .args .n) (s .args .l .coefficients) (s .args .a) (omega arith) (s .pre .3 .coefficients)
 
 reads-x : (c : tie.After-x) → toZ w32 (ofZ w32 (getD (c .before .before .before .args .l .coefficients) (c .before .before .before .args .a) (pos 0))) ≡ getD (c .before .before .before .args .l .coefficients) (c .before .before .before .args .a) (pos 0)
 reads-x c = small-back _ (at c)
 
 cast-p : tie.Need-cast-p
-cast-p c = let s = c .before in let m = numbers (s .args .n) (s .args .l) (s .pre .2) in let h = m .multiplier in sfits (omega arith)
+cast-p c = let s = c .before in let m = numbers (s .args .n) (s .args .l) (s .pre .3) in let h = m .multiplier in sfits (omega arith)
 
 mul-x : tie.Need-mul-x
 mul-x c = search needs
@@ -35,8 +35,8 @@ array-copy-out-x c = search needs
 plus-requires : tie.Need-plus-requires
 plus-requires c κs =
     let s = c .before .before .before in
-    let m = numbers (s .args .n) (s .args .l) (s .pre .2) in
-    (rw (reads-x c) (at c), small-multiplier (s .args .l .multiplier) (m .multiplier))
+    let m = numbers (s .args .n) (s .args .l) (s .pre .3) in
+    (rw (reads-x c) (at c), rw (small-back (s .args .factor) (s .pre .2)) (s .pre .2), small-multiplier (s .args .l .multiplier) (m .multiplier))
 
 mul-cs : tie.Need-mul-cs
 mul-cs c = search needs
@@ -47,11 +47,11 @@ array-set-from-cs c = search needs
 returns : tie.Need-returns
 returns c =
     let s = c .before .before .before .before .before in
-    let m = numbers (s .args .n) (s .args .l) (s .pre .2) in
+    let m = numbers (s .args .n) (s .args .l) (s .pre .3) in
     let q : length (s .args .l .coefficients) ≡ 6 = search needs in
     let e : toZ w32 (ofZ w32 (c .before .plus .result)) ≡ c .before .plus .result = search needs in
-    leaning-is (s .args .n) (s .args .l) (s .args .a) (s .args .positive) _ _ q (omega arith) (small-back (s .args .l .constant) (m .constant))
-    (e ∙ c .before .plus .ensures ∙ simp (reads-x (c .before .before), read-multiplier (s .args .l .multiplier) (m .multiplier)))
+    leaning-is (s .args .n) (s .args .l) (s .args .a) (s .args .factor) _ _ q (omega arith) (small-back (s .args .l .constant) (m .constant))
+    (e ∙ c .before .plus .ensures ∙ simp (reads-x (c .before .before), small-back (s .args .factor) (s .pre .2), read-multiplier (s .args .l .multiplier) (m .multiplier)))
 
 pub leaning-spec : {M : Type 1} → statement M
 leaning-spec =

@@ -1,13 +1,14 @@
-use mathlib.Core.Path.{_≡_, _∙_}
+use mathlib.Core.Path.{_≡_, ap, _∙_}
 use mathlib.Core.List.{[]}
 use Prim.Native.Nat.{_+_, _≤_}
 use native.Mathlib.Omega.{arith}
-use lib.IntN.{pos}
+use lib.IntN.{pos, negℤ}
 use lib.ListN.{length, getD, length-set}
 use mir.Syntax.{w32}
 use mir.Val.{toZ, ofZ}
 use borrow.Author.Needs.{needs}
 use Rattle.integers.specs.Difference.{size}
+use Rattle.integers.proofs.RangeLaws.{size-neg}
 use Rattle.limits.proofs.NumberLaws.{small-back}
 use Rattle.limits.proofs.RowLaws.{front-at, front-skewed}
 use Rattle.limits.proofs.skewed.Statement.{statement}
@@ -21,16 +22,24 @@ module _ (c : tie.After-y) where
   n = search needs
 
   at-x : size (getD (s .args .t1) (s .args .a) (pos 0)) ≤ 32767
-  at-x = front-at (s .args .n) (s .args .t1) (s .args .a) (omega arith) (s .pre .2)
+  at-x = front-at (s .args .n) (s .args .t1) (s .args .a) (omega arith) (s .pre .3)
 
   at-y : size (getD (s .args .t1) (s .args .a + 1 + s .args .d) (pos 0)) ≤ 32767
-  at-y = front-at (s .args .n) (s .args .t1) (s .args .a + 1 + s .args .d) (omega arith) (s .pre .2)
+  at-y = front-at (s .args .n) (s .args .t1) (s .args .a + 1 + s .args .d) (omega arith) (s .pre .3)
 
   reads-x : toZ w32 (ofZ w32 (getD (s .args .t1) (s .args .a) (pos 0))) ≡ getD (s .args .t1) (s .args .a) (pos 0)
   reads-x = small-back _ at-x
 
   reads-y : toZ w32 (ofZ w32 (getD (s .args .t1) (s .args .a + 1 + s .args .d) (pos 0))) ≡ getD (s .args .t1) (s .args .a + 1 + s .args .d) (pos 0)
   reads-y = small-back _ at-y
+
+module _ (c : tie.After-minus) where
+  turned : toZ w32 (ofZ w32 (c .minus .result)) ≡ negℤ (c .before .before .before .args .factor)
+  turned = let e : toZ w32 (ofZ w32 (c .minus .result)) ≡ c .minus .result = search needs in
+      let s = c .before .before .before in e ∙ c .minus .ensures ∙ ap negℤ (small-back (s .args .factor) (s .pre .2))
+
+  near : size (negℤ (c .before .before .before .args .factor)) ≤ 32767
+  near = let s = c .before .before .before in rw (size-neg (s .args .factor)) (s .pre .2)
 
 add-b : tie.Need-add-b
 add-b c = search needs
@@ -50,8 +59,11 @@ mul-y c = search needs
 array-copy-out-y : tie.Need-array-copy-out-y
 array-copy-out-y c = search needs
 
+minus-requires : tie.Need-minus-requires
+minus-requires c κs = let s = c .before .before in rw (small-back (s .args .factor) (s .pre .2)) (s .pre .2)
+
 plus-requires : tie.Need-plus-requires
-plus-requires c κs = (rw (reads-x c) (at-x c), rw (reads-y c) (at-y c))
+plus-requires c κs = (rw (reads-x (c .before)) (at-x (c .before)), rw (turned c) (near c), rw (reads-y (c .before)) (at-y (c .before)))
 
 mul-r : tie.Need-mul-r
 mul-r c = search needs
@@ -61,11 +73,11 @@ array-set-from-r c = search needs
 
 returns : tie.Need-returns
 returns c =
-    let s = c .before .before .before in
+    let s = c .before .before .before .before in
     let n : length (s .args .t1) ≡ 6 = search needs in
     let e : toZ w32 (ofZ w32 (c .plus .result)) ≡ c .plus .result = search needs in
     record {
-      is = front-skewed (s .args .n) (s .args .a) (s .args .d) (s .args .positive) (s .args .t1) _ (omega arith) (omega arith) (e ∙ c .plus .ensures ∙ simp (reads-x (c .before), reads-y (c .before)));
+      is = front-skewed (s .args .n) (s .args .a) (s .args .d) (s .args .factor) (s .args .t1) _ (omega arith) (omega arith) (e ∙ c .plus .ensures ∙ simp (reads-x (c .before .before), turned (c .before), reads-y (c .before .before)));
       room = simp length-set n;
     }
 
@@ -79,6 +91,7 @@ skewed-spec =
     array-copy-out-x
     mul-y
     array-copy-out-y
+    minus-requires
     plus-requires
     mul-r
     array-set-from-r

@@ -6,16 +6,16 @@ use mathlib.Core.List.{List, [], _∷_, _++_, flatMap, append-nil}
 use Prim.Native.Nat.{ℕ, zero, suc, _+_, _-_, _≤_}
 use native.Mathlib.Omega.{arith}
 use lib.Dec.{T, eqb, ltb, leb→le, ltb→lt, nltb→le, eqb→eq, not-T}
-use lib.IntN.{ℤ, pos, negsuc, natAbs}
+use lib.IntN.{ℤ, pos, negsuc, negℤ, natAbs}
 use lib.Signed.{leZ, ltZ, ltZ-no}
 use borrow.Author.Tests.{eqb-true, eqb-false}
 use Rattle.lists.proofs.TestLaws.{and-both, cond-cases, refuted, and-fails}
 use Rattle.integers.specs.Sign.{eqZ}
 use Rattle.integers.proofs.SignLaws.{eqZ-decides}
 use Rattle.model.specs.Ticket.{Step, exchange, reversal, skew, section}
-use Rattle.model.specs.Grammar.{Reader, between, natural, loopNumber, exchangeStep, reversalStep, skewStep, sectionStep, stepOf, depthAfter, stepsFrom, steps}
+use Rattle.model.specs.Grammar.{Reader, between, natural, loopNumber, exchangeStep, reversalStep, skewStep, sectionStep, mostFactor, stepOf, depthAfter, stepsFrom, steps}
 use Rattle.model.specs.Encode.{counted}
-use Rattle.model.specs.Ranges.{InRange, kindOf, directionWord, arguments, stepWords, StepThere, StepsThere, Spells, CountRange, WordRange, WordIs, BadLoop, missing, notNext, notInside, seventh, Explained, noSkew, offNest}
+use Rattle.model.specs.Ranges.{InRange, kindOf, arguments, stepWords, StepThere, StepsThere, Spells, CountRange, WordRange, WordIs, BadLoop, missing, notNext, notInside, seventh, Explained, noSkew, offNest}
 use Rattle.model.proofs.Grammar.WordLaws.{Reaches, spells-reach}
 use Rattle.model.proofs.Grammar.ReaderLaws.{Meets, MeetsAt, As, Long, Few, bind, bind-at, must-at, mustAt-at, done-at, done-meets, meets-map, meets-at-map, alone, one, between-natural, counted-meets, natural-meets, number-meets, within-meets}
 
@@ -31,13 +31,11 @@ unfolding loopNumber
 loopNumber-at {b} {j} k ok r fails natural = bind-at (number-meets .from b j r) (λ w _ s. mustAt-at (ok w) 6 (λ f. fails w (record { counted = r .first; read = s .0 }) f) (λ h.
     done-at (natAbs w) (record { holds = subst (λ z. T (ok z)) (natural w h) h; words = ap alone (natural w h) })))
 
-direction-word : (c : ℤ) → T (between (negsuc 0) (pos 1) c) → T (not (eqZ c (pos 0))) → c ≡ directionWord (eqZ c (pos 1))
+pub factor-range : (c : ℤ) → T (between (negℤ (pos mostFactor)) (pos mostFactor) c) → T (not (eqZ c (pos 0))) → InRange 1 mostFactor (natAbs c)
 unfolding between
-direction-word (pos zero) h n = absurd n
-direction-word (pos (suc zero)) h n = refl
-direction-word (pos (suc (suc c))) h n = absurd (let e = leb→le (suc (suc c)) 1 h in omega arith)
-direction-word (negsuc zero) h n = refl
-direction-word (negsuc (suc c)) h n = absurd (let e = leb→le (suc c) 0 (and-both (leZ (negsuc 0) (negsuc (suc c))) (leZ (negsuc (suc c)) (pos 1)) h .0) in omega arith)
+factor-range (pos zero) h n = absurd n
+factor-range (pos (suc c)) h n = record { low = omega arith; high = leb→le (suc c) mostFactor h }
+factor-range (negsuc c) h n = let e = leb→le c (mostFactor - 1) (and-both (leZ (negℤ (pos mostFactor)) (negsuc c)) (leZ (negsuc c) (pos mostFactor)) h .0) in record { low = omega arith; high = omega arith }
 
 -- ---- one step
 
@@ -99,12 +97,12 @@ module _ (k m : ℕ) (few : InRange 1 8 k) (deep : InRange 1 6 m) where
   unfolding skewStep
   skew-meets = record {
     from = λ b j r. bind-at (outer-at r) (λ a h s. bind-at (inside-at a r s) (λ n g z.
-        bind-at (within-meets WordRange.direction .from b (j + 1 + 1) (spells-reach b (j + 1) (one n) (spells-reach b j (one a) r s) z)) (λ c i y.
+        bind-at (within-meets WordRange.factor .from b (j + 1 + 1) (spells-reach b (j + 1) (one n) (spells-reach b j (one a) r s) z)) (λ c i y.
         must-at (not (eqZ c (pos 0))) 4 (λ f. zero-skew b (j + 1 + 1) c (record { counted = omega arith; read = y .0 }) f) (λ q. let t = ltb→lt a n (g .1) in let l = h .low in let u = g .0 .high in
-        done-at (skew (a - 1) (n - a - 1) (eqZ c (pos 1))) (record {
-          holds = record { there = omega arith; kind = refl };
+        done-at (skew (a - 1) (n - a - 1) c) (record {
+          holds = record { there = (omega arith, factor-range c i q); kind = refl };
           words = let e : n ≡ suc (suc (a - 1 + (n - a - 1))) = omega arith in let d : a ≡ suc (a - 1) = omega arith in
-              ap₂ (λ x y. pos x ∷ pos y ∷ c ∷ []) d e ∙ ap (λ w. pos (suc (a - 1)) ∷ pos (suc (suc (a - 1 + (n - a - 1)))) ∷ w ∷ []) (direction-word c i q);
+              ap₂ (λ x y. pos x ∷ pos y ∷ c ∷ []) d e;
         })))));
   }
     where

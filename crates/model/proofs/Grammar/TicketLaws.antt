@@ -4,11 +4,11 @@ use mathlib.Core.Path.{_≡_, refl, sym, ap, ap₂, _∙_}
 use mathlib.Core.Logic.{_↔_}
 use mathlib.Core.Bool.{Bool, true, false, not, _&&_}
 use mathlib.Core.List.{List, [], _∷_, _++_, flatMap, append-nil}
-use Prim.Native.Nat.{ℕ, suc, _+_, _*_, _-_, _≤_, _<_}
+use Prim.Native.Nat.{ℕ, suc, _+_, _*_, _-_, _≤_, _<_, zero}
 use native.Mathlib.Omega.{arith}
-use lib.Dec.{T, ltb, lt→ltb, eqb-refl}
-use lib.IntN.{ℤ, pos, negsuc}
-use lib.Signed.{ltZ}
+use lib.Dec.{T, eqb, ltb, le→leb, lt→ltb, eqb-refl, eqb→eq, not-T}
+use lib.IntN.{ℤ, pos, negsuc, negℤ, natAbs}
+use lib.Signed.{ltZ, leZ}
 use lib.ListN.{length, drop, length-append}
 use lib.Seq.{drop-length}
 use Rattle.lists.specs.Membership.{All}
@@ -19,10 +19,10 @@ use Rattle.model.specs.Answer as Answer
 use Rattle.model.specs.Answer.{accepted}
 use Rattle.model.specs.Words.{bytesOf}
 use Rattle.model.specs.Ticket.{Step, exchange, reversal, skew, section, Ticket}
-use Rattle.model.specs.Grammar.{_>>=_, natural, between, loopNumber, exchangeStep, reversalStep, skewStep, sectionStep, stepOf, depthAfter, stepsFrom, steps, nest, done, ticket, decode}
+use Rattle.model.specs.Grammar.{_>>=_, natural, between, loopNumber, exchangeStep, reversalStep, skewStep, sectionStep, mostFactor, stepOf, depthAfter, stepsFrom, steps, nest, done, ticket, decode}
 use Rattle.model.specs.Encode.{counted}
 use Rattle.model.specs.Shape.{WellFormed}
-use Rattle.model.specs.Ranges.{InRange, Small, kindOf, directionWord, arguments, stepWords, nestSections, ticketWords, StepThere, StepsThere, TicketRanges, Spells}
+use Rattle.model.specs.Ranges.{InRange, Small, kindOf, arguments, stepWords, nestSections, ticketWords, StepThere, StepsThere, TicketRanges, Spells}
 use Rattle.model.proofs.Grammar.WordLaws.{Byte, spelled-bytes, length-bytes, spells-left, spells-right}
 use Rattle.model.proofs.Grammar.ReaderLaws.{one}
 use Rattle.model.proofs.Grammar.StepReading.{depth-there}
@@ -43,10 +43,11 @@ yields-nought a = let r : InRange 0 0 0 = record { low = omega arith; high = ome
 less-one : (a : ℕ) → suc a - 1 ≡ a
 less-one a = omega arith
 
-directed : (c : Bool) → T (between (negsuc 0) (pos 1) (directionWord c)) × T (not (eqZ (directionWord c) (pos 0))) × (eqZ (directionWord c) (pos 1) ≡ c)
+factor-word : (c : ℤ) → InRange 1 mostFactor (natAbs c) → T (between (negℤ (pos mostFactor)) (pos mostFactor) c) × T (not (eqZ c (pos 0)))
 unfolding between
-directed true = (tt, tt, refl)
-directed false = (tt, tt, refl)
+factor-word (pos zero) r = absurd (let l = r .low in omega arith)
+factor-word (pos (suc c)) r = (le→leb (suc c) mostFactor (r .high), not-T (eqb (suc c) 0) (λ t. let e = eqb→eq (suc c) 0 t in absurd (omega arith)))
+factor-word (negsuc c) r = let h = r .high in (and-intro (leZ (negℤ (pos mostFactor)) (negsuc c)) (leZ (negsuc c) (pos mostFactor)) (le→leb c (mostFactor - 1) (omega arith)) tt, tt)
 
 module _ (k m : ℕ) (few : m ≤ 6) where
   -- the word of a loop that is there, with its rule
@@ -62,10 +63,10 @@ module _ (k m : ℕ) (few : m ≤ 6) where
   yields-step (exchange a) h = yields-value (ap exchange (less-one a)) (yields-bind _ (yields-outer a (omega arith))
       (yields-bind _ (yields-loop (λ w. eqZ w (pos (suc (suc a)))) (suc a) h (eqb-refl (suc (suc a)))) (yields-nought (exchange (suc a - 1)))))
   yields-step (reversal a) h = yields-value (ap reversal (less-one a)) (yields-bind _ (yields-outer a h) (yields-bind _ (yields-natural (record { low = omega arith; high = omega arith })) (yields-nought (reversal (suc a - 1)))))
-  yields-step (skew a d c) h = let r = directed c in
-      yields-value (ap₂ (λ i j. skew i j (eqZ (directionWord c) (pos 1))) (less-one a) (inner a d) ∙ ap (skew a d) (r .2)) (yields-bind _ (yields-outer a (omega arith))
-      (yields-bind _ (yields-loop (λ w. ltZ (pos (suc a)) w) (suc (a + d)) h (lt→ltb (suc a) (suc (suc (a + d))) (omega arith)))
-      (yields-bind _ (yields-within (negsuc 0) (pos 1) (directionWord c) (r .0)) (yields-must (not (eqZ (directionWord c) (pos 0))) 4 (r .1) (yields-done (skew (suc a - 1) (suc (suc (a + d)) - suc a - 1) (eqZ (directionWord c) (pos 1))))))))
+  yields-step (skew a d c) h = let r = factor-word c (h .1) in
+      yields-value (ap₂ (λ i j. skew i j c) (less-one a) (inner a d)) (yields-bind _ (yields-outer a (let z = h .0 in omega arith))
+      (yields-bind _ (yields-loop (λ w. ltZ (pos (suc a)) w) (suc (a + d)) (h .0) (lt→ltb (suc a) (suc (suc (a + d))) (omega arith)))
+      (yields-bind _ (yields-within (negℤ (pos mostFactor)) (pos mostFactor) c (r .0)) (yields-must (not (eqZ c (pos 0))) 4 (r .1) (yields-done (skew (suc a - 1) (suc (suc (a + d)) - suc a - 1) c))))))
     where
       inner : (a d : ℕ) → suc (suc (a + d)) - suc a - 1 ≡ d
       inner a d = omega arith
@@ -92,11 +93,7 @@ yields-steps m ts r l h = yields-counted (stepsFrom 1 m) stepWords ts (record { 
 arguments-small : (t : Step) (m : ℕ) → m ≤ 6 → StepThere m t → All Small (arguments t)
 arguments-small (exchange a) m l h = all-cons Small (omega arith) (all-cons Small (omega arith) (all-cons Small (omega arith) (all-nil Small)))
 arguments-small (reversal a) m l h = all-cons Small (omega arith) (all-cons Small (omega arith) (all-cons Small (omega arith) (all-nil Small)))
-arguments-small (skew a d c) m l h = all-cons Small (omega arith) (all-cons Small (omega arith) (all-cons Small (direction c) (all-nil Small)))
-  where
-    direction : (c : Bool) → Small (directionWord c)
-    direction true = omega arith
-    direction false = omega arith
+arguments-small (skew a d c) m l h = let z = h .0 in let f = h .1 .high in all-cons Small (omega arith) (all-cons Small (omega arith) (all-cons Small (omega arith) (all-nil Small)))
 arguments-small (section a w) m l h = let v = h .2 .high in all-cons Small (omega arith) (all-cons Small (omega arith) (all-cons Small (omega arith) (all-nil Small)))
 
 steps-small : (ts : List Step) (m : ℕ) → InRange 1 6 m → StepsThere m ts → All Small (flatMap stepWords ts)

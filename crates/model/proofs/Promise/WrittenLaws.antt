@@ -51,7 +51,7 @@ record NestCounts (N : Nest) : Type 0 where
 there : (t : Step) (m : ℕ) → StepThere m t → There t m
 there (exchange a) m h = h
 there (reversal a) m h = h
-there (skew a d c) m h = h
+there (skew a d c) m h = h .0
 there (section a w) m h = h .0
 
 statement-counts : (t : Step) (s : Statement) → StatementCounts s → StatementCounts (statementAfter t s)

@@ -5,23 +5,23 @@ use mathlib.Core.Bool.{Bool}
 use mathlib.Core.List.{List, [], _∷_}
 use Prim.Native.Nat.{ℕ, suc, _+_, _<_}
 use native.Mathlib.Omega.{arith}
-use lib.IntN.{ℤ, negℤ, _+ℤ_}
+use lib.IntN.{ℤ, negℤ, _+ℤ_, _*ℤ_}
 use lib.ListN.{length, length-map}
 use Rattle.lists.specs.Place.{under, onHead, swapped}
 use Rattle.lists.proofs.PlaceLaws.{under-length, under-lengths, under-longer, length-onHead, length-swapped}
 use Rattle.model.specs.Ticket.{Loop, Step, exchange, reversal, skew, section}
 use Rattle.model.specs.Grammar.{depthAfter}
-use Rattle.model.specs.Steps.{signed, skewed, sectioned, forward}
+use Rattle.model.specs.Steps.{skewed, sectioned, forward}
 use Rattle.model.specs.Limits.{onLimits, onCoefficients, deeper, reverseAt, skewCoefficients, skewInner, skewAt, splitCoefficients, sectionAt, exchangeAt, loopsAfter, coefficientsAfter}
 
 -- ---- each change
 
-length-skewed : (d : ℕ) (c : Bool) (p : List ℤ) → length (skewed d c p) ≡ length p
+length-skewed : (d : ℕ) (c : ℤ) (p : List ℤ) → length (skewed d c p) ≡ length p
 unfolding skewed
 length-skewed d c [] = refl
-length-skewed d c (x ∷ p) = ap suc (under-length (onHead (λ y. y +ℤ signed c x)) (length-onHead (λ y. y +ℤ signed c x)) d p)
+length-skewed d c (x ∷ p) = ap suc (under-length (onHead (λ y. y +ℤ (c *ℤ x))) (length-onHead (λ y. y +ℤ (c *ℤ x))) d p)
 
-pub length-skewCoefficients : (d : ℕ) (c : Bool) (cs : List ℤ) → length (skewCoefficients d c cs) ≡ length cs
+pub length-skewCoefficients : (d : ℕ) (c : ℤ) (cs : List ℤ) → length (skewCoefficients d c cs) ≡ length cs
 unfolding skewCoefficients
 length-skewCoefficients d c [] = refl
 length-skewCoefficients d c (x ∷ cs) = refl
@@ -41,12 +41,12 @@ unfolding reverseAt
 length-reverseAt a [] = refl
 length-reverseAt a (L ∷ N) = ap suc (length-deeper (under a (onHead negℤ)) N)
 
-length-skewInner : (a d : ℕ) (c : Bool) (N : List Loop) → length (skewInner a d c N) ≡ length N
+length-skewInner : (a d : ℕ) (c : ℤ) (N : List Loop) → length (skewInner a d c N) ≡ length N
 unfolding skewInner
 length-skewInner a d c [] = refl
 length-skewInner a d c (L ∷ N) = ap suc (length-deeper (under a (skewCoefficients d c)) N)
 
-length-skewAt : (a d : ℕ) (c : Bool) (N : List Loop) → length (skewAt a d c N) ≡ length N
+length-skewAt : (a d : ℕ) (c : ℤ) (N : List Loop) → length (skewAt a d c N) ≡ length N
 unfolding skewAt
 length-skewAt a d c [] = refl
 length-skewAt a d c (L ∷ N) = ap suc (under-length (skewInner a d c) (length-skewInner a d c) d N)

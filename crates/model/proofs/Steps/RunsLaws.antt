@@ -129,7 +129,7 @@ module _ (a : ℕ) where
       let j = r J (List·Memᴰ·tail (List·Memᴰ·head refl)) in
       all-cons Runs (runs-tidy (newOuter a I J) (runs-outer I J i j)) (all-cons Runs (runs-tidy (newInner a I J) (runs-inner I J i)) (runs-deeper (under a swapped) N (λ K m. r K (List·Memᴰ·tail (List·Memᴰ·tail m)))))
 
-module _ (a d : ℕ) (c : Bool) where
+module _ (a d : ℕ) (c : ℤ) where
   runs-skewInner : (N : List Loop) → All Runs N → All Runs (skewInner a d c N)
   unfolding skewInner onLimits skewLimit
   runs-skewInner [] r = r

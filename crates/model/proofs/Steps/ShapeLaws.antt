@@ -4,13 +4,12 @@ use mathlib.Core.Bool.{Bool}
 use mathlib.Core.List.{List, [], _∷_, map}
 use Prim.Native.Nat.{ℕ, zero, suc, _+_, _-_, _<_}
 use native.Mathlib.Omega.{arith}
-use lib.IntN.{ℤ, pos, negsuc, negℤ, _+ℤ_}
+use lib.IntN.{ℤ, pos, negsuc, negℤ, _+ℤ_, _*ℤ_}
 use lib.ListN.{length, take, length-append, length-map, length-replicate}
 use Rattle.lists.specs.Place.{under, onHead, swapped}
 use Rattle.lists.proofs.MembershipLaws.{all-nil, all-cons, map-all, length-zipWith}
 use Rattle.lists.proofs.PlaceLaws.{under-length, under-longer, length-onHead, length-swapped}
 use Rattle.model.specs.Ticket.{Limit, Loop, Step, exchange, reversal, skew, section}
-use Rattle.model.specs.Steps.{signed}
 use Rattle.model.specs.Limits.{onCoefficients, onLimits, deeper, negated, reverseAt, outerCoefficient, kept, combined, outerPart, solvedPositive, solvedNegative, whenPositive, whenNegative, widened, newOuter, newInner, tidy, exchangeAt, skewCoefficients, skewLimit, skewInner, skewAt, sectionLower, sectionUpper, elementLimit, constantLimit, splitCoefficients, sectionAt, loopsAfter}
 use Rattle.model.specs.Shape.{Sized, Shaped}
 use Rattle.model.proofs.Steps.LengthLaws.{length-skewCoefficients}
@@ -117,11 +116,11 @@ module _ (a : ℕ) where
 
 -- ---- skew
 
-module _ (a d : ℕ) (c : Bool) where
+module _ (a d : ℕ) (c : ℤ) where
   sized-skewed : (n : ℕ) (ls : List Limit) → Sized n ls → Sized n (map (skewLimit a c) ls)
   unfolding skewLimit
   sized-skewed n ls s = map-all (skewLimit a c) (Has n) (Has n) ls
-      (λ l e. under-length (onHead (λ x. x +ℤ signed c (pos (l .multiplier)))) (length-onHead (λ x. x +ℤ signed c (pos (l .multiplier)))) a (l .coefficients) ∙ e) s
+      (λ l e. under-length (onHead (λ x. x +ℤ (c *ℤ (pos (l .multiplier))))) (length-onHead (λ x. x +ℤ (c *ℤ (pos (l .multiplier))))) a (l .coefficients) ∙ e) s
 
   shaped-inner : (n : ℕ) (N : List Loop) → Shaped n N → Shaped n (skewInner a d c N)
   unfolding skewInner onLimits

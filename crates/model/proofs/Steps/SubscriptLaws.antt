@@ -18,7 +18,7 @@ use Rattle.integers.proofs.Linear.{lin, _≐_}
 use Rattle.model.specs.Ticket.{Subscript, Access, Step, exchange, reversal, skew, section}
 use Rattle.model.specs.Bounds.{subscriptAt}
 use Rattle.model.specs.Machine.{element}
-use Rattle.model.specs.Steps.{signed, skewed, sectioned, forward}
+use Rattle.model.specs.Steps.{skewed, sectioned, forward}
 use Rattle.model.specs.Limits.{skewCoefficients, splitCoefficients, coefficientsAfter, subscriptAfter, accessAfter}
 use Rattle.model.specs.Shape.{Fits}
 
@@ -39,17 +39,16 @@ dot-reversed [] p = refl
 dot-reversed (c ∷ cs) [] = refl
 dot-reversed (c ∷ cs) (x ∷ p) = lin (c ∷ x ∷ dot cs p ∷ []) (λ c x r. ⊝ c ⊗ ⊝ x ⊕ r ≐ c ⊗ x ⊕ r) tt
 
-pub signed-mul : (c : Bool) (p x : ℤ) → signed c p *ℤ x ≡ p *ℤ signed c x
-signed-mul true p x = refl
-signed-mul false p x = lin (p ∷ x ∷ []) (λ p x. ⊝ p ⊗ x ≐ p ⊗ ⊝ x) tt
+pub factor-mul : (c p x : ℤ) → (c *ℤ p) *ℤ x ≡ p *ℤ (c *ℤ x)
+factor-mul c p x = lin (c ∷ p ∷ x ∷ []) (λ c p x. c ⊗ p ⊗ x ≐ p ⊗ (c ⊗ x)) tt
 
-pub dot-skewed : (d : ℕ) (c : Bool) (cs p : List ℤ) → length cs ≡ length p → dot (skewCoefficients d c cs) (skewed d c p) ≡ dot cs p
+pub dot-skewed : (d : ℕ) (c : ℤ) (cs p : List ℤ) → length cs ≡ length p → dot (skewCoefficients d c cs) (skewed d c p) ≡ dot cs p
 unfolding skewCoefficients skewed dot
 dot-skewed d c [] p e = refl
 dot-skewed d c (b ∷ cs) [] e = refl
 dot-skewed d c (b ∷ cs) (x ∷ p) e = let k = getD cs d (pos 0) in
-    ap (λ r. (b -ℤ signed c k) *ℤ x +ℤ r) (dot-index d (signed c x) cs p (omega arith) ∙ ap (λ r. dot cs p +ℤ r) (sym (signed-mul c k x)))
-    ∙ lin (b ∷ signed c k ∷ x ∷ dot cs p ∷ []) (λ b s x r. (b ⊖ s) ⊗ x ⊕ (r ⊕ s ⊗ x) ≐ b ⊗ x ⊕ r) tt
+    ap (λ r. (b -ℤ (c *ℤ k)) *ℤ x +ℤ r) (dot-index d (c *ℤ x) cs p (omega arith) ∙ ap (λ r. dot cs p +ℤ r) (sym (factor-mul c k x)))
+    ∙ lin (b ∷ (c *ℤ k) ∷ x ∷ dot cs p ∷ []) (λ b s x r. (b ⊖ s) ⊗ x ⊕ (r ⊕ s ⊗ x) ≐ b ⊗ x ⊕ r) tt
 
 -- the index is w S + E
 pub dot-split : (w : ℕ) (S E : ℤ) (cs p : List ℤ) → dot (splitCoefficients w cs) (S ∷ E ∷ p) ≡ dot cs ((pos w *ℤ S +ℤ E) ∷ p)

@@ -3,24 +3,24 @@ use mathlib.Core.Path.{_≡_, refl, ap, _∙_}
 use mathlib.Core.Bool.{Bool}
 use mathlib.Core.List.{List, [], _∷_}
 use Prim.Native.Nat.{ℕ}
-use lib.IntN.{ℤ, pos, negℤ, negℤ-negℤ, _+ℤ_, _-ℤ_, +ℤ-negℤ-cancel, -ℤ-+ℤ-cancel}
+use lib.IntN.{ℤ, pos, negℤ, negℤ-negℤ, _+ℤ_, _-ℤ_, +ℤ-negℤ-cancel, -ℤ-+ℤ-cancel, _*ℤ_}
 use Rattle.lists.specs.Place.{onHead, swapped}
 use Rattle.lists.proofs.PlaceLaws.{under-inverse, onHead-inverse, swapped-swapped}
 use Rattle.integers.proofs.DivisionLaws.{rejoin}
 use Rattle.model.specs.Ticket.{Loop, Step, exchange, reversal, skew, section}
 use Rattle.model.specs.Inside.{Inside}
-use Rattle.model.specs.Steps.{signed, skewed, unskewed, sectioned, unsectioned, forward, undo, forwardAll, undoAll}
+use Rattle.model.specs.Steps.{skewed, unskewed, sectioned, unsectioned, forward, undo, forwardAll, undoAll}
 use Rattle.model.specs.Limits.{loopsAfter}
 use Rattle.model.specs.Shape.{Proper}
 use Rattle.model.proofs.Steps.SectionLaws.{section-undone}
 
 -- ---- forward, then back
 
-unskewed-skewed : (d : ℕ) (c : Bool) (p : List ℤ) → unskewed d c (skewed d c p) ≡ p
+unskewed-skewed : (d : ℕ) (c : ℤ) (p : List ℤ) → unskewed d c (skewed d c p) ≡ p
 unfolding skewed unskewed
 unskewed-skewed d c [] = refl
-unskewed-skewed d c (x ∷ p) = ap (x ∷_) (under-inverse (onHead (λ y. y -ℤ signed c x)) (onHead (λ y. y +ℤ signed c x))
-    (onHead-inverse (λ y. y -ℤ signed c x) (λ y. y +ℤ signed c x) (λ y. +ℤ-negℤ-cancel y (signed c x))) d p)
+unskewed-skewed d c (x ∷ p) = ap (x ∷_) (under-inverse (onHead (λ y. y -ℤ (c *ℤ x))) (onHead (λ y. y +ℤ (c *ℤ x)))
+    (onHead-inverse (λ y. y -ℤ (c *ℤ x)) (λ y. y +ℤ (c *ℤ x)) (λ y. +ℤ-negℤ-cancel y (c *ℤ x))) d p)
 
 unsectioned-sectioned : (w : ℕ) (p : List ℤ) → unsectioned w (sectioned w p) ≡ p
 unfolding sectioned unsectioned
@@ -41,11 +41,11 @@ undo-forwardAll (t ∷ ts) p = ap (undo t) (undo-forwardAll ts (forward t p)) �
 
 -- ---- back, then forward
 
-skewed-unskewed : (d : ℕ) (c : Bool) (p : List ℤ) → skewed d c (unskewed d c p) ≡ p
+skewed-unskewed : (d : ℕ) (c : ℤ) (p : List ℤ) → skewed d c (unskewed d c p) ≡ p
 unfolding skewed unskewed
 skewed-unskewed d c [] = refl
-skewed-unskewed d c (x ∷ p) = ap (x ∷_) (under-inverse (onHead (λ y. y +ℤ signed c x)) (onHead (λ y. y -ℤ signed c x))
-    (onHead-inverse (λ y. y +ℤ signed c x) (λ y. y -ℤ signed c x) (λ y. -ℤ-+ℤ-cancel y (signed c x))) d p)
+skewed-unskewed d c (x ∷ p) = ap (x ∷_) (under-inverse (onHead (λ y. y +ℤ (c *ℤ x))) (onHead (λ y. y -ℤ (c *ℤ x)))
+    (onHead-inverse (λ y. y +ℤ (c *ℤ x)) (λ y. y -ℤ (c *ℤ x)) (λ y. -ℤ-+ℤ-cancel y (c *ℤ x))) d p)
 
 pub forward-undo : (t : Step) → Proper t → (N : List Loop) (q : List ℤ) → Inside (loopsAfter t N) [] q → forward t (undo t q) ≡ q
 unfolding forward undo loopsAfter

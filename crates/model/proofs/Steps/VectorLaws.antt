@@ -1,12 +1,15 @@
 -- Vectors after a step: the signs between two points after it are among those that its table gives for the signs before, and are the only one
 -- after an exchange or a reversal. In order: signs of sums and of parts; a change at a place; the four steps.
-use mathlib.Core.Path.{_≡_, refl, sym, ap, ap₂, subst}
+use mathlib.Core.Path.{_≡_, refl, sym, ap, ap₂, _∙_, subst}
+use Rattle.integers.proofs.Linear.{lin, _≐_, _⊏_, _⟶_}
+use Rattle.integers.proofs.Polynomial.{_⊗_, ⊝, #}
+use Rattle.integers.proofs.OrderLaws.{mul-<}
 use mathlib.Core.Bool.{Bool, true, false}
 use mathlib.Core.Logic.{⊎-elim}
 use mathlib.Core.List.{List, [], _∷_, _++_, List·Memᴰ·head, List·Memᴰ·tail, Memᴰ·cast, Memᴰ·map}
 use Prim.Native.Nat.{ℕ, zero, suc, _<_}
 use native.Mathlib.Omega.{arith}
-use lib.IntN.{ℤ, pos, negℤ, _+ℤ_}
+use lib.IntN.{ℤ, pos, negℤ, _+ℤ_, _*ℤ_}
 use lib.ListN.{length}
 use lib.Signed.{_<ℤ_}
 use Rattle.lists.specs.Membership.{Mem}
@@ -16,10 +19,10 @@ use Rattle.integers.specs.Sign.{Sign, less, equal, greater, sign, turned}
 use Rattle.integers.proofs.DifferenceLaws.{add-fact}
 use Rattle.integers.proofs.RingLaws.{zarith}
 use Rattle.integers.proofs.DivisionLaws.{quotient, rest, split-less}
-use Rattle.integers.proofs.SignLaws.{Means, sign-means, means-sign, sign-negated}
+use Rattle.integers.proofs.SignLaws.{Means, sign-means, means-sign, sign-negated, sign-self}
 use Rattle.model.specs.Ticket.{Step, exchange, reversal, skew, section}
-use Rattle.model.specs.Directions.{signs}
-use Rattle.model.specs.Steps.{signed, skewed, sectioned, forward, anySign, sumSigns, signedSign, headSum, skewSigns, splitSign, splitSigns, vectors, vectorsAfter}
+use Rattle.model.specs.Directions.{signs, bySign}
+use Rattle.model.specs.Steps.{skewed, sectioned, forward, anySign, sumSigns, signedSign, headSum, skewSigns, splitSign, splitSigns, vectors, vectorsAfter}
 use Rattle.model.specs.Shape.{Proper}
 
 -- ---- sums
@@ -120,9 +123,22 @@ reversal-signs a p q e = ap (λ v. v ∷ []) (sym (signs-under (onHead negℤ) (
 
 -- ---- skew
 
-signed-sign : (c : Bool) (x y : ℤ) → sign (signed c x) (signed c y) ≡ signedSign c (sign x y)
-signed-sign true x y = refl
-signed-sign false x y = sign-negated x y
+-- by a negative factor
+mul-below : {c x y : ℤ} → c <ℤ pos 0 → x <ℤ y → (c *ℤ y) <ℤ (c *ℤ x)
+mul-below {c} {x} {y} h g = lin (c ∷ x ∷ y ∷ []) (λ c x y. ⊝ c ⊗ x ⊏ ⊝ c ⊗ y ⟶ c ⊗ y ⊏ c ⊗ x) tt (mul-< (lin (c ∷ []) (λ c. c ⊏ # 0 ⟶ # 0 ⊏ ⊝ c) tt h) g)
+
+signed-sign : (c x y : ℤ) → sign (c *ℤ x) (c *ℤ y) ≡ signedSign c (sign x y)
+unfolding signedSign
+signed-sign c x y = go (sign (pos 0) c) (sign-means (pos 0) c) (sign x y) (sign-means x y)
+  where
+    go : (s : Sign) → Means s (pos 0) c → (t : Sign) → Means t x y → sign (c *ℤ x) (c *ℤ y) ≡ bySign s t equal (turned t)
+    go less h less m = means-sign less (c *ℤ x) (c *ℤ y) (mul-< h m)
+    go less h equal m = ap (λ z. sign (c *ℤ x) (c *ℤ z)) (sym m) ∙ sign-self (c *ℤ x)
+    go less h greater m = means-sign greater (c *ℤ x) (c *ℤ y) (mul-< h m)
+    go equal h t m = means-sign equal (c *ℤ x) (c *ℤ y) (subst (λ z. z *ℤ x ≡ z *ℤ y) h (lin (x ∷ y ∷ []) (λ x y. # 0 ⊗ x ≐ # 0 ⊗ y) tt))
+    go greater h less m = means-sign greater (c *ℤ x) (c *ℤ y) (mul-below h m)
+    go greater h equal m = ap (λ z. sign (c *ℤ x) (c *ℤ z)) (sym m) ∙ sign-self (c *ℤ x)
+    go greater h greater m = means-sign less (c *ℤ x) (c *ℤ y) (mul-below h m)
 
 head-sum-signs : (x y : ℤ) (p q : List ℤ) → length p ≡ length q → Mem (signs (onHead (λ u. u +ℤ x) p) (onHead (λ u. u +ℤ y) q)) (headSum (sign x y) (signs p q))
 unfolding onHead signs headSum
@@ -130,15 +146,15 @@ head-sum-signs x y [] q e = List·Memᴰ·head refl
 head-sum-signs x y (u ∷ p) [] e = absurd (omega arith)
 head-sum-signs x y (u ∷ p) (v ∷ q) e = Memᴰ·map (λ r. r ∷ signs p q) (sum-sign u v x y)
 
-skewed-signs : (d : ℕ) (c : Bool) (p q : List ℤ) → length p ≡ length q → Mem (signs (skewed d c p) (skewed d c q)) (skewSigns d c (signs p q))
+skewed-signs : (d : ℕ) (c : ℤ) (p q : List ℤ) → length p ≡ length q → Mem (signs (skewed d c p) (skewed d c q)) (skewSigns d c (signs p q))
 unfolding skewed skewSigns signs
 skewed-signs d c [] q e = List·Memᴰ·head refl
 skewed-signs d c (x ∷ p) [] e = absurd (omega arith)
 skewed-signs d c (x ∷ p) (y ∷ q) e =
-    let f : List ℤ → List ℤ = onHead (λ u. u +ℤ signed c x) in
-    let g : List ℤ → List ℤ = onHead (λ u. u +ℤ signed c y) in
+    let f : List ℤ → List ℤ = onHead (λ u. u +ℤ (c *ℤ x)) in
+    let g : List ℤ → List ℤ = onHead (λ u. u +ℤ (c *ℤ y)) in
     Memᴰ·map (λ r. sign x y ∷ r) (subst (λ s. Mem (signs (under d f p) (under d g q)) (underEach d (headSum s) (signs p q))) (signed-sign c x y)
-    (signs-underEach f g (headSum (sign (signed c x) (signed c y))) (head-sum-signs (signed c x) (signed c y)) d p q (omega arith)))
+    (signs-underEach f g (headSum (sign (c *ℤ x) (c *ℤ y))) (head-sum-signs (c *ℤ x) (c *ℤ y)) d p q (omega arith)))
 
 -- ---- section
 

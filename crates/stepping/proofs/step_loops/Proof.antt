@@ -1,6 +1,7 @@
 -- `step_loops`: the change that the step's match found.
 use native.Mathlib.Omega.{arith}
 use Rattle.steps.specs.declared.Step.the-variants.{Swap, Reverse, Lean, Strip}
+use Rattle.limits.proofs.NumberLaws.{small-back, factor-small}
 use Rattle.stepping.proofs.TakingLaws.{there, loops-are}
 use borrow.Author.Needs.{needs}
 use Rattle.stepping.proofs.step_loops.Statement.{statement}
@@ -22,7 +23,12 @@ enum-known-step-3 : tie.Need-enum-known-step-3
 enum-known-step-3 c = search needs
 
 skewed-requires : tie.Need-skewed-requires
-skewed-requires c κs = let s = c .before .before .before .before .before .before in let v = c .before .before .before .step3 .given in let h = there _ _ (s .args .depth) (s .args .step) (Lean (v .0 .0)) (v .1) (s .pre) in record { nest = s .pre .nest; place = omega arith }
+skewed-requires c κs =
+    let s = c .before .before .before .before .before .before .before in
+    let v = c .before .before .before .before .step3 .given in
+    let h = there _ _ (s .args .depth) (s .args .step) (Lean (v .0 .0)) (v .1) (s .pre) in
+    let g = factor-small (v .0 .0 .factor) (h .1) in
+    record { nest = s .pre .nest; place = omega arith; near = rw (small-back (v .0 .0 .factor) g) g }
 
 enum-known-step-4 : tie.Need-enum-known-step-4
 enum-known-step-4 c = search needs
@@ -58,7 +64,12 @@ same-length-6 : tie.Need-same-length-6
 same-length-6 c = search needs
 
 returns-3 : tie.Need-returns-3
-returns-3 c = let s = c .before .before .before .before .before .before .before .before .before .before in let v = c .before .before .before .before .before .before .before .step3 .given in let r = c .before .before .before .skewed in loops-are _ _ (s .args .depth) (s .args .step) (Lean (v .0 .0)) (v .1) (r .result) _ _ (r .ensures)
+returns-3 c =
+    let s = c .before .before .before .before .before .before .before .before .before .before .before in
+    let v = c .before .before .before .before .before .before .before .before .step3 .given in
+    let r = c .before .before .before .skewed in
+    let g = factor-small (v .0 .0 .factor) (there _ _ (s .args .depth) (s .args .step) (Lean (v .0 .0)) (v .1) (s .pre) .1) in
+    loops-are _ _ (s .args .depth) (s .args .step) (Lean (v .0 .0)) (v .1) (r .result) _ _ (rw (small-back (v .0 .0 .factor) g) at (r .ensures))
 
 same-length-7 : tie.Need-same-length-7
 same-length-7 c = search needs

@@ -1,11 +1,13 @@
--- `read_skew`: the outer loop, a loop inside it, and a direction.
-use mathlib.Core.Path.{sym}
+-- `read_skew`: the outer loop, a loop inside it, and a factor.
+use mathlib.Core.Path.{_≡_, sym}
 use native.Mathlib.Omega.{arith}
+use mir.Syntax.{w32}
+use mir.Val.{toZ, ofZ}
 use Rattle.model.specs.Grammar.{depthAfter}
-use Rattle.reading.specs.Words.{naturalAnswer, OnNatural}
+use Rattle.reading.specs.Words.{naturalAnswer, OnNatural, numberAnswer}
 use Rattle.reading.proofs.ReaderLaws.{seen, known-of}
-use Rattle.steps.specs.Steps.{directionAnswer, OnDirection}
-use Rattle.steps.proofs.StepLaws.{skew-no-outer, skew-no-inner, skew-no-direction, one-skew}
+use Rattle.steps.specs.Steps.{OnFactor}
+use Rattle.steps.proofs.StepLaws.{skew-no-outer, skew-no-inner, skew-no-factor, one-skew}
 use borrow.Author.Needs.{needs}
 use Rattle.steps.proofs.read_skew.Statement.{statement}
 use Rattle.steps.proofs.read_skew.Tie as tie
@@ -46,38 +48,26 @@ returns-2 c =
     let f = seen (naturalAnswer _) (c .before .r2 .given .1) (c .before .before .before .read-loop-number2 .ensures .same) in
     record { same = sym (skew-no-inner _ _ _ _ _ (k .low) (k .high) e _ _ f); known = tt }
 
-add-read-direction : tie.Need-add-read-direction
-add-read-direction c = search needs
+add-read-factor : tie.Need-add-read-factor
+add-read-factor c = search needs
 
-read-direction-requires : tie.Need-read-direction-requires
-read-direction-requires c κs =
+read-factor-requires : tie.Need-read-factor-requires
+read-factor-requires c κs =
     let k = known-of (OnNatural _ _ _ _) (c .before .v2 .given .1) (c .before .before .before .read-loop-number2 .ensures .known) in
     let r = k .reached in
     record { counted = omega arith; there = omega arith }
 
-enum-told : tie.Need-enum-told
-enum-told c = search needs
-
-sub-t20 : tie.Need-sub-t20
-sub-t20 c = let k = known-of (OnNatural _ _ _ _) (c .before .before .before .before .before .before .before .before .v .given .1) (c .before .before .before .before .before .before .before .before .before .before .read-loop-number .ensures .known) in omega arith
+enum-known-c : tie.Need-enum-known-c
+enum-known-c c = search needs
 
 sub-t21 : tie.Need-sub-t21
-sub-t21 c = let k = known-of (OnNatural _ _ _ _) (c .before .before .before .before .v2 .given .1) (c .before .before .before .before .before .before .read-loop-number2 .ensures .known) in omega arith
+sub-t21 c = let k = known-of (OnNatural _ _ _ _) (c .before .before .before .before .before .before .before .before .before .v .given .1) (c .before .before .before .before .before .before .before .before .before .before .before .read-loop-number .ensures .known) in omega arith
 
 sub-t22 : tie.Need-sub-t22
-sub-t22 c = let k = known-of (OnNatural _ _ _ _) (c .before .before .before .before .v2 .given .1) (c .before .before .before .before .before .before .read-loop-number2 .ensures .known) in omega arith
+sub-t22 c = let k = known-of (OnNatural _ _ _ _) (c .before .before .before .before .before .v2 .given .1) (c .before .before .before .before .before .before .before .read-loop-number2 .ensures .known) in omega arith
 
-enum-told-2 : tie.Need-enum-told-2
-enum-told-2 c = search needs
-
-sub-t25 : tie.Need-sub-t25
-sub-t25 c = let k = known-of (OnNatural _ _ _ _) (c .before .before .before .before .before .before .before .before .v .given .1) (c .before .before .before .before .before .before .before .before .before .before .read-loop-number .ensures .known) in omega arith
-
-sub-t26 : tie.Need-sub-t26
-sub-t26 c = let k = known-of (OnNatural _ _ _ _) (c .before .before .before .before .v2 .given .1) (c .before .before .before .before .before .before .read-loop-number2 .ensures .known) in omega arith
-
-sub-t27 : tie.Need-sub-t27
-sub-t27 c = let k = known-of (OnNatural _ _ _ _) (c .before .before .before .before .v2 .given .1) (c .before .before .before .before .before .before .read-loop-number2 .ensures .known) in omega arith
+sub-t23 : tie.Need-sub-t23
+sub-t23 c = let k = known-of (OnNatural _ _ _ _) (c .before .before .before .before .before .v2 .given .1) (c .before .before .before .before .before .before .before .read-loop-number2 .ensures .known) in omega arith
 
 enum-known-r-3 : tie.Need-enum-known-r-3
 enum-known-r-3 c = search needs
@@ -85,30 +75,21 @@ enum-known-r-3 c = search needs
 returns-3 : tie.Need-returns-3
 unfolding depthAfter
 returns-3 c =
-    let e = seen (naturalAnswer _) (c .before .before .before .before .before .before .before .before .v .given .1) (c .before .before .before .before .before .before .before .before .before .before .read-loop-number .ensures .same) in
-    let k = known-of (OnNatural _ _ _ _) (c .before .before .before .before .before .before .before .before .v .given .1) (c .before .before .before .before .before .before .before .before .before .before .read-loop-number .ensures .known) in
-    let f = seen (naturalAnswer _) (c .before .before .before .before .v2 .given .1) (c .before .before .before .before .before .before .read-loop-number2 .ensures .same) in
-    let g = seen (directionAnswer _) (c .enum-told .given .1) (c .before .before .read-direction .ensures .same) in
-    let r = known-of (OnDirection _ _) (c .enum-told .given .1) (c .before .before .read-direction .ensures .known) in
-    record { same = sym (one-skew _ _ _ _ _ (k .low) (k .high) e _ f _ g); known = record { reached = record { counted = omega arith; there = omega arith }; few = c .before .before .before .before .before .before .before .before .before .before .before .before .pre .1 } }
-
-returns-4 : tie.Need-returns-4
-unfolding depthAfter
-returns-4 c =
-    let e = seen (naturalAnswer _) (c .before .before .before .before .before .before .before .before .v .given .1) (c .before .before .before .before .before .before .before .before .before .before .read-loop-number .ensures .same) in
-    let k = known-of (OnNatural _ _ _ _) (c .before .before .before .before .before .before .before .before .v .given .1) (c .before .before .before .before .before .before .before .before .before .before .read-loop-number .ensures .known) in
-    let f = seen (naturalAnswer _) (c .before .before .before .before .v2 .given .1) (c .before .before .before .before .before .before .read-loop-number2 .ensures .same) in
-    let g = seen (directionAnswer _) (c .enum-told2 .given .1) (c .before .before .read-direction .ensures .same) in
-    let r = known-of (OnDirection _ _) (c .enum-told2 .given .1) (c .before .before .read-direction .ensures .known) in
-    record { same = sym (one-skew _ _ _ _ _ (k .low) (k .high) e _ f _ g); known = record { reached = record { counted = omega arith; there = omega arith }; few = c .before .before .before .before .before .before .before .before .before .before .before .before .pre .1 } }
-
-returns-5 : tie.Need-returns-5
-returns-5 c =
     let e = seen (naturalAnswer _) (c .before .before .before .before .before .before .before .before .before .v .given .1) (c .before .before .before .before .before .before .before .before .before .before .before .read-loop-number .ensures .same) in
     let k = known-of (OnNatural _ _ _ _) (c .before .before .before .before .before .before .before .before .before .v .given .1) (c .before .before .before .before .before .before .before .before .before .before .before .read-loop-number .ensures .known) in
     let f = seen (naturalAnswer _) (c .before .before .before .before .before .v2 .given .1) (c .before .before .before .before .before .before .before .read-loop-number2 .ensures .same) in
-    let g = seen (directionAnswer _) (c .before .r3 .given .1) (c .before .before .before .read-direction .ensures .same) in
-    record { same = sym (skew-no-direction _ _ _ _ _ (k .low) (k .high) e _ f _ _ g); known = tt }
+    let g = seen (numberAnswer _) (c .before .c .given .1) (c .before .before .before .read-factor .ensures .same) in
+    let r = known-of (OnFactor _ _) (c .before .c .given .1) (c .before .before .before .read-factor .ensures .known) .reached in
+    let s : toZ w32 (ofZ w32 (c .before .c .given .0 .0)) ≡ c .before .c .given .0 .0 = search needs in
+    record { same = sym (one-skew _ _ _ _ _ (k .low) (k .high) e _ f _ _ s g); known = record { reached = record { counted = omega arith; there = omega arith }; few = c .before .before .before .before .before .before .before .before .before .before .before .before .before .pre .1 } }
+
+returns-4 : tie.Need-returns-4
+returns-4 c =
+    let e = seen (naturalAnswer _) (c .before .before .before .before .before .before .before .before .before .v .given .1) (c .before .before .before .before .before .before .before .before .before .before .before .read-loop-number .ensures .same) in
+    let k = known-of (OnNatural _ _ _ _) (c .before .before .before .before .before .before .before .before .before .v .given .1) (c .before .before .before .before .before .before .before .before .before .before .before .read-loop-number .ensures .known) in
+    let f = seen (naturalAnswer _) (c .before .before .before .before .before .v2 .given .1) (c .before .before .before .before .before .before .before .read-loop-number2 .ensures .same) in
+    let g = seen (numberAnswer _) (c .before .r3 .given .1) (c .before .before .before .read-factor .ensures .same) in
+    record { same = sym (skew-no-factor _ _ _ _ _ (k .low) (k .high) e _ f _ _ g); known = tt }
 
 pub read-skew-spec : {M : Type 1} → statement M
 read-skew-spec =
@@ -124,17 +105,12 @@ read-skew-spec =
     enum-known-v-2
     enum-known-r-2
     returns-2
-    add-read-direction
-    read-direction-requires
-    enum-told
-    sub-t20
+    add-read-factor
+    read-factor-requires
+    enum-known-c
     sub-t21
     sub-t22
-    enum-told-2
-    sub-t25
-    sub-t26
-    sub-t27
+    sub-t23
     enum-known-r-3
     returns-3
-    returns-4
-    returns-5)
+    returns-4)

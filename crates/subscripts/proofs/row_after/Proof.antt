@@ -3,6 +3,7 @@ use borrow.Author.Needs.{needs}
 use Rattle.model.specs.Grammar.{depthAfter}
 use Rattle.model.specs.Limits.{coefficientsAfter}
 use Rattle.steps.specs.declared.Step.the-variants.{Swap, Reverse, Lean, Strip}
+use Rattle.limits.proofs.NumberLaws.{small-back, factor-small}
 use Rattle.subscripts.proofs.StepLaws.{there, row-is, row-longer}
 use Rattle.subscripts.proofs.row_after.Statement.{statement}
 use Rattle.subscripts.proofs.row_after.Tie as tie
@@ -23,7 +24,13 @@ enum-known-step-3 : tie.Need-enum-known-step-3
 enum-known-step-3 c = search needs
 
 skewed-requires : tie.Need-skewed-requires
-skewed-requires c κs = let s = c .before .before .before in let v = c .before .step3 .given in let f = s .pre .0 .few in let h = there (s .args .step) (Lean (v .0 .0)) (s .args .n) (v .1) (s .pre .0) in (omega arith, f, s .pre .1)
+skewed-requires c κs =
+    let s = c .before .before .before .before in
+    let v = c .before .before .step3 .given in
+    let f = s .pre .0 .few in
+    let h = there (s .args .step) (Lean (v .0 .0)) (s .args .n) (v .1) (s .pre .0) in
+    let g = factor-small (v .0 .0 .factor) (h .1) in
+    (omega arith, f, rw (small-back (v .0 .0 .factor) g) g, s .pre .1)
 
 enum-known-step-4 : tie.Need-enum-known-step-4
 enum-known-step-4 c = search needs
@@ -44,7 +51,12 @@ returns-2 c = let s = c .before .before .before .before in let v = c .before .be
 
 returns-3 : tie.Need-returns-3
 unfolding depthAfter coefficientsAfter
-returns-3 c = let s = c .before .before .before .before in let v = c .before .before .step3 .given in row-is (s .args .step) (Lean (v .0 .0)) (s .args .n) (v .1) (s .args .cs) (c .skewed .result) (c .skewed .ensures .is) (c .skewed .ensures .room)
+returns-3 c =
+    let s = c .before .before .before .before .before in
+    let v = c .before .before .before .step3 .given in
+    let g = factor-small (v .0 .0 .factor) (there (s .args .step) (Lean (v .0 .0)) (s .args .n) (v .1) (s .pre .0) .1) in
+    let is = rw (small-back (v .0 .0 .factor) g) at (c .skewed .ensures .is) in
+    row-is (s .args .step) (Lean (v .0 .0)) (s .args .n) (v .1) (s .args .cs) (c .skewed .result) is (c .skewed .ensures .room)
 
 returns-4 : tie.Need-returns-4
 unfolding depthAfter coefficientsAfter
