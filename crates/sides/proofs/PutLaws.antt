@@ -1,4 +1,4 @@
--- A limit that is put over wide numbers: two numbers, and the coefficients after them. Then the same numbers as words of 16 bits, where they are small.
+-- A limit that is put over wide numbers: two numbers, and the coefficients after them; and read back.
 use mathlib.Core.Path.{_≡_, refl, sym, ap, ap₂, _∙_, subst}
 use mathlib.Core.Bool.{true, false}
 use mathlib.Core.List.{List, [], _∷_}
@@ -6,11 +6,12 @@ use Prim.Native.Nat.{ℕ, suc, _+_, _*_, _≤_, _<_}
 use native.Mathlib.Omega.{arith}
 use native.Mathlib.Numerals.{add-one}
 use lib.Dec.{T}
-use lib.IntN.{ℤ, pos}
+use lib.IntN.{ℤ, pos, negsuc, natAbs}
+use lib.Signed.{nonNeg}
 use lib.ListN.{length, getD, take, drop, set, length-set}
 use lib.Seq.{length-take-le, take-suc, drop-cons}
 use mir.Syntax.{w16, w32}
-use mir.Val.{toZ, ofZ}
+use mir.Val.{Fits, SFits, toZ, ofZ}
 use mir.Facts.{toZ-pos}
 use Rattle.lists.specs.Parts.{put}
 use Rattle.lists.proofs.PartLaws.{put-put, set-is-put, set-put, length-put}
@@ -22,9 +23,12 @@ use Rattle.model.specs.Judge.{small, smallLimit}
 use Rattle.nest.specs.Nested.{limitOf}
 use Rattle.nest.specs.declared.Limit.{Limit}
 use Rattle.bounds.specs.Flat.{limitAt}
-use Rattle.rows.proofs.SmallLaws.{number-small}
-use Rattle.rows.proofs.RowLaws.{number-read, number-written}
-use Rattle.sides.specs.Filling.{Natural, WideIn}
+use Rattle.rows.proofs.RowLaws.{six-read, row-part}
+use Rattle.limits.specs.Makes.{LimitIs}
+use Rattle.integers.specs.Difference.{up}
+use Rattle.limits.proofs.NumberLaws.{fits-below}
+use Rattle.limits.proofs.LimitLaws.{same-limit}
+use Rattle.sides.specs.Filling.{Natural, WideIn, HeldIn}
 
 -- ---- a row, number by number, as the machine reads them
 
@@ -67,37 +71,32 @@ module _ (o : List ℤ) (k n : ℕ) (x : Limit) (p : WideIn n x × (length o ≡
   unfolding limitWords limitOf
   wrote-length e q = let h = p .1 in let g = p .0 .place in let m = row-length in ap length q ∙ length-put o (k * 8) (limitWords (limitOf n x)) (omega arith)
 
--- ---- words of 16 bits, each after its test
-
-module _ (o row : List ℤ) (at : ℕ) (p : at + length row ≤ length o) (out : List ℤ) (j : ℕ) (e : out ≡ put o at (take j row)) where
-  pub word-more : j < length row → small (getD row j (pos 0)) ≡ true → {z : ℤ} → z ≡ toZ w32 (ofZ w32 (getD row j (pos 0))) → set out (at + j) (toZ w16 (ofZ w16 z)) ≡ put o at (take (j + 1) row)
-  word-more h g q =
-      let near = number-small (getD row j (pos 0)) (true-T (small (getD row j (pos 0))) g) in
-      ap (λ (y : ℤ). set out (at + j) (toZ w16 (ofZ w16 y))) q
-      ∙ ap (set out (at + j)) (number-written (getD row j (pos 0)) near ∙ sym (number-read (getD row j (pos 0)) near))
-      ∙ row-more o row at p out j e h (number-read (getD row j (pos 0)) near)
-
 pub untrue : {A : Type 0} → false ≡ true → A
 untrue e = absurd (subst T (sym e) tt)
 
--- ---- a limit's numbers
+-- ---- a limit that is read back
 
-module _ (f : List ℤ) (n k : ℕ) (e : Natural f k) (room : k * 8 + 2 + n ≤ length f) where
-  two-more : drop (k * 8) f ≡ getD f (k * 8) (pos 0) ∷ getD f (k * 8 + 1) (pos 0) ∷ drop (k * 8 + 2) f
-  two-more =
-      let p : suc (k * 8) ≡ k * 8 + 1 = omega arith in
-      let q : suc (k * 8 + 1) ≡ k * 8 + 2 = omega arith in
-      drop-cons f (k * 8) (pos 0) (omega arith)
-      ∙ ap (λ i. getD f (k * 8) (pos 0) ∷ drop i f) p
-      ∙ ap (getD f (k * 8) (pos 0) ∷_) (drop-cons f (k * 8 + 1) (pos 0) (omega arith) ∙ ap (λ i. getD f (k * 8 + 1) (pos 0) ∷ drop i f) q)
-
-  pub limit-words : (l : List ℤ) → l ≡ take (2 + n) (drop (k * 8) f) → l ≡ limitWords (limitAt f n k)
-  unfolding limitWords limitAt
-  limit-words l q = q ∙ ap (take (2 + n)) two-more ∙ first-two (getD f (k * 8) (pos 0)) (getD f (k * 8 + 1) (pos 0)) (drop (k * 8 + 2) f) ∙ ap (λ z. z ∷ getD f (k * 8 + 1) (pos 0) ∷ take n (drop (k * 8 + 2) f)) e
+module _ (f : List ℤ) (k : ℕ) (p : HeldIn f k) where
+  pub multiplier-fits : (z : ℤ) → SFits w32 z → z ≡ getD f (k * 8) (pos 0) → T (nonNeg z) × Fits w32 (natAbs z)
+  multiplier-fits z s e = natural z s (e ∙ p .natural ∙ ap (λ x. pos (natAbs x)) (sym e))
     where
-      first-two : (a b : ℤ) (l : List ℤ) → take (2 + n) (a ∷ b ∷ l) ≡ a ∷ b ∷ take n l
-      first-two a b l = let m : 2 + n ≡ suc (suc n) = omega arith in ap (λ i. take i (a ∷ b ∷ l)) m
+      natural : (z : ℤ) → SFits w32 z → z ≡ pos (natAbs z) → T (nonNeg z) × Fits w32 (natAbs z)
+      natural (pos n) s e = (tt, fits-below (let h = s .sfits in omega arith))
+      natural (negsuc n) s e = let h = ap up e in absurd (omega arith)
 
-pub words-test : (l : Model.Limit) → all small (limitWords l) ≡ smallLimit l
-unfolding all limitWords small smallLimit
-words-test l = refl
+  -- its coefficients, one by one
+  pub limit-row : (a b c d e g : ℤ) → a ≡ getD f (k * 8 + 2) (pos 0) → b ≡ getD f (k * 8 + 3) (pos 0) → c ≡ getD f (k * 8 + 4) (pos 0) → d ≡ getD f (k * 8 + 5) (pos 0)
+      → e ≡ getD f (k * 8 + 6) (pos 0) → g ≡ getD f (k * 8 + 7) (pos 0) → a ∷ b ∷ c ∷ d ∷ e ∷ g ∷ [] ≡ take 6 (drop (k * 8 + 2) f)
+  limit-row a b c d e g q₁ q₂ q₃ q₄ q₅ q₆ =
+      let r = p .room in
+      let i = p .inside in
+      six-read f (k * 8 + 2) (omega arith) a b c d e g q₁ (q₂ ∙ at 3 1 (omega arith)) (q₃ ∙ at 4 2 (omega arith)) (q₄ ∙ at 5 3 (omega arith)) (q₅ ∙ at 6 4 (omega arith)) (q₆ ∙ at 7 5 (omega arith))
+    where
+      at : (m j : ℕ) → m ≡ 2 + j → getD f (k * 8 + m) (pos 0) ≡ getD f (k * 8 + 2 + j) (pos 0)
+      at m j e = let z : k * 8 + m ≡ k * 8 + 2 + j = omega arith in ap (λ i. getD f i (pos 0)) z
+
+  pub limit-read : (a b : ℤ) (cs : List ℤ) → a ≡ getD f (k * 8) (pos 0) → b ≡ getD f (k * 8 + 1) (pos 0) → cs ≡ take 6 (drop (k * 8 + 2) f)
+      → (n : ℕ) → n ≤ 6 → LimitIs n (record { multiplier = natAbs a; constant = b; coefficients = cs }) (limitAt f n k)
+  unfolding limitAt limitOf
+  limit-read a b cs e g h n m = let r = p .room in let i = p .inside in let q = row-part f (k * 8 + 2) n cs (omega arith) m h in
+      record { is = same-limit (ap natAbs e) g (q .is); within = record { room = q .room } }

@@ -53,6 +53,12 @@ pub record PushIn (n : ℕ) (f : List ℤ) (count : ℕ) (x : Limit) : Type 0 wh
   pub wide : WideIn n x
   pub filled : Filled f count
 
+-- limit k of a side under way
+pub record HeldIn (f : List ℤ) (k : ℕ) : Type 0 where
+  pub room : length f ≡ 128
+  pub inside : k < 16
+  pub natural : Natural f k
+
 -- a side that is not full, and room for it among as many words
 pub record PutIn (room j : ℕ) (f : List ℤ) (count n : ℕ) : Type 0 where
   pub filled : Filled f count

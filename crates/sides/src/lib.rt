@@ -1,19 +1,18 @@
 // A side that is filled limit by limit, in wide numbers. n is the number of loops outside.
 ghost use mathlib.Core.Path.{_≡_};
-ghost use mathlib.Core.Bool.{true};
 ghost use mathlib.Core.List.{[], _∷_};
-ghost use Prim.Native.Nat.{_+_, _*_, _<_, _≤_};
+ghost use Prim.Native.Nat.{ℕ, _+_, _*_, _<_, _≤_};
 ghost use lib.ListN.{length, take, drop};
 ghost use Rattle.integers.specs.Sign.{eqZ};
 ghost use Rattle.lists.specs.Parts.{put};
-ghost use Rattle.lists.specs.Tests.{all, any, sameBy};
+ghost use Rattle.lists.specs.Tests.{any, sameBy};
 ghost use Rattle.model.specs.Encode.{limitWords};
-ghost use Rattle.model.specs.Judge.{small};
 ghost use Rattle.model.specs.Limits.{sameLimit};
 ghost use Rattle.model.specs.Grammar.{mostLoops, mostLimits, rowRoom};
 ghost use Rattle.nest.specs.Nested.{limitOf};
 ghost use Rattle.bounds.specs.Flat.{limitAt, limitsAt};
-ghost use Rattle.sides.specs.Filling.{Adds, WideIn, SameIn, PushIn, PutIn, SidePut};
+ghost use Rattle.limits.specs.Makes.{LimitIs};
+ghost use Rattle.sides.specs.Filling.{Adds, WideIn, SameIn, PushIn, HeldIn, PutIn, SidePut};
 use model::LIMITS;
 use model::LOOPS;
 use nest::Limit;
@@ -119,20 +118,24 @@ pub fn push(filling: &mut [i32], count: usize, x: Limit, n: usize) -> usize
 
 // ---- a side put among the words of a nest
 
-// A row from place `at` on; false as soon as a number is not within ±32767.
-fn put_words(words: &mut [i16], at: usize, row: &[i32]) -> bool
-    requires { ⌜ at + length (now row) ≤ length (now words) ⌝ }
-    ensures { λ r. ⌜ (r ≡ all small (now (row .entry))) × (r ≡ true → now (words .exit) ≡ put (now (words .entry)) at (now (row .entry))) ⌝ }
+// Limit k of a side under way. Six coefficients, whether or not all of them count: with no loop.
+fn limit_of(filling: &[i32], k: usize) -> Limit
+    requires { ⌜ HeldIn (now filling) k ⌝ }
+    ensures { λ r. ⌜ ((n : ℕ) → n ≤ 6 → LimitIs n r (limitAt (now (filling .entry)) n k)) ⌝ }
 {
-    let mut k = 0;
-    while k < row.len() {
-        if !rows::small_number(row[k]) {
-            return false;
-        }
-        words[at + k] = rows::narrow(row[k]);
-        k += 1;
+    let at = k * 8;
+    Limit {
+        multiplier: filling[at] as u32,
+        constant: filling[at + 1],
+        coefficients: [
+            filling[at + 2],
+            filling[at + 3],
+            filling[at + 4],
+            filling[at + 5],
+            filling[at + 6],
+            filling[at + 7],
+        ],
     }
-    true
 }
 
 // The limits of a side, from limit j on; false as soon as one has a number that is not within ±32767.
@@ -142,8 +145,8 @@ pub fn put_side(words: &mut [i16], j: usize, filling: &[i32], count: usize, n: u
 {
     let mut k = 0;
     while k < count {
-        let from = k * 8;
-        if !put_words(words, (j + k) * 8, &filling[from..from + 2 + n]) {
+        let x = limit_of(filling, k);
+        if !limits::put_limit(words, j + k, x, n) {
             return false;
         }
         k += 1;
