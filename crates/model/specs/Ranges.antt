@@ -1,7 +1,7 @@
 -- What the grammar decides. First the ranges of an accepted ticket's counts and numbers, section by section; then the words of a ticket, and words
 -- that stand in bytes; then what each refusal from 1 to 6 says of the bytes and the place. Sizes of lists that follow from others are in `Shape`.
 use mathlib.Core.Path.{_≡_}
-use mathlib.Core.Bool.{Bool, true, false}
+use mathlib.Core.Bool.{true}
 use mathlib.Core.List.{List, [], _∷_, _++_, flatMap}
 use Prim.Native.Nat.{ℕ, suc, _+_, _*_, _-_, _≤_, _<_}
 use lib.Dec.{T}

@@ -33,7 +33,7 @@ pub data Step : Type 0 where
   -- loop a and the next
   exchange : ℕ → Step
   reversal : ℕ → Step
-  -- by loop a the loop d + 1 places inside it, by 1 (true) or by −1
+  -- by loop a, times a factor, the loop d + 1 places inside it
   skew : ℕ → ℕ → ℤ → Step
   -- loop a by width w
   section : ℕ → ℕ → Step

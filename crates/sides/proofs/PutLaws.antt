@@ -1,25 +1,22 @@
 -- A limit that is put over wide numbers: two numbers, and the coefficients after them; and read back.
-use mathlib.Core.Path.{_≡_, refl, sym, ap, ap₂, _∙_, subst}
+use mathlib.Core.Path.{_≡_, sym, ap, ap₂, _∙_, subst}
 use mathlib.Core.Bool.{true, false}
 use mathlib.Core.List.{List, [], _∷_}
-use Prim.Native.Nat.{ℕ, suc, _+_, _*_, _≤_, _<_}
+use Prim.Native.Nat.{ℕ, _+_, _*_, _≤_, _<_}
 use native.Mathlib.Omega.{arith}
 use native.Mathlib.Numerals.{add-one}
 use lib.Dec.{T}
 use lib.IntN.{ℤ, pos, negsuc, natAbs}
 use lib.Signed.{nonNeg}
 use lib.ListN.{length, getD, take, drop, set, length-set}
-use lib.Seq.{length-take-le, take-suc, drop-cons}
-use mir.Syntax.{w16, w32}
+use lib.Seq.{length-take-le, take-suc}
+use mir.Syntax.{w32}
 use mir.Val.{Fits, SFits, toZ, ofZ}
 use mir.Facts.{toZ-pos}
 use Rattle.lists.specs.Parts.{put}
 use Rattle.lists.proofs.PartLaws.{put-put, set-is-put, set-put, length-put}
-use Rattle.lists.specs.Tests.{all}
-use Rattle.lists.proofs.TestLaws.{true-T}
 use Rattle.model.specs.Ticket as Model
 use Rattle.model.specs.Encode.{limitWords}
-use Rattle.model.specs.Judge.{small, smallLimit}
 use Rattle.nest.specs.Nested.{limitOf}
 use Rattle.nest.specs.declared.Limit.{Limit}
 use Rattle.bounds.specs.Flat.{limitAt}
@@ -28,7 +25,7 @@ use Rattle.limits.specs.Makes.{LimitIs}
 use Rattle.integers.specs.Difference.{up}
 use Rattle.limits.proofs.NumberLaws.{fits-below}
 use Rattle.limits.proofs.LimitLaws.{same-limit}
-use Rattle.sides.specs.Filling.{Natural, WideIn, HeldIn}
+use Rattle.sides.specs.Filling.{WideIn, HeldIn}
 
 -- ---- a row, number by number, as the machine reads them
 

@@ -1,7 +1,6 @@
 -- How many there are after a step: of a point's indices, of a subscript's coefficients and of loops, alike; and how many loops, where the loops
 -- that the step names are there.
 use mathlib.Core.Path.{_≡_, refl, sym, ap, _∙_}
-use mathlib.Core.Bool.{Bool}
 use mathlib.Core.List.{List, [], _∷_}
 use Prim.Native.Nat.{ℕ, suc, _+_, _<_}
 use native.Mathlib.Omega.{arith}

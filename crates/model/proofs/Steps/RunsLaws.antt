@@ -1,6 +1,5 @@
 -- After a step every loop can still be run: limits on both sides, with positive multipliers.
 use mathlib.Core.Path.{_≡_, refl}
-use mathlib.Core.Bool.{Bool}
 use mathlib.Core.List.{List, [], _∷_, _++_, map, flatMap, map-eq-nil-iff, append-eq-nil-iff, cons≢nil, List·Memᴰ·head, List·Memᴰ·tail}
 use Prim.Native.Nat.{ℕ, zero, suc, _*_, _<_}
 use native.Mathlib.Nat.{mul-le-mul}

@@ -1,6 +1,5 @@
 -- A step keeps the shape of a nest: a limit has a coefficient for each loop outside. That a step's loops can be run is in `RunsLaws`.
 use mathlib.Core.Path.{_≡_, refl, sym, ap, _∙_, subst}
-use mathlib.Core.Bool.{Bool}
 use mathlib.Core.List.{List, [], _∷_, map}
 use Prim.Native.Nat.{ℕ, zero, suc, _+_, _-_, _<_}
 use native.Mathlib.Omega.{arith}

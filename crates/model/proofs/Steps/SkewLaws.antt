@@ -1,6 +1,5 @@
 -- Skew: the points inside the new nest are the old ones with the index of loop a, or its negative, added to that of a loop inside it.
 use mathlib.Core.Path.{_≡_, refl, sym, ap, _∙_, subst}
-use mathlib.Core.Bool.{Bool}
 use mathlib.Core.Logic.{_↔_, Iff·rfl, Iff·and}
 use mathlib.Core.List.{List, [], _∷_, _++_, append-assoc, append-nil}
 use Prim.Native.Nat.{ℕ, suc, _+_, _<_}

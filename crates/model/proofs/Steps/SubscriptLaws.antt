@@ -1,7 +1,6 @@
 -- A subscript after a step, at the point that the step makes, is the old one at the old point: coefficients and indices change together and their
 -- products sum to the same. So an access names the same element.
 use mathlib.Core.Path.{_≡_, refl, sym, ap, _∙_}
-use mathlib.Core.Bool.{Bool, true, false}
 use mathlib.Core.List.{List, [], _∷_, map, map-map}
 use Prim.Native.Nat.{ℕ, zero, suc}
 use native.Mathlib.Omega.{arith}

@@ -4,7 +4,6 @@ use mathlib.Core.Path.{_≡_, refl, sym, ap, ap₂, _∙_, subst}
 use Rattle.integers.proofs.Linear.{lin, _≐_, _⊏_, _⟶_}
 use Rattle.integers.proofs.Polynomial.{_⊗_, ⊝, #}
 use Rattle.integers.proofs.OrderLaws.{mul-<}
-use mathlib.Core.Bool.{Bool, true, false}
 use mathlib.Core.Logic.{⊎-elim}
 use mathlib.Core.List.{List, [], _∷_, _++_, List·Memᴰ·head, List·Memᴰ·tail, Memᴰ·cast, Memᴰ·map}
 use Prim.Native.Nat.{ℕ, zero, suc, _<_}

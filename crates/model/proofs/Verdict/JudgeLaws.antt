@@ -17,8 +17,7 @@ use Rattle.model.specs.Limits.{nestAfter, nestAfterAll}
 use Rattle.model.specs.Judge.{stages, judgeSteps}
 use Rattle.model.proofs.Answers.AnswerLaws.{not-both, then-accepted, then-refused}
 use Rattle.model.proofs.Answers.PassLaws.{then-pass, then-stop}
-use Rattle.model.proofs.Verdict.SmallLaws.{Small}
-use Rattle.model.proofs.Verdict.JudgeStepLaws.{Backwards, Few, StepPasses, Reason, points-back, back-points, halted-number, ten, taking, step-accepted, accepted-step, step-refused, refused-step}
+use Rattle.model.proofs.Verdict.JudgeStepLaws.{Backwards, StepPasses, Reason, points-back, back-points, halted-number, ten, taking, step-accepted, accepted-step, step-refused, refused-step}
 
 -- every step passes when it is taken
 abbrev pub StepsPass : List Step → List (List Sign) → Nest → Type 0
