@@ -14,7 +14,7 @@ use Rattle.lists.proofs.OrderLaws.{precedes-mem}
 use Rattle.model.specs.Ticket as Model
 use Rattle.model.specs.Points.{iterations}
 use Rattle.model.specs.Machine.{accesses, order}
-use Rattle.model.specs.Directions.{signs}
+use Rattle.model.specs.Directions.{signs, vectorCount}
 use Rattle.model.specs.Judge.{directionsOf}
 use Rattle.model.proofs.Machine.DirectionLaws.{mem-directions}
 use Rattle.model.proofs.Machine.InstanceLaws.{instances-mem}
@@ -50,11 +50,11 @@ directions-length N v m =
 
 record Marks (d : ℕ) (vs : List (List Sign)) : Type 0 where
   marks : List Bool
-  room : length marks ≡ 729
+  room : length marks ≡ vectorCount
   stand : SameMembers (vectorsIn marks d) vs
 
 marks-of : (d : ℕ) → d ≤ 6 → (vs : List (List Sign)) → All (λ v. length v ≡ d) vs → Marks d vs
-marks-of d f [] a = record { marks = replicate 729 false; room = length-replicate 729 false; stand = subst (λ l. SameMembers l []) (sym (no-vectors d)) (members-refl []) }
+marks-of d f [] a = record { marks = replicate vectorCount false; room = length-replicate vectorCount false; stand = subst (λ l. SameMembers l []) (sym (no-vectors d)) (members-refl []) }
 marks-of d f (v ∷ vs) a =
     let m = marks-of d f vs (λ u i. a u (List·Memᴰ·tail i)) in
     let r = m .room in

@@ -13,7 +13,7 @@ use Rattle.lists.specs.Tests.{all}
 use Rattle.model.specs.Answer.{Answer, refused, require, _>>=_, _>>_}
 use Rattle.model.specs.Ticket as Model
 use Rattle.model.specs.Ticket.{exchange, reversal, skew, section}
-use Rattle.model.specs.Grammar.{depthAfter}
+use Rattle.model.specs.Grammar.{depthAfter, accessRoom, mostWords}
 use Rattle.model.specs.Ranges.{StepThere}
 use Rattle.model.specs.Steps.{vectorsAfter, somePointsBack}
 use Rattle.model.specs.Limits.{loopsAfter, accessAfter, nestAfter, nestAfterAll}
@@ -88,13 +88,13 @@ module _ (P : Sheet) (t : Step) (i : TakeIn P t) where
 
     -- what stands behind the words in use is not lent
     abbrev words : List ℤ
-    words = w ++ drop (P .accesses * 24) (P .words)
+    words = w ++ drop (P .accesses * accessRoom) (P .words)
 
-    part : take (P .accesses * 24) words ≡ w
-    part = ap (λ n. take n words) (sym (g .takes .words-room ∙ words-count P h)) ∙ take-append-seam w (drop (P .accesses * 24) (P .words))
+    part : take (P .accesses * accessRoom) words ≡ w
+    part = ap (λ n. take n words) (sym (g .takes .words-room ∙ words-count P h)) ∙ take-append-seam w (drop (P .accesses * accessRoom) (P .words))
 
-    room : length words ≡ 480
-    room = let a = length-append w (drop (P .accesses * 24) (P .words)) in let d = length-drop (P .accesses * 24) (P .words) in let q = g .takes .words-room in let v = words-count P h in let f = h .few-accesses in let y = h .words-length in omega arith
+    room : length words ≡ mostWords
+    room = let a = length-append w (drop (P .accesses * accessRoom) (P .words)) in let d = length-drop (P .accesses * accessRoom) (P .words) in let q = g .takes .words-room in let v = words-count P h in let f = h .few-accesses in let y = h .words-length in omega arith
 
     abbrev Q : Sheet
     Q = moved P (depthAfter (stepOf t) (P .depth)) l c words

@@ -11,6 +11,7 @@ ghost use Rattle.sheet.specs.Sheets.{sheetOf, SheetIn};
 ghost use Rattle.stepping.specs.Taking.{TakingIn};
 ghost use Rattle.judgement.specs.Judgement.{DirectionIn, stageStatus, StageTaken, sheetAt, TakeIn, Taken, SurveyedNew, JudgeIn, JudgesSteps, Judges};
 use directions::DirectionSet;
+use model::ACCESS_ROOM;
 use reading::Refusal;
 use reading::Status;
 use sheet::Outline;
@@ -125,7 +126,7 @@ fn take(
     take_stage(
         limits,
         counts,
-        &mut words[..accesses * 24],
+        &mut words[..accesses * ACCESS_ROOM],
         &owners[..accesses],
         &extents[..arrays * 4],
         depth,
