@@ -6,7 +6,7 @@ ghost use Rattle.model.specs.Grammar.{ticketLoops, mostPoints};
 ghost use Rattle.elements.specs.Search.{answerOf};
 ghost use Rattle.sheet.specs.Sheets.{sheetOf, SheetIn};
 ghost use Rattle.sheet.specs.Stages.{Searched};
-ghost use Rattle.admission.specs.Admission.{Counts, FindIn, passed, EnumerateIn, Admits, Enumerates};
+ghost use Rattle.admission.specs.Admission.{Counts, FindIn, passed, Waits, EnumerateIn, Admits, Enumerates};
 use model::POINTS;
 use model::TICKET_LOOPS;
 use reading::Refusal;
@@ -69,16 +69,16 @@ pub fn enumerate(outline: Outline, limits: &[i16], words: &[i16], points: &mut [
     answer(find_stray(outline, limits, words, points, count))
 }
 
-// The same of few points, which are not kept.
-pub fn admit_few(outline: Outline, limits: &[i16], words: &[i16]) -> Status
-    requires { ⌜ EnumerateIn (sheetOf outline (now limits) (now words)) 1024 ⌝ }
+// The same by the points alone, which are not kept.
+fn admit_by_points(outline: Outline, limits: &[i16], words: &[i16], points: &mut [i64]) -> Status
+    requires { ⌜ EnumerateIn (sheetOf outline (now limits) (now words)) (length (now points)) ⌝ }
     ensures { λ r. ⌜ Admits (sheetOf outline (now (limits .entry)) (now (words .entry))) r ⌝ }
 {
-    let mut points = [0i64; 1024];
-    enumerate(outline, limits, words, &mut points)
+    let count = sheet::list_points(outline, limits, words, points);
+    answer(sheet::find_stray(outline, limits, words, points, count))
 }
 
-// The same of many points: without them, where the ranges of the loops show that refusal 9 is passed. Apart from `admit_few`, whose callers would
+// The same of many points: without them, where the ranges of the loops show that refusal 9 is passed. Apart from `admit`, whose callers would
 // walk through the room for many points page by page too.
 pub fn admit_many(outline: Outline, limits: &[i16], words: &[i16]) -> Status
     requires { ⌜ EnumerateIn (sheetOf outline (now limits) (now words)) (ticketLoops * mostPoints) ⌝ }
@@ -88,6 +88,24 @@ pub fn admit_many(outline: Outline, limits: &[i16], words: &[i16]) -> Status
         return Status::Fine;
     }
     let mut points = [0i64; TICKET_LOOPS * POINTS];
-    let count = sheet::list_points(outline, limits, words, &mut points);
-    answer(sheet::find_stray(outline, limits, words, &points, count))
+    admit_by_points(outline, limits, words, &mut points)
+}
+
+// The same of so many points. Fewer have fewer indices to clear.
+pub fn admit(outline: Outline, limits: &[i16], words: &[i16], count: usize) -> Status
+    requires { ⌜ Waits (sheetOf outline (now limits) (now words)) count ⌝ }
+    ensures { λ r. ⌜ Admits (sheetOf outline (now (limits .entry)) (now (words .entry))) r ⌝ }
+{
+    if count <= 32 {
+        let mut few = [0i64; 128];
+        return admit_by_points(outline, limits, words, &mut few);
+    }
+    if enclosure::stays_inside(outline, limits, words) {
+        return Status::Fine;
+    }
+    if count <= 256 {
+        let mut more = [0i64; 1024];
+        return admit_by_points(outline, limits, words, &mut more);
+    }
+    admit_many(outline, limits, words)
 }

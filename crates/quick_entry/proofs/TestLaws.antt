@@ -22,7 +22,7 @@ use Rattle.ticket.specs.Ticket.{ticketOn, ticketOf, Decodes}
 use Rattle.sheet.specs.Sheets.{Sheet, sheetOf, nestOf, SheetIn}
 use Rattle.reading.specs.declared.Status.{Status}
 use Rattle.reading.specs.declared.Status.the-variants.{Fine, Refused}
-use Rattle.admission.specs.Admission.{passed}
+use Rattle.admission.specs.Admission.{passed, Admits}
 use Rattle.admission.specs.declared.Counted.{Counted}
 use Rattle.admission.specs.declared.Counted.the-variants as Counted
 use Rattle.intake.specs.Intake.{Counts}
@@ -30,7 +30,7 @@ use Rattle.intake.proofs.AdmitLaws.{not-counted, ticket-there}
 use Rattle.sheet.specs.Stages.{noAccess, accessOf, TestIn}
 use Rattle.sheet.proofs.SheetLaws.{access-count}
 use Rattle.quick_entry.specs.declared.Tested.{Tested}
-use Rattle.quick_entry.specs.Answers.{answerOf, tested, FoundIn, testNest}
+use Rattle.quick_entry.specs.Answers.{answerOf, tested, testNest}
 
 both : (a b : Bool) → (a && b) ≡ true → (a ≡ true) × (b ≡ true)
 both true b e = (refl, e)
@@ -113,14 +113,14 @@ module _ (P : Sheet) (h : SheetIn P) (u : ℕ) (s : Bool) (e : s ≡ (leb 1 u &&
 
 -- ---- a nest of which refusal 9 was found, or passed
 
-module _ (P : Sheet) (s : Status) (h : FoundIn P s) (u v : ℕ) where
+module _ (P : Sheet) (s : Status) (h : Admits P s) (u v : ℕ) where
   pub found-refused : (r : Refusal) → s ≡ Refused r → refusal r ≡ testNest (nestOf P) u v
   unfolding testNest _>>_ _>>=_
-  found-refused r e = ap (_>> tested (nestOf P) u v) (sym (ap passed e) ∙ h .admits)
+  found-refused r e = ap (_>> tested (nestOf P) u v) (sym (ap passed e) ∙ h)
 
   pub found-passed : s ≡ Fine → (a : Tested) → answerOf a ≡ tested (nestOf P) u v → answerOf a ≡ testNest (nestOf P) u v
   unfolding testNest _>>_ _>>=_
-  found-passed e a g = g ∙ ap (_>> tested (nestOf P) u v) (sym (ap passed e) ∙ h .admits)
+  found-passed e a g = g ∙ ap (_>> tested (nestOf P) u v) (sym (ap passed e) ∙ h)
 
 -- ---- a decoded ticket
 

@@ -6,9 +6,6 @@ use Rattle.model.specs.Bounds.{admitted}
 use Rattle.model.specs.Quick.{Independence, apart, perhaps, quickTest}
 use Rattle.model.specs.Entries.{allAccesses, accessNumber}
 use Rattle.reading.specs.Refusals.{refusal}
-use Rattle.reading.specs.declared.Status.{Status}
-use Rattle.sheet.specs.Sheets.{Sheet, SheetIn}
-use Rattle.admission.specs.Admission.{Admits}
 use Rattle.quick_entry.specs.declared.Tested.{Tested}
 use Rattle.quick_entry.specs.declared.Tested.the-variants.{Apart, Perhaps, Refused}
 
@@ -20,11 +17,6 @@ answerOf (Refused r) = refusal r
 -- after 1 to 9: the two access numbers, then the test
 unfoldable pub tested : Nest → ℕ → ℕ → Answer Independence
 tested N a b = accessNumber (allAccesses N) a >>= (λ u. accessNumber (allAccesses N) b >>= (λ v. accepted (quickTest (N .loops) u v)))
-
--- a nest, and refusal 9 of it
-pub record FoundIn (P : Sheet) (s : Status) : Type 0 where
-  pub sheet : SheetIn P
-  pub admits : Admits P s
 
 -- 7 to 9 of a nest, then its test
 unfoldable pub testNest : Nest → ℕ → ℕ → Answer Independence

@@ -6,7 +6,7 @@ ghost use Rattle.model.specs.Entries as Entries;
 ghost use Rattle.sheet.specs.Sheets.{sheetOf, nestOf, SheetIn};
 ghost use Rattle.admission.specs.Admission.{Waits};
 ghost use Rattle.ticket.specs.Ticket.{DecodedIn, ticketOf};
-ghost use Rattle.quick_entry.specs.Answers.{answerOf, tested, FoundIn, testNest};
+ghost use Rattle.quick_entry.specs.Answers.{answerOf, tested, testNest};
 use admission::Counted;
 use model::NEST_ROOM;
 use model::WORDS;
@@ -48,25 +48,6 @@ fn test(outline: Outline, limits: &[i16], words: &[i16], first: usize, second: u
     Tested::Perhaps
 }
 
-// The test, where refusal 9 is passed.
-fn test_found(
-    outline: Outline,
-    limits: &[i16],
-    words: &[i16],
-    found: Status,
-    first: usize,
-    second: usize,
-) -> Tested
-    requires { ⌜ FoundIn (sheetOf outline (now limits) (now words)) found ⌝ }
-    ensures { λ r. ⌜ answerOf r ≡ testNest (nestOf (sheetOf outline (now (limits .entry)) (now (words .entry)))) first second ⌝ }
-{
-    match found {
-        Status::Fine => {}
-        Status::Refused(r) => return Tested::Refused(r),
-    }
-    test(outline, limits, words, first, second)
-}
-
 // Refusal 9 of a nest of so many points, then the test.
 fn test_nest(
     outline: Outline,
@@ -79,12 +60,12 @@ fn test_nest(
     requires { ⌜ Waits (sheetOf outline (now limits) (now words)) count ⌝ }
     ensures { λ r. ⌜ answerOf r ≡ testNest (nestOf (sheetOf outline (now (limits .entry)) (now (words .entry)))) first second ⌝ }
 {
-    if count <= 256 {
-        let few = admission::admit_few(outline, limits, words);
-        return test_found(outline, limits, words, few, first, second);
+    let found = admission::admit(outline, limits, words, count);
+    match found {
+        Status::Fine => {}
+        Status::Refused(r) => return Tested::Refused(r),
     }
-    let many = admission::admit_many(outline, limits, words);
-    test_found(outline, limits, words, many, first, second)
+    test(outline, limits, words, first, second)
 }
 
 // Of a decoded ticket.

@@ -1,35 +1,32 @@
--- `test_nest`: few points or many.
-use native.Mathlib.Omega.{arith}
-use Rattle.admission.proofs.AdmissionLaws.{enumerate-in, enumerate-many}
+-- `test_nest`: refusal 9, or the test.
+use Rattle.quick_entry.proofs.TestLaws.{found-refused, found-passed}
 use borrow.Author.Needs.{needs}
 use Rattle.quick_entry.proofs.test_nest.Statement.{statement}
 use Rattle.quick_entry.proofs.test_nest.Tie as tie
 
-admit-few-requires : tie.Need-admit-few-requires
-admit-few-requires c κs = let s = c .before in enumerate-in _ (s .args .count) (s .pre) 1024 (omega (arith, c .if1 .taken))
+admit-requires : tie.Need-admit-requires
+admit-requires c κs = search needs
 
-test-found-requires : tie.Need-test-found-requires
-test-found-requires c κs = search needs
+enum-told : tie.Need-enum-told
+enum-told c = search needs
+
+enum-known-found : tie.Need-enum-known-found
+enum-known-found c = search needs
 
 returns : tie.Need-returns
-returns c = search needs
+returns c =
+    let s = c .before .before .before .before in
+    let a = c .before .before .before .admit in
+    found-refused _ (a .result) (a .ensures) (s .args .first) (s .args .second) (c .before .found .given .0 .0) (c .before .found .given .1)
 
-admit-many-requires : tie.Need-admit-many-requires
-admit-many-requires c κs = let s = c .before in enumerate-many _ (s .args .count) (s .pre)
-
-test-found-requires-2 : tie.Need-test-found-requires-2
-test-found-requires-2 c κs = search needs
+test-requires : tie.Need-test-requires
+test-requires c κs = c .before .before .before .pre .nest .sheet
 
 returns-2 : tie.Need-returns-2
-returns-2 c = search needs
+returns-2 c =
+    let s = c .before .before .before .before in
+    let a = c .before .before .before .admit in
+    found-passed _ (a .result) (a .ensures) (s .args .first) (s .args .second) (c .before .enum-told .given .1) (c .test .result) (c .test .ensures)
 
 pub test-nest-spec : {M : Type 1} → statement M
-test-nest-spec =
-    tie.close
-    (tie.spec
-    admit-few-requires
-    test-found-requires
-    returns
-    admit-many-requires
-    test-found-requires-2
-    returns-2)
+test-nest-spec = tie.close (tie.spec admit-requires enum-told enum-known-found returns test-requires returns-2)
