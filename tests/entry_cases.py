@@ -1,12 +1,13 @@
 """Writes the input and the expected output of the program entry_tests. A case is a ticket, the lengths of the buffers that write and list are
-lent, two access numbers, and the store that run is lent. The expected text is document01's, with which base.txt has to agree."""
+lent, two access numbers, and the store that run is lent. The expected text is the reference's (rust/reference), which its own tests compare with
+the outside vectors of base.txt."""
 import itertools
-import math
 import os
 import struct
+import subprocess
+from collections import namedtuple
 
 import damage_cases
-import document01
 import nest_cases
 import step_cases
 from nest_cases import NEIGHBOURS
@@ -15,17 +16,30 @@ from tickets import A, B, I, J, K, CASE_1, WORKED, exchange, section, skew, tick
 
 HERE = os.path.dirname(os.path.abspath(__file__))
 PROGRAM = os.path.join(HERE, "..", "crates", "entry_tests")
+PACKAGE = os.path.join(HERE, "..", "rust", "Cargo.toml")
 WIDE = 65535
+
+# of a ticket, where it has such: accesses and elements; bytes of the new nest and of the listing
+Sizes = namedtuple("Sizes", "accesses elements nest listing")
+
+
+# ---- the reference
+
+def packed(t, write=0, lent=0, first=0, second=0, store=()):
+    return struct.pack("<6H", len(t), write, lent, len(store), first, second) + t + struct.pack("<%dI" % len(store), *store)
+
+
+def reference(cases, *words):
+    call = ["cargo", "run", "--release", "--offline", "--quiet", "--manifest-path", PACKAGE, "-p", "reference", "--example", "expected", "--"]
+    return subprocess.run(call + list(words), input=cases, capture_output=True, check=True).stdout
+
+
+def sizes_of(tickets):
+    lines = reference(b"".join(map(packed, tickets)), "--sizes").decode().splitlines()
+    return {t: Sizes(*(None if word == "-" else int(word) for word in line.split())) for t, line in zip(tickets, lines, strict=True)}
 
 
 # ---- cases
-
-def decoded(t):
-    try:
-        return document01.decode(t)
-    except document01.Refused:
-        return None
-
 
 def filled(count):
     """small numbers, numbers near 2^32, and others; a long store has few"""
@@ -38,27 +52,29 @@ def filled(count):
     return words
 
 
-def case(t, write=WIDE, listing=WIDE, accesses=None, words=None):
-    """the first access and the last, and a store as long as the arrays, unless they are too long for every case to have one"""
-    d = decoded(t)
-    if accesses is None:
-        accesses = 1, sum(1 + len(s[3]) for s in d.statements) if d else 1
-    if words is None:
-        words = sum(map(math.prod, d.arrays)) if d else 3
-        words = words if words <= 4096 else 0
-    return t, write, listing, *accesses, tuple(filled(words))
+def case(t, write=None, listing=None, accesses=None, words=None):
+    """a case whose numbers are taken from the ticket's sizes where they are not given: a function of those"""
+    def of(sizes):
+        last = sizes.accesses or 1
+        whole = 3 if sizes.elements is None else sizes.elements
+        # the store is as long as the arrays, unless they are too long for every case to have one
+        store = words if words is not None else whole if whole <= 4096 else 0
+        lent = (length(sizes) if callable(length) else WIDE if length is None else length for length in (write, listing))
+        return t, *lent, *(accesses or (1, last)), tuple(filled(store))
+    return t, of
 
 
 def short_buffers():
     # none, one byte short, exact and one byte longer
     for t in CASE_1, WORKED[3], WORKED[7], NEIGHBOURS:
-        n = len(document01.listing(document01.admit(t)))
-        for lent in 0, n - 1, n, n + 1:
-            yield case(t, listing=lent)
+        yield case(t, listing=0)
+        for more in -1, 0, 1:
+            yield case(t, listing=lambda sizes, more=more: sizes.listing + more)
     for t in (WORKED[5], ticket(*CUBE), ticket(*TRIANGLE, [section(1, 2), section(2, 2), section(3, 2)]), ticket(*DIVIDED, [exchange(1)])):
-        n = document01.write(t, bytes(WIDE))[2]
-        for lent in 0, 1, n - 1, n, n + 1:
+        for lent in 0, 1:
             yield case(t, write=lent)
+        for more in -1, 0, 1:
+            yield case(t, write=lambda sizes, more=more: sizes.nest + more)
     # refusals of the ticket come first
     far = ticket([(25000, 25000), (25001, 25001)], [(1,)], [(1, 1, (A, 0))], [skew(1, 2)] * 3)
     for t in CASE_1, CASE_1[:-1], b"", far:
@@ -105,104 +121,33 @@ def own_cases():
     yield from map(case, WORKED)
     for tickets in from_nests + from_steps:
         yield from map(case, tickets())
-    for t, few in nest_cases.crowded():
-        yield case(t)
+    yield from map(case, nest_cases.crowded())
     for cases in damaged, short_buffers, stores, access_numbers:
         yield from cases()
 
 
-# ---- answers
-
-def once(answer):
-    """the entries ask for the same judgement, which takes long on some tickets"""
-    known = {}
-
-    def recall(t):
-        if t not in known:
-            try:
-                known[t] = answer(t)
-            except document01.Refused as e:
-                known[t] = e
-        if isinstance(known[t], document01.Refused):
-            raise known[t]
-        return known[t]
-    return recall
-
-
-document01.admit = once(document01.admit)
-document01.judged = once(document01.judged)
-CROWDED = dict(nest_cases.crowded())
-
-
-def listing(t):
-    """pairs of points are too many to walk where all of them meet"""
-    if t not in CROWDED:
-        return document01.listing(document01.admit(t)).encode()
-    depth, few, found_and_lines = document01.listing(document01.admit(CROWDED[t])).split(" ", 2)
-    return ("%s %d %s" % (depth, len(document01.admit(t).points), found_and_lines)).encode()
-
-
-def handed_out(number, place, count, memory):
-    assert not any(memory[count:])
-    return number, place, memory[:count]
-
-
-def answers(t, write, lent, first, second, store):
-    return (document01.judge(t), handed_out(*document01.write(t, bytes(write))), handed_out(*document01.hand_out(lambda: listing(t), bytes(lent))),
-            document01.quick(t, first, second), document01.run(t, list(store)))
-
-
 def base_cases():
-    for block in document01.blocks(os.path.join(HERE, "base.txt")):
-        rows = {row[0]: row[1:] for row in block}
+    """the outside vectors, with their own buffers, accesses and stores"""
+    with open(os.path.join(HERE, "base.txt")) as f:
+        blocks = f.read().strip().split("\n\n")
+    for block in blocks:
+        rows = {name: row for name, *row in (line.split(" ") for line in block.split("\n"))}
         t = bytes.fromhex(rows["ticket"][0].strip("-"))
-        judged = tuple(map(int, rows["judge"]))
-        write, listed = ((int(n), int(p), bytes.fromhex(text.strip("-"))) for _, n, p, text in (rows["write"], rows["list"]))
-        first, second, n, p, word = rows["quick"]
-        arrow = rows["run"].index(">")
-        before, after = ([] if ws == ["-"] else list(map(int, ws)) for ws in (rows["run"][3:arrow], rows["run"][arrow + 1:]))
-        given = t, min(int(rows["write"][0]), WIDE), min(int(rows["list"][0]), WIDE), int(first), int(second), tuple(before)
-        assert answers(*given) == (judged, write, listed, (int(n), int(p), word), (*map(int, rows["run"][:3]), after))
-        yield given
-
-
-# ---- input and text
-
-def packed(t, write, lent, first, second, store):
-    return struct.pack("<6H", len(t), write, lent, len(store), first, second) + t + struct.pack("<%dI" % len(store), *store)
-
-
-def line(number, place, accepted):
-    return "refused %d %d\n" % (number, place) if number else accepted + "\n"
-
-
-def counted(number, place, count):
-    return line(number, place, "accepted %d" % count)
-
-
-def text(judged, write, listed, quick, run):
-    n, p, nest = write
-    m, q, lines = listed
-    *ran, after = run
-    return "".join([
-        counted(*judged),
-        counted(n, p, len(nest)), "" if n else nest.hex() + "\n",
-        counted(m, q, len(lines)), lines.decode(),
-        line(*quick),
-        counted(*ran), "" if ran[0] else "".join(" %d" % w for w in after) + "\n",
-    ])
+        buffers = (min(int(rows[name][0]), WIDE) for name in ("write", "list"))
+        before = rows["run"][3:rows["run"].index(">")]
+        yield t, *buffers, int(rows["quick"][0]), int(rows["quick"][1]), () if before == ["-"] else tuple(map(int, before))
 
 
 def main():
-    cases = list(dict.fromkeys([*own_cases(), *base_cases()]))
-    every = [answers(*c) for c in cases]
-    given, expected = b"".join(packed(*c) for c in cases), "".join(text(*a) for a in every).encode()
+    own = list(own_cases())
+    sizes = sizes_of(list(dict.fromkeys(t for t, _ in own)))
+    cases = list(dict.fromkeys([*(of(sizes[t]) for t, of in own), *base_cases()]))
+    given = b"".join(packed(*c) for c in cases)
+    expected = reference(given)
     for name, data in (("stdin", given), ("stdout", expected)):
         with open(os.path.join(PROGRAM, name), "wb") as f:
             f.write(data)
-    numbers = [answer[0] for a in every for answer in a]
     print("%d cases of %d tickets, %d bytes, %d of text" % (len(cases), len({c[0] for c in cases}), len(given), len(expected)))
-    print("refusals:", {n: numbers.count(n) for n in range(17)})
 
 
 if __name__ == "__main__":

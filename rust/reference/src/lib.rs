@@ -5,7 +5,8 @@
 //! refusals that ask for them), `directions`, `limits` after a step, `quick` test, `run`, `plain_run` and `echo` (the listing's text).
 //! The five functions [`judge`], [`write`], [`list`], [`quick`] and [`run`] mean what the entries of that name mean.
 //!
-//! `tickets` is not of the document: it makes tickets of all shapes from a seed.
+//! `tickets` and `stored_cases` are not of the document: the one makes tickets of all shapes from a seed, the other answers the cases of the test
+//! program of the five entries.
 
 pub mod answers;
 pub mod directions;
@@ -16,6 +17,7 @@ pub mod points;
 pub mod quick;
 pub mod reading;
 pub mod run;
+pub mod stored_cases;
 pub mod ticket;
 pub mod tickets;
 pub mod writing;
