@@ -3,10 +3,11 @@
 //! Stage by stage what the proved entries do: words into a ticket, points counted depth by depth, subscripts within their extents, the
 //! element of every access at every point, chains of points by element, marks of vectors, steps, the size of the new nest. More than 256
 //! points are not listed where the ranges of the loops enclose every subscript and the lines are squeezed: between those of the corner of the
-//! nest, or of its centre, and those that Banerjee's inequalities allow. Where a Rust programmer would not copy, clear or compute something again, this does
-//! not either.
+//! nest, or of its centre, and those that Banerjee's inequalities allow. Where a Rust programmer would not copy, clear or compute something again,
+//! this does not either.
 //!
-//! Nothing rests on these answers: they are compared with the proved entries, and timed beside them.
+//! Nothing rests on these answers: the benchmark compares them with the proved entries' and times both. It is frozen: it reads document 01's words
+//! as they were before any request of document 02, and the benchmark hands it those.
 
 /// Calls a function that is generic over the count of loops: the innermost work is compiled for each.
 macro_rules! at_depth {
