@@ -70,6 +70,6 @@ module _ (P : Sheet) (count room : ℕ) (h : ExecuteIn P count room) where
   pub listed : (points : List ℤ) (n : ℕ) → PointsAre P points n → PointsAre P points count
   listed points n p = subst (PointsAre P points) (p .count ∙ sym (h .counted)) p
 
-  -- numbers of all accesses at 256 points are the most
-  pub few-numbers : count ≤ 256 → P .accesses * count ≤ mostAccesses * 256
-  few-numbers l = mul-le-mul {n₁ = P .accesses} {m₁ = count} {n₂ = mostAccesses} {m₂ = 256} (h .sheet .few-accesses) l
+  -- room for the numbers of all accesses at them
+  pub few-numbers : (most : ℕ) → count ≤ most → P .accesses * count ≤ mostAccesses * most
+  few-numbers most l = mul-le-mul {n₁ = P .accesses} {m₁ = count} {n₂ = mostAccesses} {m₂ = most} (h .sheet .few-accesses) l

@@ -3,6 +3,7 @@ ghost use mathlib.Core.Path.{_≡_};
 ghost use Prim.Native.Nat.{_*_, _≤_};
 ghost use lib.ListN.{length};
 ghost use Rattle.lists.specs.Parts.{rows};
+ghost use Rattle.model.specs.Grammar.{mostLoops};
 ghost use Rattle.model.specs.Store.{runNest};
 ghost use Rattle.sheet.specs.Sheets.{sheetOf, nestOf};
 ghost use Rattle.sheet.specs.Stages.{PointsAre};
@@ -85,20 +86,58 @@ fn run_many(
     run_parts(outline, limits, words, &points, count, numbers, store);
 }
 
-// Of few points, one part. Few accesses have fewer numbers to clear.
+// Of few points, one part. Lent is room for their indices and for the numbers of their accesses.
+fn run_listed(
+    outline: Outline,
+    limits: &[i16],
+    words: &[i16],
+    count: usize,
+    points: &mut [i64],
+    numbers: &mut [u16],
+    store: &mut [u32],
+)
+    requires { ⌜ ExecuteIn (sheetOf outline (now limits) (now words)) count (length (now store)) × (count * mostLoops ≤ length (now points)) × (outline .accesses * count ≤ length (now numbers)) ⌝ }
+    ensures { λ _. ⌜ now (store .exit) ≡ runNest (nestOf (sheetOf outline (now (limits .entry)) (now (words .entry)))) (now (store .entry)) ⌝ }
+{
+    sheet::list_points(outline, limits, words, points);
+    run_part(outline, limits, words, points, count, numbers, store);
+}
+
+// The same. Fewer points and accesses have less room to clear.
 fn run_few(outline: Outline, limits: &[i16], words: &[i16], count: usize, store: &mut [u32])
     requires { ⌜ ExecuteIn (sheetOf outline (now limits) (now words)) count (length (now store)) × (count ≤ 256) ⌝ }
     ensures { λ _. ⌜ now (store .exit) ≡ runNest (nestOf (sheetOf outline (now (limits .entry)) (now (words .entry)))) (now (store .entry)) ⌝ }
 {
-    let mut points = [0i64; LOOPS * 256];
-    sheet::list_points(outline, limits, words, &mut points);
+    if count <= 32 {
+        let mut few_points = [0i64; 32 * LOOPS];
+        let mut few = [0u16; ACCESSES * 32];
+        run_listed(
+            outline,
+            limits,
+            words,
+            count,
+            &mut few_points,
+            &mut few,
+            store,
+        );
+        return;
+    }
+    let mut points = [0i64; 256 * LOOPS];
     if outline.accesses * count <= 1024 {
-        let mut few = [0u16; 1024];
-        run_part(outline, limits, words, &points, count, &mut few, store);
+        let mut more = [0u16; 1024];
+        run_listed(outline, limits, words, count, &mut points, &mut more, store);
         return;
     }
     let mut numbers = [0u16; ACCESSES * 256];
-    run_part(outline, limits, words, &points, count, &mut numbers, store);
+    run_listed(
+        outline,
+        limits,
+        words,
+        count,
+        &mut points,
+        &mut numbers,
+        store,
+    );
 }
 
 // Runs the nest of a sheet, which has `count` points, of at most six indices each.

@@ -1,64 +1,87 @@
--- `run_few`: the points, then all in one part.
+-- `run_few`: in room for 32 points, or for 256 with few numbers or with all.
 use native.Mathlib.Omega.{arith}
 use borrow.Author.Needs.{needs}
-use Rattle.execution.proofs.PartLaws.{whole-in, whole-run}
-use Rattle.execution.proofs.ExecutionLaws.{list-in, listed, few-numbers}
+use Rattle.execution.proofs.ExecutionLaws.{few-numbers}
 use Rattle.execution.proofs.run_few.Statement.{statement}
 use Rattle.execution.proofs.run_few.Tie as tie
 
-slice-aggregate-list-points : tie.Need-slice-aggregate-list-points
-slice-aggregate-list-points c = search needs
+slice-aggregate-run-listed : tie.Need-slice-aggregate-run-listed
+slice-aggregate-run-listed c = search needs
 
-list-points-requires : tie.Need-list-points-requires
-list-points-requires c κs = let s = c .before .before in list-in _ (s .args .count) _ (s .pre .0) 256 (s .pre .1) _ (omega arith)
+slice-aggregate-run-listed-2 : tie.Need-slice-aggregate-run-listed-2
+slice-aggregate-run-listed-2 c = search needs
 
-mul-if1 : tie.Need-mul-if1
-mul-if1 c = let s = c .before .before .before .before .before in let f = few-numbers _ (s .args .count) _ (s .pre .0) (s .pre .1) in omega arith
-
-slice-aggregate-run-part : tie.Need-slice-aggregate-run-part
-slice-aggregate-run-part c = search needs
-
-slice-aggregate-run-part-2 : tie.Need-slice-aggregate-run-part-2
-slice-aggregate-run-part-2 c = search needs
-
-run-part-requires : tie.Need-run-part-requires
-run-part-requires c κs = let s = c .before .before .before .before .before .before .before .before .before in let p = c .before .before .before .before .before .before .list-points in (whole-in _ _ (s .args .count) (s .args .store .now) (s .pre .0) (listed _ (s .args .count) _ (s .pre .0) _ (p .result) (p .ensures .0)), c .before .before .before .if1 .taken)
+run-listed-requires : tie.Need-run-listed-requires
+run-listed-requires c κs =
+    let s = c .before .before .before .before .before in
+    let l = c .before .before .before .if1 .taken in
+    (s .pre .0, omega arith, few-numbers _ (s .args .count) _ (s .pre .0) 32 l)
 
 same-length : tie.Need-same-length
 same-length c = search needs
 
 returns : tie.Need-returns
-returns c = let s = c .before .before .before .before .before .before .before .before .before .before .before .before .before in let p = c .before .before .before .before .before .before .before .before .before .before .list-points in whole-run _ _ (s .args .count) (s .args .store .now) (s .pre .0) (listed _ (s .args .count) _ (s .pre .0) _ (p .result) (p .ensures .0)) _ (c .before .before .before .run-part .ensures)
+returns c = search needs
 
-slice-aggregate-run-part-3 : tie.Need-slice-aggregate-run-part-3
-slice-aggregate-run-part-3 c = search needs
+mul-if2 : tie.Need-mul-if2
+mul-if2 c =
+    let s = c .before .before .before in
+    let f = few-numbers _ (s .args .count) _ (s .pre .0) 256 (s .pre .1) in
+    omega arith
 
-slice-aggregate-run-part-4 : tie.Need-slice-aggregate-run-part-4
-slice-aggregate-run-part-4 c = search needs
+slice-aggregate-run-listed-3 : tie.Need-slice-aggregate-run-listed-3
+slice-aggregate-run-listed-3 c = search needs
 
-run-part-requires-2 : tie.Need-run-part-requires-2
-run-part-requires-2 c κs = let s = c .before .before .before .before .before .before .before .before .before in let p = c .before .before .before .before .before .before .list-points in (whole-in _ _ (s .args .count) (s .args .store .now) (s .pre .0) (listed _ (s .args .count) _ (s .pre .0) _ (p .result) (p .ensures .0)), few-numbers _ (s .args .count) _ (s .pre .0) (s .pre .1))
+slice-aggregate-run-listed-4 : tie.Need-slice-aggregate-run-listed-4
+slice-aggregate-run-listed-4 c = search needs
+
+run-listed-requires-2 : tie.Need-run-listed-requires-2
+run-listed-requires-2 c κs =
+    let s = c .before .before .before .before .before .before .before in
+    let l = s .pre .1 in
+    (s .pre .0, omega arith, c .before .before .before .if2 .taken)
 
 same-length-2 : tie.Need-same-length-2
 same-length-2 c = search needs
 
 returns-2 : tie.Need-returns-2
-returns-2 c = let s = c .before .before .before .before .before .before .before .before .before .before .before .before .before in let p = c .before .before .before .before .before .before .before .before .before .before .list-points in whole-run _ _ (s .args .count) (s .args .store .now) (s .pre .0) (listed _ (s .args .count) _ (s .pre .0) _ (p .result) (p .ensures .0)) _ (c .before .before .before .run-part2 .ensures)
+returns-2 c = search needs
+
+slice-aggregate-run-listed-5 : tie.Need-slice-aggregate-run-listed-5
+slice-aggregate-run-listed-5 c = search needs
+
+slice-aggregate-run-listed-6 : tie.Need-slice-aggregate-run-listed-6
+slice-aggregate-run-listed-6 c = search needs
+
+run-listed-requires-3 : tie.Need-run-listed-requires-3
+run-listed-requires-3 c κs =
+    let s = c .before .before .before .before .before .before .before in
+    let l = s .pre .1 in
+    (s .pre .0, omega arith, few-numbers _ (s .args .count) _ (s .pre .0) 256 l)
+
+same-length-3 : tie.Need-same-length-3
+same-length-3 c = search needs
+
+returns-3 : tie.Need-returns-3
+returns-3 c = search needs
 
 pub run-few-spec : {M : Type 1} → statement M
 run-few-spec =
     tie.close
     (tie.spec
-    slice-aggregate-list-points
-    list-points-requires
-    mul-if1
-    slice-aggregate-run-part
-    slice-aggregate-run-part-2
-    run-part-requires
+    slice-aggregate-run-listed
+    slice-aggregate-run-listed-2
+    run-listed-requires
     same-length
     returns
-    slice-aggregate-run-part-3
-    slice-aggregate-run-part-4
-    run-part-requires-2
+    mul-if2
+    slice-aggregate-run-listed-3
+    slice-aggregate-run-listed-4
+    run-listed-requires-2
     same-length-2
-    returns-2)
+    returns-2
+    slice-aggregate-run-listed-5
+    slice-aggregate-run-listed-6
+    run-listed-requires-3
+    same-length-3
+    returns-3)
