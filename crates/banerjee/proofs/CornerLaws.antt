@@ -41,19 +41,13 @@ module _ (c d lo hi x y : ℤ) (a : lo ≤ℤ x) (b : x <ℤ y) (e : y ≤ℤ hi
       last : x ≤ℤ (hi -ℤ pos 1)
       last = lin (x ∷ y ∷ hi ∷ []) (λ x y hi. x ⊏ y ⟶ y ⊑ hi ⟶ x ⊑ hi ⊖ # 1) tt b e
 
--- ---- the greatest is the least of the negatives; and x > y is x < y with the two exchanged
+-- ---- the greatest is the least of the negatives
 
 negated : (u v s t g : ℤ) → (u *ℤ s -ℤ v *ℤ t) ≤ℤ g → negℤ g ≤ℤ (negℤ u *ℤ s -ℤ negℤ v *ℤ t)
 negated u v s t g h = lin (u ∷ v ∷ s ∷ t ∷ g ∷ []) (λ u v s t g. u ⊗ s ⊖ v ⊗ t ⊑ g ⟶ ⊝ g ⊑ ⊝ u ⊗ s ⊖ ⊝ v ⊗ t) tt h
 
 restored : (u v s t g : ℤ) → negℤ g ≤ℤ (negℤ u *ℤ s -ℤ negℤ v *ℤ t) → (u *ℤ s -ℤ v *ℤ t) ≤ℤ g
 restored u v s t g h = lin (u ∷ v ∷ s ∷ t ∷ g ∷ []) (λ u v s t g. ⊝ g ⊑ ⊝ u ⊗ s ⊖ ⊝ v ⊗ t ⟶ u ⊗ s ⊖ v ⊗ t ⊑ g) tt h
-
-exchanged : (u v s t l : ℤ) → l ≤ℤ (u *ℤ s -ℤ v *ℤ t) → l ≤ℤ (negℤ v *ℤ t -ℤ negℤ u *ℤ s)
-exchanged u v s t l h = lin (u ∷ v ∷ s ∷ t ∷ l ∷ []) (λ u v s t l. l ⊑ u ⊗ s ⊖ v ⊗ t ⟶ l ⊑ ⊝ v ⊗ t ⊖ ⊝ u ⊗ s) tt h
-
-returned : (u v s t l : ℤ) → l ≤ℤ (negℤ v *ℤ t -ℤ negℤ u *ℤ s) → l ≤ℤ (u *ℤ s -ℤ v *ℤ t)
-returned u v s t l h = lin (u ∷ v ∷ s ∷ t ∷ l ∷ []) (λ u v s t l. l ⊑ ⊝ v ⊗ t ⊖ ⊝ u ⊗ s ⟶ l ⊑ u ⊗ s ⊖ v ⊗ t) tt h
 
 pub level-greatest : (c d lo hi x : ℤ) → lo ≤ℤ x → x ≤ℤ hi → (g : ℤ) → (c *ℤ lo -ℤ d *ℤ lo) ≤ℤ g → (c *ℤ hi -ℤ d *ℤ hi) ≤ℤ g → (c *ℤ x -ℤ d *ℤ x) ≤ℤ g
 level-greatest c d lo hi x a b g f h = restored c d x x g (level-least (negℤ c) (negℤ d) lo hi x a b (negℤ g) (negated c d lo lo g f) (negated c d hi hi g h))
@@ -62,13 +56,3 @@ pub rising-greatest : (c d lo hi x y : ℤ) → lo ≤ℤ x → x <ℤ y → y �
     → (g : ℤ) → (c *ℤ lo -ℤ d *ℤ (lo +ℤ pos 1)) ≤ℤ g → (c *ℤ lo -ℤ d *ℤ hi) ≤ℤ g → (c *ℤ (hi -ℤ pos 1) -ℤ d *ℤ hi) ≤ℤ g → (c *ℤ x -ℤ d *ℤ y) ≤ℤ g
 rising-greatest c d lo hi x y a b e g f h k = restored c d x y g
     (rising-least (negℤ c) (negℤ d) lo hi x y a b e (negℤ g) (negated c d lo (lo +ℤ pos 1) g f) (negated c d lo hi g h) (negated c d (hi -ℤ pos 1) hi g k))
-
-pub falling-least : (c d lo hi x y : ℤ) → lo ≤ℤ y → y <ℤ x → x ≤ℤ hi
-    → (l : ℤ) → l ≤ℤ (c *ℤ (lo +ℤ pos 1) -ℤ d *ℤ lo) → l ≤ℤ (c *ℤ hi -ℤ d *ℤ lo) → l ≤ℤ (c *ℤ hi -ℤ d *ℤ (hi -ℤ pos 1)) → l ≤ℤ (c *ℤ x -ℤ d *ℤ y)
-falling-least c d lo hi x y a b e l f h k = returned c d x y l
-    (rising-least (negℤ d) (negℤ c) lo hi y x a b e l (exchanged c d (lo +ℤ pos 1) lo l f) (exchanged c d hi lo l h) (exchanged c d hi (hi -ℤ pos 1) l k))
-
-pub falling-greatest : (c d lo hi x y : ℤ) → lo ≤ℤ y → y <ℤ x → x ≤ℤ hi
-    → (g : ℤ) → (c *ℤ (lo +ℤ pos 1) -ℤ d *ℤ lo) ≤ℤ g → (c *ℤ hi -ℤ d *ℤ lo) ≤ℤ g → (c *ℤ hi -ℤ d *ℤ (hi -ℤ pos 1)) ≤ℤ g → (c *ℤ x -ℤ d *ℤ y) ≤ℤ g
-falling-greatest c d lo hi x y a b e g f h k = restored c d x y g
-    (falling-least (negℤ c) (negℤ d) lo hi x y a b e (negℤ g) (negated c d (lo +ℤ pos 1) lo g f) (negated c d hi lo g h) (negated c d hi (hi -ℤ pos 1) g k))

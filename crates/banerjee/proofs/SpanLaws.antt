@@ -1,16 +1,20 @@
 -- What the difference of two terms can be in one loop: a sign by its digit, then the corners that are in a range widened twice, then a law for
 -- each sign.
-use mathlib.Core.Path.{_≡_, sym, _∙_, subst}
+use mathlib.Core.Path.{_≡_, sym, _∙_, ap, subst}
+use mathlib.Core.List.{[], _∷_}
 use Prim.Native.Nat.{ℕ, _≤_, _<_}
 use native.Mathlib.Omega.{arith}
-use lib.IntN.{ℤ, pos, _+ℤ_, _-ℤ_, _*ℤ_}
+use lib.IntN.{ℤ, pos, negℤ, _+ℤ_, _-ℤ_, _*ℤ_}
 use lib.Signed.{≤ℤ-refl}
 use mir.Syntax.{w64}
 use mir.Val.{SFits}
 use Rattle.integers.specs.Difference.{size}
 use Rattle.integers.specs.Sign.{Sign, less, equal, greater, sign}
 use Rattle.integers.proofs.RingLaws.{≤ℤ-trans}
-use Rattle.integers.proofs.SignLaws.{Means, sign-means}
+use Rattle.integers.proofs.SignLaws.{Means, sign-means, means-sign}
+use Rattle.integers.proofs.RangeLaws.{size-neg}
+use Rattle.integers.proofs.Polynomial.{_⊖_, _⊗_, ⊝}
+use Rattle.integers.proofs.Linear.{lin, _≐_}
 use Rattle.model.proofs.Quick.QuickRangeLaws.{InRange}
 use Rattle.extremes.specs.declared.Range.{Range}
 use Rattle.extremes.specs.Ranges.{rangeAs}
@@ -18,7 +22,7 @@ use Rattle.extremes.proofs.TermLaws.{copy}
 use Rattle.vectors.specs.Numbers.{digit}
 use Rattle.vectors.proofs.NumberLaws.{digit-unique}
 use Rattle.banerjee.specs.Spans.{SpanIn, CornerIn, Widened, Spans}
-use Rattle.banerjee.proofs.CornerLaws.{level-least, level-greatest, rising-least, rising-greatest, falling-least, falling-greatest}
+use Rattle.banerjee.proofs.CornerLaws.{level-least, level-greatest, rising-least, rising-greatest}
 use Rattle.banerjee.proofs.MachineLaws.{kept, sum-fits, sum-is, difference-fits, difference-is}
 
 digit-means : (s : Sign) (x y : ℤ) → digit (sign x y) ≡ digit s → Means s x y
@@ -135,27 +139,25 @@ module _ (c d : ℤ) (r : Range) (p : SpanIn c d r) where
   pub falling-last : CornerIn c d (copy (r .greatest)) (copy (copy (r .greatest) -ℤ pos 1))
   falling-last = corner-at greatest-near (last-is .1)
 
+-- x > y is x < y with the two exchanged
+module _ (c d : ℤ) (r : Range) (p : SpanIn c d r) where
+  exchanged : (x y : ℤ) → c *ℤ x -ℤ d *ℤ y ≡ negℤ d *ℤ y -ℤ negℤ c *ℤ x
+  exchanged x y = lin (c ∷ d ∷ x ∷ y ∷ []) (λ c d x y. c ⊗ x ⊖ d ⊗ y ≐ ⊝ d ⊗ y ⊖ ⊝ c ⊗ x) tt
+
+  exchanged-in : SpanIn (negℤ d) (negℤ c) r
+  exchanged-in = record { source = rw (size-neg d) (p .sink); sink = rw (size-neg c) (p .source); range = p .range }
+
   pub falling-spans : (t : Range) {s v : Range} {f g h : ℤ} → f ≡ c *ℤ copy (copy (r .least) +ℤ pos 1) -ℤ d *ℤ copy (r .least) → (t .least ≡ f) × (t .greatest ≡ f)
       → g ≡ c *ℤ copy (r .greatest) -ℤ d *ℤ copy (r .least) → Widened t g s
       → h ≡ c *ℤ copy (r .greatest) -ℤ d *ℤ copy (copy (r .greatest) -ℤ pos 1) → Widened s h v → Spans c d r 2 v
   unfolding digit
-  falling-spans t {s} {v} {f} {g} {h} ef et eg w eh u = record {
-    low = u .filled .low;
-    high = u .filled .high;
-    holds = λ x y hx hy e. let q = digit-means greater x y e in record {
-      low = falling-least c d (r .least) (r .greatest) x y (hy .low) q (hx .high) (v .least) (first .low) (middle .low) (last .low);
-      high = falling-greatest c d (r .least) (r .greatest) x y (hy .low) q (hx .high) (v .greatest) (first .high) (middle .high) (last .high);
-    };
-  }
-    where
-      first : InRange (rangeAs v) (c *ℤ (r .least +ℤ pos 1) -ℤ d *ℤ r .least)
-      first = subst (InRange (rangeAs v)) (ef ∙ rw (next-is .0, least-kept)) (stays u (stays w (first-in {t = t} et)))
-
-      middle : InRange (rangeAs v) (c *ℤ r .greatest -ℤ d *ℤ r .least)
-      middle = subst (InRange (rangeAs v)) (eg ∙ rw (least-kept, greatest-kept)) (stays u (w .new))
-
-      last : InRange (rangeAs v) (c *ℤ r .greatest -ℤ d *ℤ (r .greatest -ℤ pos 1))
-      last = subst (InRange (rangeAs v)) (eh ∙ rw (last-is .0, greatest-kept)) (u .new)
+  falling-spans t {s} {v} {f} {g} {h} ef et eg w eh u =
+      let q = rising-spans (negℤ d) (negℤ c) r exchanged-in t (ef ∙ exchanged _ _) et (eg ∙ exchanged _ _) w (eh ∙ exchanged _ _) u in
+      record {
+        low = q .low;
+        high = q .high;
+        holds = λ x y hx hy e. subst (InRange (rangeAs v)) (sym (exchanged x y)) (q .holds y x hy hx (ap digit (means-sign less y x (digit-means greater x y e))));
+      }
 
 -- ---- by the digit
 

@@ -10,15 +10,14 @@ use lib.ListN.{length, getD, take, drop, length-take, length-drop}
 use mir.Syntax.{w64}
 use mir.Val.{toZ, ofZ}
 use Rattle.integers.specs.Difference.{size}
-use Rattle.integers.specs.Division.{floorDiv, ceilDiv}
 use Rattle.integers.specs.Affine.{affine, affineAt, Within, AffineAt}
 use Rattle.integers.proofs.RingLaws.{zarith}
 use Rattle.integers.proofs.RangeLaws.{back, size-fits}
-use Rattle.integers.proofs.DivisionLaws.{size-ceil, size-floor}
 use Rattle.integers.proofs.AffineLaws.{within-at, within-take, affine-size, nest-affine}
 use Rattle.model.specs.Points.{value}
 use Rattle.bounds.specs.Flat.{limitAt}
-use Rattle.bounds.specs.Ranges.{Narrow, ceilAt, floorAt, LimitIn, DivisorIn}
+use Rattle.bounds.specs.Ranges.{Narrow, LimitIn, DivisorIn}
+use Rattle.bounds.proofs.Sides.{Side, rounded, rounded-size}
 
 pub within-drop : (n : ℕ) (l : List ℤ) (i : ℕ) → Within n l → Within n (drop i l)
 within-drop n l zero w = w
@@ -72,29 +71,22 @@ multiplier-is : (z : ℤ) → pos 0 <ℤ z → pos (natAbs z) ≡ z
 multiplier-is (pos n) h = refl
 multiplier-is (negsuc n) h = absurd (omega zarith)
 
-module _ {s : List ℤ} {j : ℕ} {outer : List ℤ} (p : DivisorIn s j outer) {d : ℤ} (w : d ≡ getD s (j * 8) (pos 0)) where
-  divisor-is : toZ w64 (ofZ w64 d) ≡ pos (limitAt s (length outer) j .multiplier)
+-- what the machine keeps of a quotient of a small number
+pub rounded-is : (d : Side) (z m r : ℤ) → Narrow z → r ≡ rounded d z m → (toZ w64 (ofZ w64 r) ≡ rounded d z m) × Narrow (toZ w64 (ofZ w64 r))
+rounded-is d z m r h e =
+    let k : Narrow r = subst Narrow (sym e) (omega (arith, rounded-size d z m)) in
+    let g = copied r k in (g ∙ e, rw g k)
+
+module _ {s : List ℤ} {j : ℕ} {outer : List ℤ} (p : DivisorIn s j outer) {m : ℤ} (w : m ≡ getD s (j * 8) (pos 0)) where
+  divisor-is : toZ w64 (ofZ w64 m) ≡ pos (limitAt s (length outer) j .multiplier)
   unfolding limitAt
   divisor-is = ap (λ (z : ℤ). toZ w64 (ofZ w64 z)) w ∙ read-word (p .limit) (j * 8) ∙ sym (multiplier-is (getD s (j * 8) (pos 0)) (p .positive))
 
-  pub divisor-positive : pos 0 <ℤ toZ w64 (ofZ w64 d)
+  pub divisor-positive : pos 0 <ℤ toZ w64 (ofZ w64 m)
   divisor-positive = rw (w, read-word (p .limit) (j * 8)) (p .positive)
 
-  module _ (v r : ℤ) (q : (v ≡ value (limitAt s (length outer) j) outer) × Narrow v) where
-    pub ceil-is : r ≡ ceilDiv (toZ w64 (ofZ w64 v)) (toZ w64 (ofZ w64 d))
-        → (toZ w64 (ofZ w64 r) ≡ ceilAt outer (limitAt s (length outer) j)) × Narrow (toZ w64 (ofZ w64 r))
-    unfolding ceilAt
-    ceil-is e = let b = q .1 in
-        let f : r ≡ ceilDiv v (pos (limitAt s (length outer) j .multiplier)) = e ∙ rw (copied v b, divisor-is) in
-        let k : Narrow r = subst Narrow (sym f) (omega (arith, size-ceil v (pos (limitAt s (length outer) j .multiplier)))) in
-        let g : toZ w64 (ofZ w64 r) ≡ r = copied r k in
-        (g ∙ f ∙ rw (q .0), subst Narrow (sym g) k)
-
-    pub floor-is : r ≡ floorDiv (toZ w64 (ofZ w64 v)) (toZ w64 (ofZ w64 d))
-        → (toZ w64 (ofZ w64 r) ≡ floorAt outer (limitAt s (length outer) j)) × Narrow (toZ w64 (ofZ w64 r))
-    unfolding floorAt
-    floor-is e = let b = q .1 in
-        let f : r ≡ floorDiv v (pos (limitAt s (length outer) j .multiplier)) = e ∙ rw (copied v b, divisor-is) in
-        let k : Narrow r = subst Narrow (sym f) (omega (arith, size-floor v (pos (limitAt s (length outer) j .multiplier)))) in
-        let g : toZ w64 (ofZ w64 r) ≡ r = copied r k in
-        (g ∙ f ∙ rw (q .0), subst Narrow (sym g) k)
+  -- rounded as the limits of a side are
+  pub quotient-is : (d : Side) (v r : ℤ) → (v ≡ value (limitAt s (length outer) j) outer) × Narrow v → r ≡ rounded d (toZ w64 (ofZ w64 v)) (toZ w64 (ofZ w64 m))
+      → (toZ w64 (ofZ w64 r) ≡ rounded d (value (limitAt s (length outer) j) outer) (pos (limitAt s (length outer) j .multiplier))) × Narrow (toZ w64 (ofZ w64 r))
+  quotient-is d v r q e = rounded-is d (value (limitAt s (length outer) j) outer) (pos (limitAt s (length outer) j .multiplier)) r
+      (subst Narrow (q .0) (q .1)) (e ∙ rw (copied v (q .1), divisor-is, q .0))

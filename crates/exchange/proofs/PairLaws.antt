@@ -44,8 +44,8 @@ pub record Spans (c : List ℕ) (a : ℕ) (il iu jl ju : Span) : Type 0 where
   pub jl-is : jl ≡ lowerSpan c (a + 1)
   pub ju-is : ju ≡ upperSpan c (a + 1)
 
-module _ (s : List ℤ) (c : List ℕ) (a : ℕ) (il iu jl ju : Span) (e : Spans c a il iu jl ju) where
-  module _ (p : PairIn s c a) (f : List ℤ) (room : length f ≡ 128) where
+module _ {c : List ℕ} {a : ℕ} {il iu jl ju : Span} (e : Spans c a il iu jl ju) where
+  module _ {s : List ℤ} (p : PairIn s c a) (f : List ℤ) (room : length f ≡ 128) where
     pub outer-low-in : ThreeIn a f s jl il iu
     outer-low-in = let q = p .place in record {
       place = omega arith;
@@ -70,28 +70,29 @@ module _ (s : List ℤ) (c : List ℕ) (a : ℕ) (il iu jl ju : Span) (e : Spans
     pub inner-up-in : ThreeIn a f s iu jl ju
     inner-up-in = record { place = outer-low-in .place; room = room; first = outer-low-in .third; second = outer-low-in .first; third = outer-up-in .first }
 
-  abbrev I : Model.Loop
-  I = loopAt s c a
+  module _ (s : List ℤ) where
+    abbrev I : Model.Loop
+    I = loopAt s c a
 
-  abbrev J : Model.Loop
-  J = loopAt s c (a + 1)
+    abbrev J : Model.Loop
+    J = loopAt s c (a + 1)
 
-  module _ (f : List ℤ) (n : ℕ) where
-    pub outer-low : Holds a f n (flatMap (λ l. outerPart a (limitsOf s a il) (limitsOf s a iu) (outerCoefficient a l) l) (limitsOf s (a + 1) jl)) → Holds a f n (newOuter a I J .lower)
-    unfolding newOuter loopAt lowerSpan upperSpan
-    outer-low h = rw (e .il-is, e .iu-is, e .jl-is) at h
+    module _ {f : List ℤ} {n : ℕ} where
+      pub outer-low : Holds a f n (flatMap (λ l. outerPart a (limitsOf s a il) (limitsOf s a iu) (outerCoefficient a l) l) (limitsOf s (a + 1) jl)) → Holds a f n (newOuter a I J .lower)
+      unfolding newOuter loopAt lowerSpan upperSpan
+      outer-low h = rw (e .il-is, e .iu-is, e .jl-is) at h
 
-    pub outer-up : Holds a f n (flatMap (λ l. outerPart a (limitsOf s a iu) (limitsOf s a il) (outerCoefficient a l) l) (limitsOf s (a + 1) ju)) → Holds a f n (newOuter a I J .upper)
-    unfolding newOuter loopAt lowerSpan upperSpan
-    outer-up h = rw (e .il-is, e .iu-is, e .ju-is) at h
+      pub outer-up : Holds a f n (flatMap (λ l. outerPart a (limitsOf s a iu) (limitsOf s a il) (outerCoefficient a l) l) (limitsOf s (a + 1) ju)) → Holds a f n (newOuter a I J .upper)
+      unfolding newOuter loopAt lowerSpan upperSpan
+      outer-up h = rw (e .il-is, e .iu-is, e .ju-is) at h
 
-    pub inner-low : Holds (a + 1) f n (map widened (limitsOf s a il) ++ (flatMap (takenOf false a) (limitsOf s (a + 1) jl) ++ flatMap (takenOf true a) (limitsOf s (a + 1) ju))) → Holds (a + 1) f n (newInner a I J .lower)
-    unfolding newInner takenOf loopAt lowerSpan upperSpan
-    inner-low h = rw (e .il-is, e .jl-is, e .ju-is) at h
+      pub inner-low : Holds (a + 1) f n (map widened (limitsOf s a il) ++ (flatMap (takenOf false a) (limitsOf s (a + 1) jl) ++ flatMap (takenOf true a) (limitsOf s (a + 1) ju))) → Holds (a + 1) f n (newInner a I J .lower)
+      unfolding newInner takenOf loopAt lowerSpan upperSpan
+      inner-low h = rw (e .il-is, e .jl-is, e .ju-is) at h
 
-    pub inner-up : Holds (a + 1) f n (map widened (limitsOf s a iu) ++ (flatMap (takenOf true a) (limitsOf s (a + 1) jl) ++ flatMap (takenOf false a) (limitsOf s (a + 1) ju))) → Holds (a + 1) f n (newInner a I J .upper)
-    unfolding newInner takenOf loopAt lowerSpan upperSpan
-    inner-up h = rw (e .iu-is, e .jl-is, e .ju-is) at h
+      pub inner-up : Holds (a + 1) f n (map widened (limitsOf s a iu) ++ (flatMap (takenOf true a) (limitsOf s (a + 1) jl) ++ flatMap (takenOf false a) (limitsOf s (a + 1) ju))) → Holds (a + 1) f n (newInner a I J .upper)
+      unfolding newInner takenOf loopAt lowerSpan upperSpan
+      inner-up h = rw (e .iu-is, e .jl-is, e .ju-is) at h
 
 -- ---- a loop's two sides
 

@@ -11,17 +11,17 @@ use lib.IntN.{ℤ, pos, _+ℤ_, zero-*ℤ}
 use lib.ListN.{length, getD, drop, set, replicate, length-set, length-append, length-replicate, List·getD-append}
 use lib.Seq.{getD-take, getD-drop, getD-set-same, getD-set-other, getD-at}
 use Rattle.integers.specs.Difference.{size}
-use Rattle.integers.specs.Division.{floorDiv, ceilDiv}
 use Rattle.model.specs.Ticket.{Limit}
-use Rattle.model.specs.Points.{largest, smallest}
 use Rattle.model.specs.Quick as Model
-use Rattle.model.specs.Quick.{leastTerm, greatestTerm, leastSum, greatestSum, cut, rangeOf, rangesFrom, ranges}
+use Rattle.model.specs.Quick.{leastTerm, greatestTerm, cut, rangeOf, rangesFrom, ranges}
 use Rattle.bounds.specs.Flat.{NestOk, limitAt, limitsAt, loopAt, loopsFrom}
+use Rattle.bounds.proofs.Sides.{Side, lower, upper, rounded, tightest}
 use Rattle.extremes.specs.declared.Range.{Range}
 use Rattle.extremes.specs.Ranges.{rangeAs, rangesOf, NearRange, NearRanges}
 use Rattle.extremes.specs.Values.{leastOf, greatestOf, largestFrom, smallestFrom, rangeAt, Free, LoopIn}
 use Rattle.extremes.proofs.TermLaws.{copy}
 use Rattle.extremes.proofs.SumLaws.{noRange, ranges-length, ranges-at}
+use Rattle.extremes.proofs.ExtremeLaws.{extremeTerm, extremeSum, extremeOf, sum-none, sum-cons}
 use Rattle.extremes.proofs.RangeLaws.{least-cut, greatest-cut, ranges-more, range-made}
 
 pub free-more : (s : List ℤ) (j l i : ℕ) → Free s j l i → getD s ((j + l) * 8 + 2 + i) (pos 0) ≡ pos 0 → Free s j (l + 1) i
@@ -29,34 +29,26 @@ free-more s j l i f e m h = ⊎-elim (λ g. ap (λ (z : ℕ). getD s ((j + z) * 
 
 -- ---- sums
 
--- what the least and the greatest sum have in common
-record Sums (term : ℤ → Model.Range → ℤ) (sum : List ℤ → List Model.Range → ℤ) : Type 0 where
-  none : (rs qs : List Model.Range) → sum [] rs ≡ sum [] qs
-  more : (c : ℤ) (cs : List ℤ) (r : Model.Range) (rs : List Model.Range) → sum (c ∷ cs) (r ∷ rs) ≡ term c r +ℤ sum cs rs
-  nothing : (r : Model.Range) → term (pos 0) r ≡ pos 0
-
-least-sums : Sums leastTerm leastSum
-unfolding leastTerm leastSum
-least-sums = record { none = λ rs qs. refl; more = λ c cs r rs. refl; nothing = λ r. zero-*ℤ (r .greatest) }
-
-greatest-sums : Sums greatestTerm greatestSum
-unfolding greatestTerm greatestSum
-greatest-sums = record { none = λ rs qs. refl; more = λ c cs r rs. refl; nothing = λ r. zero-*ℤ (r .least) }
+term-none : (d : Side) (r : Model.Range) → extremeTerm d (pos 0) r ≡ pos 0
+unfolding leastTerm greatestTerm
+term-none lower r = zero-*ℤ (r .greatest)
+term-none upper r = zero-*ℤ (r .least)
 
 -- the ranges are the same, but at coefficients of 0
 abbrev Alike : List ℤ → List Model.Range → List Model.Range → Type 0
 Alike cs rs qs = (i : ℕ) → i < length rs → (getD cs i (pos 0) ≡ pos 0) ⊎ (getD rs i (rangeAs noRange) ≡ getD qs i (rangeAs noRange))
 
-sum-alike : {term : ℤ → Model.Range → ℤ} {sum : List ℤ → List Model.Range → ℤ} → Sums term sum → (cs : List ℤ) (rs qs : List Model.Range) → length rs ≡ length qs → Alike cs rs qs → sum cs rs ≡ sum cs qs
-sum-alike p [] rs qs l h = p .none rs qs
-sum-alike p (c ∷ cs) [] [] l h = refl
-sum-alike p (c ∷ cs) [] (q ∷ qs) l h = absurd (omega arith)
-sum-alike p (c ∷ cs) (r ∷ rs) [] l h = absurd (omega arith)
-sum-alike {term} p (c ∷ cs) (r ∷ rs) (q ∷ qs) l h = p .more c cs r rs ∙ ap₂ _+ℤ_ (same (h 0 (omega arith))) (sum-alike p cs rs qs (omega arith) (λ i k. h (suc i) (omega arith))) ∙ sym (p .more c cs q qs)
+sum-alike : (d : Side) (cs : List ℤ) (rs qs : List Model.Range) → length rs ≡ length qs → Alike cs rs qs → extremeSum d cs rs ≡ extremeSum d cs qs
+sum-alike d [] rs qs l h = sum-none d rs ∙ sym (sum-none d qs)
+sum-alike d (c ∷ cs) [] [] l h = refl
+sum-alike d (c ∷ cs) [] (q ∷ qs) l h = absurd (omega arith)
+sum-alike d (c ∷ cs) (r ∷ rs) [] l h = absurd (omega arith)
+sum-alike d (c ∷ cs) (r ∷ rs) (q ∷ qs) l h =
+    sum-cons d c cs r rs ∙ ap₂ _+ℤ_ (same (h 0 (omega arith))) (sum-alike d cs rs qs (omega arith) (λ i k. h (suc i) (omega arith))) ∙ sym (sum-cons d c cs q qs)
   where
-    same : (c ≡ pos 0) ⊎ (r ≡ q) → term c r ≡ term c q
-    same (inl e) = ap (λ (z : ℤ). term z r) e ∙ p .nothing r ∙ sym (p .nothing q) ∙ ap (λ (z : ℤ). term z q) (sym e)
-    same (inr e) = ap (term c) e
+    same : (c ≡ pos 0) ⊎ (r ≡ q) → extremeTerm d c r ≡ extremeTerm d c q
+    same (inl e) = rw (e, term-none d r, term-none d q)
+    same (inr e) = ap (extremeTerm d c) e
 
 -- ---- the limits of one side
 
@@ -79,17 +71,13 @@ record AlikeBut (s : List ℤ) (k j n : ℕ) (rs qs : List Model.Range) : Type 0
   same : (i : ℕ) → i < k → Free s j n i ⊎ (getD rs i (rangeAs noRange) ≡ getD qs i (rangeAs noRange))
 
 module _ (s : List ℤ) (k j n : ℕ) (rs qs : List Model.Range) (p : AlikeBut s k j n rs qs) where
-  sums-alike : {term : ℤ → Model.Range → ℤ} {sum : List ℤ → List Model.Range → ℤ} → Sums term sum → (l : ℕ) → l < n → sum (limitAt s k (j + l) .coefficients) rs ≡ sum (limitAt s k (j + l) .coefficients) qs
-  sums-alike q l h = let a = p .count in sum-alike q (limitAt s k (j + l) .coefficients) rs qs (p .count ∙ sym (p .counts))
+  sums-alike : (d : Side) (l : ℕ) → l < n → extremeSum d (limitAt s k (j + l) .coefficients) rs ≡ extremeSum d (limitAt s k (j + l) .coefficients) qs
+  sums-alike d l h = let a = p .count in sum-alike d (limitAt s k (j + l) .coefficients) rs qs (p .count ∙ sym (p .counts))
       (λ i g. ⊎-elim (λ f. inl (coefficient-at s k (j + l) i (omega arith) ∙ f l h)) inr (p .same i (omega arith)))
 
-  largest-alike : largestFrom s k j n rs ≡ largestFrom s k j n qs
-  unfolding largestFrom leastOf
-  largest-alike = ap largest (limits-alike (leastOf rs) (leastOf qs) s k j n (λ l h. let m = limitAt s k (j + l) in ap (λ (z : ℤ). ceilDiv (m .constant +ℤ z) (pos (m .multiplier))) (sums-alike least-sums l h)))
-
-  smallest-alike : smallestFrom s k j n rs ≡ smallestFrom s k j n qs
-  unfolding smallestFrom greatestOf
-  smallest-alike = ap smallest (limits-alike (greatestOf rs) (greatestOf qs) s k j n (λ l h. let m = limitAt s k (j + l) in ap (λ (z : ℤ). floorDiv (m .constant +ℤ z) (pos (m .multiplier))) (sums-alike greatest-sums l h)))
+  side-alike : (d : Side) → tightest d (map (extremeOf d rs) (limitsAt s k j n)) ≡ tightest d (map (extremeOf d qs) (limitsAt s k j n))
+  side-alike d = ap (tightest d) (limits-alike (extremeOf d rs) (extremeOf d qs) s k j n
+      (λ l h. let m = limitAt s k (j + l) in ap (λ (z : ℤ). rounded d (m .constant +ℤ z) (pos (m .multiplier))) (sums-alike d l h)))
 
 -- ---- the ranges of a nest, one by one
 
@@ -176,11 +164,11 @@ module _ (s : List ℤ) (c : List ℕ) (k i : ℕ) (b : List Range) (q : NestOk 
   full = ranges (loopsFrom s c 0 k)
 
   pub needed-least : NeededAre s c (k * 32) (getD c (k * 2) 0) i b → r ≡ rangeOf (rangesOf k b) (loopAt s c k) .least → r ≡ rangeAt s c k .least
-  unfolding rangeAt
+  unfolding rangeAt largestFrom leastOf
   needed-least p e = let m = getD c (k * 2) 0 in
-      e ∙ sym (least-cut s c k (rangesOf k b) _ _ refl refl) ∙ ap cut (largest-alike s k (k * 32) m (rangesOf k b) full (alike-but s c (k * 32) m k i b q p h)) ∙ least-cut s c k full _ _ refl refl
+      e ∙ sym (least-cut s c k (rangesOf k b) _ _ refl refl) ∙ ap cut (side-alike s k (k * 32) m (rangesOf k b) full (alike-but s c (k * 32) m k i b q p h) lower) ∙ least-cut s c k full _ _ refl refl
 
   pub needed-greatest : NeededAre s c (k * 32 + 16) (getD c (k * 2 + 1) 0) i b → r ≡ rangeOf (rangesOf k b) (loopAt s c k) .greatest → r ≡ rangeAt s c k .greatest
-  unfolding rangeAt
+  unfolding rangeAt smallestFrom greatestOf
   needed-greatest p e = let m = getD c (k * 2 + 1) 0 in
-      e ∙ sym (greatest-cut s c k (rangesOf k b) _ _ refl refl) ∙ ap cut (smallest-alike s k (k * 32 + 16) m (rangesOf k b) full (alike-but s c (k * 32 + 16) m k i b q p h)) ∙ greatest-cut s c k full _ _ refl refl
+      e ∙ sym (greatest-cut s c k (rangesOf k b) _ _ refl refl) ∙ ap cut (side-alike s k (k * 32 + 16) m (rangesOf k b) full (alike-but s c (k * 32 + 16) m k i b q p h) upper) ∙ greatest-cut s c k full _ _ refl refl

@@ -1,5 +1,6 @@
 -- Laws that the crate's contracts need.
 pub mod TermLaws
+pub mod ExtremeLaws
 pub mod SumLaws
 pub mod CutLaws
 pub mod ValueLaws

@@ -12,11 +12,12 @@ use Rattle.integers.specs.Affine.{Within}
 use Rattle.integers.proofs.RangeLaws.{size-add}
 use Rattle.integers.proofs.AffineLaws.{within-at, within-take}
 use Rattle.model.specs.Quick as Model
-use Rattle.model.specs.Quick.{leastTerm, greatestTerm, leastSum, greatestSum}
 use Rattle.bounds.proofs.LimitLaws.{within-drop, copied}
+use Rattle.bounds.proofs.Sides.{Side}
 use Rattle.extremes.specs.declared.Range.{Range}
-use Rattle.extremes.specs.Ranges.{rangeAs, rangesOf, NearRange, NearRanges, RangesIn, TermIn, SumIn}
-use Rattle.extremes.proofs.TermLaws.{copy, least-term-size, greatest-term-size}
+use Rattle.extremes.specs.Ranges.{rangeAs, rangesOf, NearRange, NearRanges, RangesIn, termBy, TermIn, SumIn}
+use Rattle.extremes.proofs.TermLaws.{copy}
+use Rattle.extremes.proofs.ExtremeLaws.{extremeTerm, extremeSum, endOf, other, term-is, sum-none, sum-short, sum-cons, end-size, term-size}
 
 -- ---- the ranges in the array
 
@@ -51,93 +52,69 @@ module _ (n : ℕ) (b : List Range) (p : RangesIn n b) where
 
 -- ---- one coefficient more
 
-least-more : (cs : List ℤ) (rs : List Model.Range) (i : ℕ) → i < length cs → i < length rs → leastSum (take (suc i) cs) rs ≡ leastSum (take i cs) rs +ℤ leastTerm (getD cs i (pos 0)) (getD rs i (rangeAs noRange))
-unfolding leastSum
-least-more [] rs i h k = absurd (omega arith)
-least-more (c ∷ cs) [] i h k = absurd (omega arith)
-least-more (c ∷ cs) (r ∷ rs) zero h k = +ℤ-idr (leastTerm c r) ∙ sym (+ℤ-idl (leastTerm c r))
-least-more (c ∷ cs) (r ∷ rs) (suc i) h k =
-    ap (leastTerm c r +ℤ_) (least-more cs rs i (omega arith) (omega arith)) ∙ sym (+ℤ-assoc (leastTerm c r) (leastSum (take i cs) rs) (leastTerm (getD cs i (pos 0)) (getD rs i (rangeAs noRange))))
+sum-more : (d : Side) (cs : List ℤ) (rs : List Model.Range) (i : ℕ) → i < length cs → i < length rs
+    → extremeSum d (take (suc i) cs) rs ≡ extremeSum d (take i cs) rs +ℤ extremeTerm d (getD cs i (pos 0)) (getD rs i (rangeAs noRange))
+sum-more d [] rs i h k = absurd (omega arith)
+sum-more d (c ∷ cs) [] i h k = absurd (omega arith)
+sum-more d (c ∷ cs) (r ∷ rs) zero h k = sum-cons d c [] r rs ∙ rw (sum-none d rs, sum-none d (r ∷ rs)) (+ℤ-idr (extremeTerm d c r) ∙ sym (+ℤ-idl (extremeTerm d c r)))
+sum-more d (c ∷ cs) (r ∷ rs) (suc i) h k = let x = extremeTerm d (getD cs i (pos 0)) (getD rs i (rangeAs noRange)) in
+    sum-cons d c (take (suc i) cs) r rs ∙ ap (extremeTerm d c r +ℤ_) (sum-more d cs rs i (omega arith) (omega arith))
+    ∙ sym (+ℤ-assoc (extremeTerm d c r) (extremeSum d (take i cs) rs) x) ∙ ap (_+ℤ x) (sym (sum-cons d c (take i cs) r rs))
 
-greatest-more : (cs : List ℤ) (rs : List Model.Range) (i : ℕ) → i < length cs → i < length rs → greatestSum (take (suc i) cs) rs ≡ greatestSum (take i cs) rs +ℤ greatestTerm (getD cs i (pos 0)) (getD rs i (rangeAs noRange))
-unfolding greatestSum
-greatest-more [] rs i h k = absurd (omega arith)
-greatest-more (c ∷ cs) [] i h k = absurd (omega arith)
-greatest-more (c ∷ cs) (r ∷ rs) zero h k = +ℤ-idr (greatestTerm c r) ∙ sym (+ℤ-idl (greatestTerm c r))
-greatest-more (c ∷ cs) (r ∷ rs) (suc i) h k =
-    ap (greatestTerm c r +ℤ_) (greatest-more cs rs i (omega arith) (omega arith)) ∙ sym (+ℤ-assoc (greatestTerm c r) (greatestSum (take i cs) rs) (greatestTerm (getD cs i (pos 0)) (getD rs i (rangeAs noRange))))
-
--- ---- sizes
-
-least-size : (cs : List ℤ) (rs : List Model.Range) → Within 32767 cs → NearRanges rs → size (leastSum cs rs) ≤ length rs * 1073676289
-unfolding leastSum
-least-size [] rs w n = omega arith
-least-size (c ∷ cs) [] w n = omega arith
-least-size (c ∷ cs) (r ∷ rs) w n = omega (arith, least-size cs rs (w .1) (n .1), least-term-size c r (w .0) (n .0), size-add (leastTerm c r) (leastSum cs rs))
-
-greatest-size : (cs : List ℤ) (rs : List Model.Range) → Within 32767 cs → NearRanges rs → size (greatestSum cs rs) ≤ length rs * 1073676289
-unfolding greatestSum
-greatest-size [] rs w n = omega arith
-greatest-size (c ∷ cs) [] w n = omega arith
-greatest-size (c ∷ cs) (r ∷ rs) w n = omega (arith, greatest-size cs rs (w .1) (n .1), greatest-term-size c r (w .0) (n .0), size-add (greatestTerm c r) (greatestSum cs rs))
+sum-size : (d : Side) (cs : List ℤ) (rs : List Model.Range) → Within 32767 cs → NearRanges rs → size (extremeSum d cs rs) ≤ length rs * 1073676289
+sum-size d [] rs w n = rw (sum-none d rs) (omega arith)
+sum-size d (c ∷ cs) [] w n = rw (sum-short d c cs) (omega arith)
+sum-size d (c ∷ cs) (r ∷ rs) w n = rw (sum-cons d c cs r rs)
+    (omega (arith, sum-size d cs rs (w .1) (n .1), term-size d c r (w .0) (n .0), size-add (extremeTerm d c r) (extremeSum d cs rs)))
 
 -- ---- what the code's loops keep: the sum of the first i terms
 
-pub record LeastSoFar (w : List ℤ) (at n : ℕ) (b : List Range) (i : ℕ) (e : ℤ) : Type 0 where
-  pub is : e ≡ leastSum (take i (drop at w)) (rangesOf n b)
+pub record SoFar (d : Side) (w : List ℤ) (at n : ℕ) (b : List Range) (i : ℕ) (e : ℤ) : Type 0 where
+  pub is : e ≡ extremeSum d (take i (drop at w)) (rangesOf n b)
 
-pub record GreatestSoFar (w : List ℤ) (at n : ℕ) (b : List Range) (i : ℕ) (e : ℤ) : Type 0 where
-  pub is : e ≡ greatestSum (take i (drop at w)) (rangesOf n b)
-
-module _ (w : List ℤ) (at n : ℕ) (b : List Range) (p : SumIn w at n b) where
-  pub least-none : LeastSoFar w at n b 0 (pos 0)
-  unfolding leastSum
-  least-none = record { is = refl }
-
-  pub greatest-none : GreatestSoFar w at n b 0 (pos 0)
-  unfolding greatestSum
-  greatest-none = record { is = refl }
+module _ (d : Side) (w : List ℤ) (at n : ℕ) (b : List Range) (p : SumIn w at n b) where
+  pub nothing-yet : SoFar d w at n b 0 (pos 0)
+  nothing-yet = record { is = sym (sum-none d (rangesOf n b)) }
 
   small-words : (i : ℕ) → Within 32767 (take i (drop at w))
   small-words i = within-take 32767 (drop at w) i (within-drop 32767 w at (p .small))
 
-  module _ (i : ℕ) (e : ℤ) where
-    pub least-so-far-size : LeastSoFar w at n b i e → size e ≤ 6442057734
-    least-so-far-size q = let l = count-of n b (p .ranges) in let f = p .ranges .few in
-        subst (λ z. size z ≤ 6442057734) (sym (q .is)) (omega (arith, least-size (take i (drop at w)) (rangesOf n b) (small-words i) (p .ranges .near)))
-
-    pub greatest-so-far-size : GreatestSoFar w at n b i e → size e ≤ 6442057734
-    greatest-so-far-size q = let l = count-of n b (p .ranges) in let f = p .ranges .few in
-        subst (λ z. size z ≤ 6442057734) (sym (q .is)) (omega (arith, greatest-size (take i (drop at w)) (rangesOf n b) (small-words i) (p .ranges .near)))
+  module _ (i : ℕ) (e : ℤ) (q : SoFar d w at n b i e) where
+    so-far-size : size e ≤ 6442057734
+    so-far-size = let l = count-of n b (p .ranges) in let f = p .ranges .few in
+        subst (λ z. size z ≤ 6442057734) (sym (q .is)) (omega (arith, sum-size d (take i (drop at w)) (rangesOf n b) (small-words i) (p .ranges .near)))
 
     word-small : size (getD w (at + i) (pos 0)) ≤ 32767
     word-small = within-at 32767 w (p .small) (at + i)
 
-    module _ {c : ℤ} (d : c ≡ getD w (at + i) (pos 0)) where
+    module _ {c : ℤ} (v : c ≡ getD w (at + i) (pos 0)) (h : i < n) where
+      abbrev r : Model.Range
+      r = rangeAs (getD b i noRange)
+
       word-is : copy c ≡ getD w (at + i) (pos 0)
-      word-is = let s = word-small in ap copy d ∙ copied (getD w (at + i) (pos 0)) (omega arith)
+      word-is = let s = word-small in ap copy v ∙ copied (getD w (at + i) (pos 0)) (omega arith)
 
-      pub term-in : i < n → size e ≤ 6442057734 → TermIn e (copy c) (getD b i noRange)
-      term-in h s = record { sum = omega arith; coefficient = rw word-is word-small; range = range-near n b (p .ranges) i h }
+      end-is : (f : Side) → copy (endOf f r) ≡ endOf f r
+      end-is f = let s = end-size f r (range-near n b (p .ranges) i h) in copied (endOf f r) (omega arith)
 
-      module _ (h : i < n) (f : ℤ) where
-        in-words : i < length (drop at w)
-        in-words = let l = length-drop at w in let v = p .inside in omega arith
+      pub term-in : TermIn e (copy c) (copy (endOf d r)) (copy (endOf (other d) r))
+      term-in = let s = so-far-size in let g = range-near n b (p .ranges) i h in
+          record { sum = omega arith; coefficient = rw word-is word-small; up = rw (end-is d) (end-size d r g); down = rw (end-is (other d)) (end-size (other d) r g) }
 
-        in-ranges : i < length (rangesOf n b)
-        in-ranges = let l = count-of n b (p .ranges) in omega arith
+      in-words : i < length (drop at w)
+      in-words = let l = length-drop at w in let o = p .inside in omega arith
 
-        range-is : getD (rangesOf n b) i (rangeAs noRange) ≡ rangeAs (getD b i noRange)
-        range-is = let s = p .ranges .six in let g = p .ranges .few in ranges-at n b i h (omega arith)
+      in-ranges : i < length (rangesOf n b)
+      in-ranges = let l = count-of n b (p .ranges) in omega arith
 
-        pub least-next : LeastSoFar w at n b i e → f ≡ e +ℤ leastTerm (copy c) (rangeAs (getD b i noRange)) → LeastSoFar w at n b (i + 1) f
-        least-next q g = record { is = g ∙ rw (q .is, word-is) (sym (rw (add-one i, least-more (drop at w) (rangesOf n b) i in-words in-ranges, getD-drop at w i (pos 0), range-is))) }
+      range-is : getD (rangesOf n b) i (rangeAs noRange) ≡ r
+      range-is = let s = p .ranges .six in let g = p .ranges .few in ranges-at n b i h (omega arith)
 
-        pub greatest-next : GreatestSoFar w at n b i e → f ≡ e +ℤ greatestTerm (copy c) (rangeAs (getD b i noRange)) → GreatestSoFar w at n b (i + 1) f
-        greatest-next q g = record { is = g ∙ rw (q .is, word-is) (sym (rw (add-one i, greatest-more (drop at w) (rangesOf n b) i in-words in-ranges, getD-drop at w i (pos 0), range-is))) }
+      pub next-sum : (f : ℤ) → f ≡ e +ℤ termBy (copy c) (copy (endOf d r)) (copy (endOf (other d) r)) → SoFar d w at n b (i + 1) f
+      next-sum f g = record {
+        is = g ∙ rw (q .is, word-is, end-is d, end-is (other d), ← term-is d (getD w (at + i) (pos 0)) r)
+            (sym (rw (add-one i, sum-more d (drop at w) (rangesOf n b) i in-words in-ranges, getD-drop at w i (pos 0), range-is)));
+      }
 
-    pub least-whole : i ≡ n → LeastSoFar w at n b i e → (e ≡ leastSum (take n (drop at w)) (rangesOf n b)) × (size e ≤ 6442057734)
-    least-whole h q = (q .is ∙ ap (λ (m : ℕ). leastSum (take m (drop at w)) (rangesOf n b)) h, least-so-far-size q)
-
-    pub greatest-whole : i ≡ n → GreatestSoFar w at n b i e → (e ≡ greatestSum (take n (drop at w)) (rangesOf n b)) × (size e ≤ 6442057734)
-    greatest-whole h q = (q .is ∙ ap (λ (m : ℕ). greatestSum (take m (drop at w)) (rangesOf n b)) h, greatest-so-far-size q)
+    pub whole-sum : i ≡ n → (e ≡ extremeSum d (take n (drop at w)) (rangesOf n b)) × (size e ≤ 6442057734)
+    whole-sum h = (q .is ∙ ap (λ (m : ℕ). extremeSum d (take m (drop at w)) (rangesOf n b)) h, so-far-size)

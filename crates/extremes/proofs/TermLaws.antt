@@ -9,12 +9,8 @@ use mir.Syntax.{w64}
 use mir.Val.{SFits, toZ, ofZ}
 use Rattle.integers.specs.Difference.{size}
 use Rattle.integers.proofs.RangeLaws.{back, size-fits, size-add, size-mul}
-use Rattle.lists.proofs.TestLaws.{cond-cases}
-use Rattle.model.specs.Quick as Model
-use Rattle.model.specs.Quick.{leastTerm, greatestTerm}
 use Rattle.bounds.proofs.LimitLaws.{copied}
-use Rattle.extremes.specs.declared.Range.{Range}
-use Rattle.extremes.specs.Ranges.{rangeAs, NearRange, TermIn}
+use Rattle.extremes.specs.Ranges.{termBy, TermIn}
 
 -- the machine's copy
 abbrev pub copy : ℤ → ℤ
@@ -43,32 +39,14 @@ module _ (e c x : ℤ) (he : size e ≤ 17179869184) (hc : size c ≤ 32767) (hx
 
 -- ---- by the coefficient's sign
 
-module _ (e c : ℤ) (r : Range) (p : TermIn e c r) where
+module _ (e c x y : ℤ) (p : TermIn e c x y) where
   sign-is : ltZ (pos 0) (copy c) ≡ ltZ (pos 0) c
   sign-is = let h = p .coefficient in rw (copied c (omega arith))
 
-  pub least-up : ltZ (pos 0) (copy c) ≡ true → copy (copy e +ℤ copy (copy c *ℤ copy (r .least))) ≡ e +ℤ leastTerm c (rangeAs r)
-  unfolding leastTerm
-  least-up t = sum-is e c (r .least) (p .sum) (p .coefficient) (p .range .low) ∙ rw (sym sign-is ∙ t)
+  pub term-up : ltZ (pos 0) (copy c) ≡ true → copy (copy e +ℤ copy (copy c *ℤ copy x)) ≡ e +ℤ termBy c x y
+  unfolding termBy
+  term-up t = sum-is e c x (p .sum) (p .coefficient) (p .up) ∙ rw (sym sign-is ∙ t)
 
-  pub least-down : ltZ (pos 0) (copy c) ≡ false → copy (copy e +ℤ copy (copy c *ℤ copy (r .greatest))) ≡ e +ℤ leastTerm c (rangeAs r)
-  unfolding leastTerm
-  least-down t = sum-is e c (r .greatest) (p .sum) (p .coefficient) (p .range .high) ∙ rw (sym sign-is ∙ t)
-
-  pub greatest-up : ltZ (pos 0) (copy c) ≡ true → copy (copy e +ℤ copy (copy c *ℤ copy (r .greatest))) ≡ e +ℤ greatestTerm c (rangeAs r)
-  unfolding greatestTerm
-  greatest-up t = sum-is e c (r .greatest) (p .sum) (p .coefficient) (p .range .high) ∙ rw (sym sign-is ∙ t)
-
-  pub greatest-down : ltZ (pos 0) (copy c) ≡ false → copy (copy e +ℤ copy (copy c *ℤ copy (r .least))) ≡ e +ℤ greatestTerm c (rangeAs r)
-  unfolding greatestTerm
-  greatest-down t = sum-is e c (r .least) (p .sum) (p .coefficient) (p .range .low) ∙ rw (sym sign-is ∙ t)
-
--- ---- sizes
-
-pub least-term-size : (c : ℤ) (r : Model.Range) → size c ≤ 32767 → NearRange r → size (leastTerm c r) ≤ 1073676289
-unfolding leastTerm
-least-term-size c r h n = cond-cases (λ z. size z ≤ 1073676289) (ltZ (pos 0) c) (c *ℤ r .least) (c *ℤ r .greatest) (λ _. size-mul c (r .least) h (n .low)) (λ _. size-mul c (r .greatest) h (n .high))
-
-pub greatest-term-size : (c : ℤ) (r : Model.Range) → size c ≤ 32767 → NearRange r → size (greatestTerm c r) ≤ 1073676289
-unfolding greatestTerm
-greatest-term-size c r h n = cond-cases (λ z. size z ≤ 1073676289) (ltZ (pos 0) c) (c *ℤ r .greatest) (c *ℤ r .least) (λ _. size-mul c (r .greatest) h (n .high)) (λ _. size-mul c (r .least) h (n .low))
+  pub term-down : ltZ (pos 0) (copy c) ≡ false → copy (copy e +ℤ copy (copy c *ℤ copy y)) ≡ e +ℤ termBy c x y
+  unfolding termBy
+  term-down t = sum-is e c y (p .sum) (p .coefficient) (p .down) ∙ rw (sym sign-is ∙ t)

@@ -1,9 +1,9 @@
 -- Ranges as the code holds them, an array of six, and sums over them: what the functions that sum ask.
 use mathlib.Core.Path.{_≡_}
-use mathlib.Core.Bool.{Bool}
+use mathlib.Core.Bool.{Bool, cond}
 use mathlib.Core.List.{List, [], _∷_, map}
 use Prim.Native.Nat.{ℕ, _+_, _≤_}
-use lib.IntN.{ℤ}
+use lib.IntN.{ℤ, pos, _*ℤ_}
 use lib.Signed.{ltZ}
 use lib.ListN.{length, take}
 use Rattle.integers.specs.Difference.{size}
@@ -38,11 +38,16 @@ pub record RangesIn (n : ℕ) (b : List Range) : Type 0 where
   pub few : n ≤ mostLoops
   pub near : NearRanges (rangesOf n b)
 
--- a sum, and a coefficient with the range of its index
-pub record TermIn (e c : ℤ) (r : Range) : Type 0 where
+-- a coefficient times the one index where it is above 0, else times the other
+unfoldable pub termBy : ℤ → ℤ → ℤ → ℤ
+termBy c rising falling = cond (ltZ (pos 0) c) (c *ℤ rising) (c *ℤ falling)
+
+-- a sum, and a coefficient with two indices
+pub record TermIn (e c rising falling : ℤ) : Type 0 where
   pub sum : size e ≤ 17179869184
   pub coefficient : size c ≤ 32767
-  pub range : NearRange (rangeAs r)
+  pub up : size rising ≤ 32767
+  pub down : size falling ≤ 32767
 
 -- n coefficients from place at on
 pub record SumIn (w : List ℤ) (at n : ℕ) (b : List Range) : Type 0 where

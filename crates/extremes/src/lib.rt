@@ -7,10 +7,10 @@ ghost use Prim.Native.Nat.{suc, _+_, _*_, _≤_, _<_};
 ghost use lib.IntN.{_+ℤ_};
 ghost use lib.ListN.{length, take, drop};
 ghost use Rattle.integers.specs.Difference.{size};
-ghost use Rattle.model.specs.Quick.{leastTerm, greatestTerm, leastSum, greatestSum, rangeOf};
+ghost use Rattle.model.specs.Quick.{leastSum, greatestSum, rangeOf};
 ghost use Rattle.model.specs.Grammar.{nestLimits, nestRoom, mostLoops};
 ghost use Rattle.bounds.specs.Flat.{NestOk, limitAt, loopAt};
-ghost use Rattle.extremes.specs.Ranges.{rangeAs, rangesOf, TermIn, SumIn};
+ghost use Rattle.extremes.specs.Ranges.{rangesOf, termBy, TermIn, SumIn};
 ghost use Rattle.extremes.specs.Values.{leastOf, greatestOf, largestFrom, smallestFrom, rangeAt, Free, LimitIn, SideIn, LoopIn, RangesAre};
 
 // The least and the greatest value of an index.
@@ -19,33 +19,18 @@ pub struct Range {
     pub greatest: i64,
 }
 
-// The sum and the least that a coefficient times its index can be.
-fn plus_least(sum: Whole, c: i64, over: Range) -> Whole
-    requires { ⌜ TermIn (sum .value) c over ⌝ }
-    ensures { λ s. ⌜ s .value ≡ sum .value +ℤ leastTerm c (rangeAs over) ⌝ }
+// The sum and a coefficient times an index: the one index where the coefficient is above 0, else the other.
+fn plus_term(sum: Whole, c: i64, rising: i64, falling: i64) -> Whole
+    requires { ⌜ TermIn (sum .value) c rising falling ⌝ }
+    ensures { λ s. ⌜ s .value ≡ sum .value +ℤ termBy c rising falling ⌝ }
 {
     if 0 < c {
         return Whole {
-            value: sum.value + c * over.least,
+            value: sum.value + c * rising,
         };
     }
     Whole {
-        value: sum.value + c * over.greatest,
-    }
-}
-
-// The sum and the greatest that a coefficient times its index can be.
-fn plus_greatest(sum: Whole, c: i64, r: Range) -> Whole
-    requires { ⌜ TermIn (sum .value) c r ⌝ }
-    ensures { λ s. ⌜ s .value ≡ sum .value +ℤ greatestTerm c (rangeAs r) ⌝ }
-{
-    if 0 < c {
-        return Whole {
-            value: sum.value + c * r.greatest,
-        };
-    }
-    Whole {
-        value: sum.value + c * r.least,
+        value: sum.value + c * falling,
     }
 }
 
@@ -57,7 +42,8 @@ pub fn least_sum(words: &[i16], at: usize, n: usize, ranges: [Range; LOOPS]) -> 
     let mut sum = Whole { value: 0 };
     let mut i = 0;
     while i < n {
-        sum = plus_least(sum, integers::word(words, at + i), ranges[i]);
+        let r = ranges[i];
+        sum = plus_term(sum, integers::word(words, at + i), r.least, r.greatest);
         i += 1;
     }
     sum
@@ -71,7 +57,8 @@ pub fn greatest_sum(words: &[i16], at: usize, n: usize, ranges: [Range; LOOPS]) 
     let mut sum = Whole { value: 0 };
     let mut i = 0;
     while i < n {
-        sum = plus_greatest(sum, integers::word(words, at + i), ranges[i]);
+        let r = ranges[i];
+        sum = plus_term(sum, integers::word(words, at + i), r.greatest, r.least);
         i += 1;
     }
     sum

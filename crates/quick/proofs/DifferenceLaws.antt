@@ -1,6 +1,6 @@
 -- The difference of two subscripts over two free iterations: its least value is the least of the one less the greatest of the other, its
 -- greatest the reverse. Then what the machine makes of it, and the test of one dimension.
-use mathlib.Core.Path.{_≡_, refl, sym, _∙_, ap, ap₂}
+use mathlib.Core.Path.{_≡_, sym, _∙_, ap, ap₂}
 use mathlib.Core.Bool.{Bool, true, false, not, _||_}
 use mathlib.Core.List.{List, [], _∷_, _++_, map}
 use Prim.Native.Nat.{ℕ, zero, suc, _+_, _*_, _≤_}
@@ -18,33 +18,27 @@ use Rattle.integers.proofs.AffineLaws.{within-at}
 use Rattle.integers.proofs.Polynomial.{_⊕_, _⊖_, _⊗_, ⊝, #}
 use Rattle.integers.proofs.Linear.{lin, _≐_}
 use Rattle.model.specs.Quick as Model
-use Rattle.model.specs.Quick.{leastTerm, greatestTerm, leastSum, greatestSum, difference, divides, neverZero}
+use Rattle.model.specs.Quick.{leastTerm, greatestTerm, difference, divides, neverZero}
 use Rattle.model.specs.Ticket.{Subscript}
 use Rattle.bounds.proofs.LimitLaws.{copied}
+use Rattle.bounds.proofs.Sides.{Side, lower, upper}
 use Rattle.elements.specs.Layout.{formAt}
 use Rattle.extremes.specs.declared.Range.{Range}
-use Rattle.extremes.specs.Ranges.{rangesOf}
+use Rattle.extremes.specs.Ranges.{rangesOf, termBy}
 use Rattle.quick.specs.Differences.{differenceAt, leastDifference, greatestDifference, PairIn, DifferenceIn}
 use Rattle.extremes.proofs.TermLaws.{copy}
+use Rattle.extremes.proofs.ExtremeLaws.{extremeTerm, extremeSum, other, sum-none, sum-short, sum-cons}
 use Rattle.extremes.proofs.SumLaws.{count-of}
 
 -- ---- sums of two lists, and of negatives
 
-least-append : (cs ds : List ℤ) (rs ss : List Model.Range) → length cs ≡ length rs → leastSum (cs ++ ds) (rs ++ ss) ≡ leastSum cs rs +ℤ leastSum ds ss
-unfolding leastSum
-least-append [] ds [] ss e = lin (leastSum ds ss ∷ []) (λ x. x ≐ # 0 ⊕ x) tt
-least-append [] ds (r ∷ rs) ss e = absurd (omega arith)
-least-append (c ∷ cs) ds [] ss e = absurd (omega arith)
-least-append (c ∷ cs) ds (r ∷ rs) ss e = ap (leastTerm c r +ℤ_) (least-append cs ds rs ss (omega arith))
-    ∙ lin (leastTerm c r ∷ leastSum cs rs ∷ leastSum ds ss ∷ []) (λ x y z. x ⊕ (y ⊕ z) ≐ (x ⊕ y) ⊕ z) tt
-
-greatest-append : (cs ds : List ℤ) (rs ss : List Model.Range) → length cs ≡ length rs → greatestSum (cs ++ ds) (rs ++ ss) ≡ greatestSum cs rs +ℤ greatestSum ds ss
-unfolding greatestSum
-greatest-append [] ds [] ss e = lin (greatestSum ds ss ∷ []) (λ x. x ≐ # 0 ⊕ x) tt
-greatest-append [] ds (r ∷ rs) ss e = absurd (omega arith)
-greatest-append (c ∷ cs) ds [] ss e = absurd (omega arith)
-greatest-append (c ∷ cs) ds (r ∷ rs) ss e = ap (greatestTerm c r +ℤ_) (greatest-append cs ds rs ss (omega arith))
-    ∙ lin (greatestTerm c r ∷ greatestSum cs rs ∷ greatestSum ds ss ∷ []) (λ x y z. x ⊕ (y ⊕ z) ≐ (x ⊕ y) ⊕ z) tt
+sum-append : (d : Side) (cs ds : List ℤ) (rs ss : List Model.Range) → length cs ≡ length rs → extremeSum d (cs ++ ds) (rs ++ ss) ≡ extremeSum d cs rs +ℤ extremeSum d ds ss
+sum-append d [] ds [] ss e = rw (sum-none d []) (lin (extremeSum d ds ss ∷ []) (λ x. x ≐ # 0 ⊕ x) tt)
+sum-append d [] ds (r ∷ rs) ss e = absurd (omega arith)
+sum-append d (c ∷ cs) ds [] ss e = absurd (omega arith)
+sum-append d (c ∷ cs) ds (r ∷ rs) ss e = sum-cons d c (cs ++ ds) r (rs ++ ss) ∙ ap (extremeTerm d c r +ℤ_) (sum-append d cs ds rs ss (omega arith))
+    ∙ lin (extremeTerm d c r ∷ extremeSum d cs rs ∷ extremeSum d ds ss ∷ []) (λ x y z. x ⊕ (y ⊕ z) ≐ (x ⊕ y) ⊕ z) tt
+    ∙ ap (_+ℤ extremeSum d ds ss) (sym (sum-cons d c cs r rs))
 
 neg-times : (a b : ℤ) → negℤ a *ℤ b ≡ negℤ (a *ℤ b)
 neg-times a b = lin (a ∷ b ∷ []) (λ a b. ⊝ a ⊗ b ≐ ⊝ (a ⊗ b)) tt
@@ -55,44 +49,31 @@ zero-times a b = lin (a ∷ b ∷ []) (λ a b. # 0 ⊗ a ≐ ⊝ (# 0 ⊗ b)) tt
 above : (n : ℕ) → ltZ (pos 0) (pos (suc n)) ≡ true
 above n = lt-test {a = pos 0} {b = pos (suc n)} (omega zarith)
 
-least-term-neg : (c : ℤ) (r : Model.Range) → leastTerm (negℤ c) r ≡ negℤ (greatestTerm c r)
-unfolding leastTerm greatestTerm
-least-term-neg (pos zero) r = zero-times (r .greatest) (r .least)
-least-term-neg (pos (suc n)) r = rw (above n) (neg-times (pos (suc n)) (r .greatest))
-least-term-neg (negsuc n) r = rw (above n) (neg-times (negsuc n) (r .least))
+by-neg : (c x y : ℤ) → termBy (negℤ c) x y ≡ negℤ (termBy c y x)
+unfolding termBy
+by-neg (pos zero) x y = zero-times y x
+by-neg (pos (suc n)) x y = rw (above n) (neg-times (pos (suc n)) y)
+by-neg (negsuc n) x y = rw (above n) (neg-times (negsuc n) x)
 
-greatest-term-neg : (c : ℤ) (r : Model.Range) → greatestTerm (negℤ c) r ≡ negℤ (leastTerm c r)
-unfolding leastTerm greatestTerm
-greatest-term-neg (pos zero) r = zero-times (r .least) (r .greatest)
-greatest-term-neg (pos (suc n)) r = rw (above n) (neg-times (pos (suc n)) (r .least))
-greatest-term-neg (negsuc n) r = rw (above n) (neg-times (negsuc n) (r .greatest))
+term-neg : (d : Side) (c : ℤ) (r : Model.Range) → extremeTerm d (negℤ c) r ≡ negℤ (extremeTerm (other d) c r)
+unfolding leastTerm greatestTerm termBy
+term-neg lower c r = by-neg c (r .least) (r .greatest)
+term-neg upper c r = by-neg c (r .greatest) (r .least)
 
 neg-sum : (a b : ℤ) → negℤ a +ℤ negℤ b ≡ negℤ (a +ℤ b)
 neg-sum a b = lin (a ∷ b ∷ []) (λ a b. ⊝ a ⊕ ⊝ b ≐ ⊝ (a ⊕ b)) tt
 
-least-neg : (cs : List ℤ) (rs : List Model.Range) → leastSum (map negℤ cs) rs ≡ negℤ (greatestSum cs rs)
-unfolding leastSum greatestSum
-least-neg [] rs = refl
-least-neg (c ∷ cs) [] = refl
-least-neg (c ∷ cs) (r ∷ rs) = rw (least-term-neg c r, least-neg cs rs) (neg-sum (greatestTerm c r) (greatestSum cs rs))
+sum-neg : (d : Side) (cs : List ℤ) (rs : List Model.Range) → extremeSum d (map negℤ cs) rs ≡ negℤ (extremeSum (other d) cs rs)
+sum-neg d [] rs = sum-none d rs ∙ ap negℤ (sym (sum-none (other d) rs))
+sum-neg d (c ∷ cs) [] = sum-short d (negℤ c) (map negℤ cs) ∙ ap negℤ (sym (sum-short (other d) c cs))
+sum-neg d (c ∷ cs) (r ∷ rs) = sum-cons d (negℤ c) (map negℤ cs) r rs ∙ ap₂ _+ℤ_ (term-neg d c r) (sum-neg d cs rs)
+    ∙ neg-sum (extremeTerm (other d) c r) (extremeSum (other d) cs rs) ∙ ap negℤ (sym (sum-cons (other d) c cs r rs))
 
-greatest-neg : (cs : List ℤ) (rs : List Model.Range) → greatestSum (map negℤ cs) rs ≡ negℤ (leastSum cs rs)
-unfolding leastSum greatestSum
-greatest-neg [] rs = refl
-greatest-neg (c ∷ cs) [] = refl
-greatest-neg (c ∷ cs) (r ∷ rs) = rw (greatest-term-neg c r, greatest-neg cs rs) (neg-sum (leastTerm c r) (leastSum cs rs))
-
--- the least and the greatest of the difference
-module _ (f g : Subscript) (rs : List Model.Range) (e : length (f .coefficients) ≡ length rs) where
-  pub least-of-difference : leastSum (difference f g .coefficients) (rs ++ rs) ≡ leastSum (f .coefficients) rs -ℤ greatestSum (g .coefficients) rs
-  unfolding difference
-  least-of-difference = least-append (f .coefficients) (map negℤ (g .coefficients)) rs rs e ∙ ap (leastSum (f .coefficients) rs +ℤ_) (least-neg (g .coefficients) rs)
-      ∙ lin (leastSum (f .coefficients) rs ∷ greatestSum (g .coefficients) rs ∷ []) (λ x y. x ⊕ ⊝ y ≐ x ⊖ y) tt
-
-  pub greatest-of-difference : greatestSum (difference f g .coefficients) (rs ++ rs) ≡ greatestSum (f .coefficients) rs -ℤ leastSum (g .coefficients) rs
-  unfolding difference
-  greatest-of-difference = greatest-append (f .coefficients) (map negℤ (g .coefficients)) rs rs e ∙ ap (greatestSum (f .coefficients) rs +ℤ_) (greatest-neg (g .coefficients) rs)
-      ∙ lin (greatestSum (f .coefficients) rs ∷ leastSum (g .coefficients) rs ∷ []) (λ x y. x ⊕ ⊝ y ≐ x ⊖ y) tt
+of-difference : (d : Side) (f g : Subscript) (rs : List Model.Range) → length (f .coefficients) ≡ length rs
+    → extremeSum d (difference f g .coefficients) (rs ++ rs) ≡ extremeSum d (f .coefficients) rs -ℤ extremeSum (other d) (g .coefficients) rs
+unfolding difference
+of-difference d f g rs e = sum-append d (f .coefficients) (map negℤ (g .coefficients)) rs rs e ∙ ap (extremeSum d (f .coefficients) rs +ℤ_) (sum-neg d (g .coefficients) rs)
+    ∙ lin (extremeSum d (f .coefficients) rs ∷ extremeSum (other d) (g .coefficients) rs ∷ []) (λ x y. x ⊕ ⊝ y ≐ x ⊖ y) tt
 
 -- ---- the machine's differences
 
@@ -148,16 +129,11 @@ module _ (w : List ℤ) (u v n : ℕ) (b : List Range) (p : DifferenceIn w u v n
   as-many = let c = count-of n b (p .ranges) in let i = p .pair .first .inside in let f = p .ranges .few in
       let l = length-take n (drop (u * 8 + 1) w) in let d = length-drop (u * 8 + 1) w in omega arith
 
-  module _ (c x y r : ℤ) (hc : c ≡ differenceAt w n u v .constant) where
-    pub least-difference-is : x ≡ leastSum (take n (drop (u * 8 + 1) w)) (rangesOf n b) → y ≡ greatestSum (take n (drop (v * 8 + 1) w)) (rangesOf n b) → r ≡ c +ℤ (x -ℤ y)
-        → r ≡ leastDifference w u v n (rangesOf n b)
-    unfolding leastDifference differenceAt formAt
-    least-difference-is hx hy e = e ∙ rw (hc, hx, hy) (ap (differenceAt w n u v .constant +ℤ_) (sym (least-of-difference (formAt w n u) (formAt w n v) (rangesOf n b) as-many)))
-
-    pub greatest-difference-is : x ≡ greatestSum (take n (drop (u * 8 + 1) w)) (rangesOf n b) → y ≡ leastSum (take n (drop (v * 8 + 1) w)) (rangesOf n b) → r ≡ c +ℤ (x -ℤ y)
-        → r ≡ greatestDifference w u v n (rangesOf n b)
-    unfolding greatestDifference differenceAt formAt
-    greatest-difference-is hx hy e = e ∙ rw (hc, hx, hy) (ap (differenceAt w n u v .constant +ℤ_) (sym (greatest-of-difference (formAt w n u) (formAt w n v) (rangesOf n b) as-many)))
+  pub difference-is : (d : Side) (c x y r : ℤ) → c ≡ differenceAt w n u v .constant → x ≡ extremeSum d (take n (drop (u * 8 + 1) w)) (rangesOf n b)
+      → y ≡ extremeSum (other d) (take n (drop (v * 8 + 1) w)) (rangesOf n b) → r ≡ c +ℤ (x -ℤ y)
+      → r ≡ differenceAt w n u v .constant +ℤ extremeSum d (differenceAt w n u v .coefficients) (rangesOf n b ++ rangesOf n b)
+  unfolding differenceAt formAt
+  difference-is d c x y r hc hx hy e = e ∙ rw (hc, hx, hy) (ap (differenceAt w n u v .constant +ℤ_) (sym (of-difference d (formAt w n u) (formAt w n v) (rangesOf n b) as-many)))
 
 -- ---- zero outside
 

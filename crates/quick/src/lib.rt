@@ -4,7 +4,7 @@ ghost use mathlib.Core.Path.{_≡_};
 ghost use mathlib.Core.Bool.{_||_};
 ghost use mathlib.Core.List.{_++_};
 ghost use Prim.Native.Nat.{_+_, _*_, _≤_};
-ghost use lib.IntN.{pos, natAbs};
+ghost use lib.IntN.{pos, natAbs, _+ℤ_, _-ℤ_};
 ghost use lib.Signed.{ltZ};
 ghost use lib.ListN.{take, drop};
 ghost use Rattle.integers.specs.Difference.{size};
@@ -96,6 +96,15 @@ fn constant_difference(words: &[i16], u: usize, v: usize, n: usize) -> Whole
     Whole { value: one - other }
 }
 
+fn plus_difference(c: Whole, e: Whole, f: Whole) -> Whole
+    requires { ⌜ (size (c .value) ≤ 65534) × (size (e .value) ≤ 6442057734) × (size (f .value) ≤ 6442057734) ⌝ }
+    ensures { λ r. ⌜ (r .value ≡ c .value +ℤ (e .value -ℤ f .value)) × (size (r .value) ≤ 34359738368) ⌝ }
+{
+    Whole {
+        value: c.value + (e.value - f.value),
+    }
+}
+
 // The least that subscript u less subscript v can be, over two free iterations.
 fn least_difference(words: &[i16], u: usize, v: usize, n: usize, ranges: [Range; LOOPS]) -> Whole
     requires { ⌜ DifferenceIn (now words) u v n ranges ⌝ }
@@ -104,9 +113,7 @@ fn least_difference(words: &[i16], u: usize, v: usize, n: usize, ranges: [Range;
     let c = constant_difference(words, u, v, n);
     let e = extremes::least_sum(words, u * 8 + 1, n, ranges);
     let f = extremes::greatest_sum(words, v * 8 + 1, n, ranges);
-    Whole {
-        value: c.value + (e.value - f.value),
-    }
+    plus_difference(c, e, f)
 }
 
 // The greatest that it can be.
@@ -117,9 +124,7 @@ fn greatest_difference(words: &[i16], u: usize, v: usize, n: usize, ranges: [Ran
     let c = constant_difference(words, u, v, n);
     let e = extremes::greatest_sum(words, u * 8 + 1, n, ranges);
     let f = extremes::least_sum(words, v * 8 + 1, n, ranges);
-    Whole {
-        value: c.value + (e.value - f.value),
-    }
+    plus_difference(c, e, f)
 }
 
 // Whether 0 lies outside the two.

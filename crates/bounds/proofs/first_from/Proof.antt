@@ -2,9 +2,11 @@
 use mathlib.Core.Path.{_≡_, _∙_}
 use Prim.Native.Nat.{_+_, _-_, _<_}
 use native.Mathlib.Omega.{arith}
-use Rattle.bounds.specs.Ranges.{Narrow, firstFrom}
+use lib.ListN.{length}
+use Rattle.bounds.specs.Ranges.{Narrow, ceilAt, firstFrom}
 use Rattle.bounds.proofs.LimitLaws.{copied}
-use Rattle.bounds.proofs.SideLaws.{divisor-at, first-last, first-before, first-all}
+use Rattle.bounds.proofs.SideLaws.{divisor-at, side-last, side-before, side-all}
+use Rattle.bounds.proofs.Sides.{lower}
 use Rattle.bounds.proofs.first_from.Statement.{statement}
 use Rattle.bounds.proofs.first_from.Tie as tie
 
@@ -24,8 +26,9 @@ low-at-requires : tie.Need-low-at-requires Inv-loop μ-loop
 low-at-requires c κs = let h = c .pre .some in divisor-at (c .pre) (c .args .n - 1) (omega arith)
 
 loop-holds : tie.Need-loop-holds Inv-loop μ-loop
+unfolding firstFrom
 loop-holds c = let s = c .before in let h = s .pre .some in let e = copied (c .low-at .result) (c .low-at .ensures .1) in
-    (omega arith, e ∙ c .low-at .ensures .0 ∙ first-last (s .pre), rw e (c .low-at .ensures .1))
+    (omega arith, e ∙ c .low-at .ensures .0 ∙ side-last lower (ceilAt (s .args .outer .now)) (s .args .nest .now) (length (s .args .outer .now)) (s .args .j) (s .args .n) h, rw e (c .low-at .ensures .1))
 
 sub-i-2 : tie.Need-sub-i-2 Inv-loop μ-loop
 sub-i-2 c = c .loop-test .taken
@@ -43,12 +46,14 @@ loop-less : tie.Need-loop-less Inv-loop μ-loop
 loop-less c = let h = c .before .before .loop-test .taken in omega arith
 
 loop-again : tie.Need-loop-again Inv-loop μ-loop
+unfolding firstFrom
 loop-again c = let s = c .before .before .before .before .before in let l = c .before .before .before .loop in let v = c .before .low-at2 in let e = copied (v .result) (v .ensures .1) in
-    (omega arith, c .larger .ensures .0 ∙ first-before (s .pre) (c .before .before .loop-test .taken) (l .inv .0) (l .r .value) _ (l .inv .1) (e ∙ v .ensures .0), c .larger .ensures .1)
+    (omega arith, c .larger .ensures .0 ∙ side-before lower (ceilAt (s .args .outer .now)) (s .args .nest .now) (length (s .args .outer .now)) (s .args .j) (s .args .n) (l .i) (c .before .before .loop-test .taken) (l .inv .0) (l .r .value) _ (l .inv .1) (e ∙ v .ensures .0), c .larger .ensures .1)
 
 returns : tie.Need-returns Inv-loop μ-loop
+unfolding firstFrom
 returns c = let s = c .before .before .before .before in let l = c .before .before .loop in
-    first-all (s .pre) (l .i) (omega (arith, c .before .loop-test .left)) (l .r .value) (l .inv .1) (l .inv .2)
+    let a = copied (l .r .value) (l .inv .2) in (a ∙ side-all lower (ceilAt (s .args .outer .now)) (s .args .nest .now) (length (s .args .outer .now)) (s .args .j) (s .args .n) (l .i) (omega (arith, c .before .loop-test .left)) (l .r .value) (l .inv .1), rw a (l .inv .2))
 
 pub first-from-spec : {M : Type 1} → statement M
 first-from-spec =

@@ -2,9 +2,11 @@
 use mathlib.Core.Path.{_≡_, _∙_}
 use Prim.Native.Nat.{_+_, _-_, _<_}
 use native.Mathlib.Omega.{arith}
-use Rattle.bounds.specs.Ranges.{Narrow, lastFrom}
+use lib.ListN.{length}
+use Rattle.bounds.specs.Ranges.{Narrow, floorAt, lastFrom}
 use Rattle.bounds.proofs.LimitLaws.{copied}
-use Rattle.bounds.proofs.SideLaws.{divisor-at, last-last, last-before, last-all}
+use Rattle.bounds.proofs.SideLaws.{divisor-at, side-last, side-before, side-all}
+use Rattle.bounds.proofs.Sides.{upper}
 use Rattle.bounds.proofs.last_from.Statement.{statement}
 use Rattle.bounds.proofs.last_from.Tie as tie
 
@@ -24,8 +26,9 @@ high-at-requires : tie.Need-high-at-requires Inv-loop μ-loop
 high-at-requires c κs = let h = c .pre .some in divisor-at (c .pre) (c .args .n - 1) (omega arith)
 
 loop-holds : tie.Need-loop-holds Inv-loop μ-loop
+unfolding lastFrom
 loop-holds c = let s = c .before in let h = s .pre .some in let e = copied (c .high-at .result) (c .high-at .ensures .1) in
-    (omega arith, e ∙ c .high-at .ensures .0 ∙ last-last (s .pre), rw e (c .high-at .ensures .1))
+    (omega arith, e ∙ c .high-at .ensures .0 ∙ side-last upper (floorAt (s .args .outer .now)) (s .args .nest .now) (length (s .args .outer .now)) (s .args .j) (s .args .n) h, rw e (c .high-at .ensures .1))
 
 sub-i-2 : tie.Need-sub-i-2 Inv-loop μ-loop
 sub-i-2 c = c .loop-test .taken
@@ -43,12 +46,14 @@ loop-less : tie.Need-loop-less Inv-loop μ-loop
 loop-less c = let h = c .before .before .loop-test .taken in omega arith
 
 loop-again : tie.Need-loop-again Inv-loop μ-loop
+unfolding lastFrom
 loop-again c = let s = c .before .before .before .before .before in let l = c .before .before .before .loop in let v = c .before .high-at2 in let e = copied (v .result) (v .ensures .1) in
-    (omega arith, c .smaller .ensures .0 ∙ last-before (s .pre) (c .before .before .loop-test .taken) (l .inv .0) (l .r .value) _ (l .inv .1) (e ∙ v .ensures .0), c .smaller .ensures .1)
+    (omega arith, c .smaller .ensures .0 ∙ side-before upper (floorAt (s .args .outer .now)) (s .args .nest .now) (length (s .args .outer .now)) (s .args .j) (s .args .n) (l .i) (c .before .before .loop-test .taken) (l .inv .0) (l .r .value) _ (l .inv .1) (e ∙ v .ensures .0), c .smaller .ensures .1)
 
 returns : tie.Need-returns Inv-loop μ-loop
+unfolding lastFrom
 returns c = let s = c .before .before .before .before in let l = c .before .before .loop in
-    last-all (s .pre) (l .i) (omega (arith, c .before .loop-test .left)) (l .r .value) (l .inv .1) (l .inv .2)
+    let a = copied (l .r .value) (l .inv .2) in (a ∙ side-all upper (floorAt (s .args .outer .now)) (s .args .nest .now) (length (s .args .outer .now)) (s .args .j) (s .args .n) (l .i) (omega (arith, c .before .loop-test .left)) (l .r .value) (l .inv .1), rw a (l .inv .2))
 
 pub last-from-spec : {M : Type 1} → statement M
 last-from-spec =

@@ -1,5 +1,7 @@
 -- `low_at`: the value, divided and rounded up.
-use Rattle.bounds.proofs.LimitLaws.{divisor-positive, ceil-is}
+use Rattle.bounds.specs.Ranges.{ceilAt}
+use Rattle.bounds.proofs.LimitLaws.{divisor-positive, quotient-is}
+use Rattle.bounds.proofs.Sides.{lower}
 use borrow.Author.Needs.{needs}
 use Rattle.bounds.proofs.low_at.Statement.{statement}
 use Rattle.bounds.proofs.low_at.Tie as tie
@@ -17,7 +19,8 @@ ceil-div-requires : tie.Need-ceil-div-requires
 ceil-div-requires c κs = divisor-positive (c .before .before .pre) (c .word .ensures)
 
 returns : tie.Need-returns
-returns c = let v = c .before .before .value in ceil-is (c .before .before .before .pre) (c .before .word .ensures) (v .result) (c .ceil-div .result) (v .ensures) (c .ceil-div .ensures)
+unfolding ceilAt
+returns c = let v = c .before .before .value in quotient-is (c .before .before .before .pre) (c .before .word .ensures) lower (v .result) (c .ceil-div .result) (v .ensures) (c .ceil-div .ensures)
 
 pub low-at-spec : {M : Type 1} → statement M
 low-at-spec = tie.close (tie.spec value-requires mul-word word-requires ceil-div-requires returns)

@@ -18,15 +18,16 @@ lower-requires-2 c κs = search needs
 upper-requires-2 : tie.Need-upper-requires-2
 upper-requires-2 c κs = search needs
 
+-- after the four sides are read
+abbrev spans : (t : tie.After-upper2)
+    → Spans (t .before .before .before .before .before .args .counts .now) (t .before .before .before .before .before .args .a) (t .before .before .before .lower .result) (t .before .before .upper .result) (t .before .lower2 .result) (t .upper2 .result)
+spans t = record { il-is = t .before .before .before .lower .ensures; iu-is = t .before .before .upper .ensures; jl-is = t .before .lower2 .ensures; ju-is = t .upper2 .ensures }
+
 push-outer-requires : tie.Need-push-outer-requires
-push-outer-requires c κs = let s = c .before .before .before .before .before .before in
-    outer-low-in (s .args .words .now) (s .args .counts .now) (s .args .a) (c .before .before .before .before .lower .result) (c .before .before .before .upper .result) (c .before .before .lower2 .result) (c .before .upper2 .result)
-    (record { il-is = c .before .before .before .before .lower .ensures; iu-is = c .before .before .before .upper .ensures; jl-is = c .before .before .lower2 .ensures; ju-is = c .before .upper2 .ensures }) (s .pre .pair) (s .args .low .now) (s .pre .lower)
+push-outer-requires c κs = let t = c .before in let s = t .before .before .before .before .before in outer-low-in (spans t) (s .pre .pair) (s .args .low .now) (s .pre .lower)
 
 push-outer-requires-2 : tie.Need-push-outer-requires-2
-push-outer-requires-2 c κs = let s = c .before .before .before .before .before .before .before .before .before in
-    outer-up-in (s .args .words .now) (s .args .counts .now) (s .args .a) (c .before .before .before .before .before .before .before .lower .result) (c .before .before .before .before .before .before .upper .result) (c .before .before .before .before .before .lower2 .result) (c .before .before .before .before .upper2 .result)
-    (record { il-is = c .before .before .before .before .before .before .before .lower .ensures; iu-is = c .before .before .before .before .before .before .upper .ensures; jl-is = c .before .before .before .before .before .lower2 .ensures; ju-is = c .before .before .before .before .upper2 .ensures }) (s .pre .pair) (s .args .up .now) (s .pre .upper)
+push-outer-requires-2 c κs = let t = c .before .before .before .before in let s = t .before .before .before .before .before in outer-up-in (spans t) (s .pre .pair) (s .args .up .now) (s .pre .upper)
 
 same-length : tie.Need-same-length
 same-length c = search needs
@@ -35,15 +36,8 @@ same-length-2 : tie.Need-same-length-2
 same-length-2 c = search needs
 
 returns : tie.Need-returns
-returns c = let s = c .before .before .before .before .before .before .before .before .before .before .before in
-    let e : Spans (s .args .counts .now) (s .args .a) (c .before .before .before .before .before .before .before .before .before .lower .result) (c .before .before .before .before .before .before .before .before .upper .result) (c .before .before .before .before .before .before .before .lower2 .result) (c .before .before .before .before .before .before .upper2 .result) =
-    record { il-is = c .before .before .before .before .before .before .before .before .before .lower .ensures; iu-is = c .before .before .before .before .before .before .before .before .upper .ensures; jl-is = c .before .before .before .before .before .before .before .lower2 .ensures; ju-is = c .before .before .before .before .before .before .upper2 .ensures } in
-    record {
-      lower = outer-low (s .args .words .now) (s .args .counts .now) (s .args .a) (c .before .before .before .before .before .before .before .before .before .lower .result) (c .before .before .before .before .before .before .before .before .upper .result) (c .before .before .before .before .before .before .before .lower2 .result) (c .before .before .before .before .before .before .upper2 .result) e _ _ (c .before .before .before .before .push-outer .ensures .0);
-      upper = outer-up (s .args .words .now) (s .args .counts .now) (s .args .a) (c .before .before .before .before .before .before .before .before .before .lower .result) (c .before .before .before .before .before .before .before .before .upper .result) (c .before .before .before .before .before .before .before .lower2 .result) (c .before .before .before .before .before .before .upper2 .result) e _ _ (c .before .push-outer2 .ensures .0);
-      lower-filled = c .before .before .before .before .push-outer .ensures .1;
-      upper-filled = c .before .push-outer2 .ensures .1;
-    }
+returns c = let t = c .before .before .before .before .before .before in let s = t .before .before .before .before .before in let l = c .before .before .before .before .push-outer .ensures in let u = c .before .push-outer2 .ensures in
+    record { lower = outer-low (spans t) (s .args .words .now) (l .0); upper = outer-up (spans t) (s .args .words .now) (u .0); lower-filled = l .1; upper-filled = u .1 }
 
 pub fill-outer-spec : {M : Type 1} → statement M
 fill-outer-spec =

@@ -53,190 +53,68 @@ abbrev least-value-below : ℕ → In 2 least-value-kinds.ps
 least-value-below t =
     and 2 least-value-kinds.ps (falls 2 least-value-kinds.ps _<_ μ-least-value t) least-value.Pre
 
+-- what the calls ask and give
+abbrev greatest-value-claims : ℕ → greatest-value-lts.Claims
+greatest-value-claims t = (
+  leans-reads.Asked,
+  leans-reads.Learnt,
+  least-value-below t,
+  least-value.Post,
+  greatest-value-below t,
+  greatest-value.Post,
+  greatest-over-reads.Asked,
+  greatest-over-reads.Learnt,
+)
+
 abbrev greatest-value-Inv-loop : greatest-value-lts.InvT-loop
 greatest-value-Inv-loop nest counts k n outer₀ i₀ outer i = (i ≤ k) × NeededAre nest counts (k * 32 + 16) n i outer
 
 abbrev greatest-value-μ-loop : greatest-value-lts.MeasureT-loop
 greatest-value-μ-loop nest counts k n outer₀ i₀ outer i = k - i
 
-greatest-value-mul-n : (t : ℕ) → greatest-value-lts.Need-mul-n (
-  leans-reads.Asked,
-  leans-reads.Learnt,
-  least-value-below t,
-  least-value.Post,
-  greatest-value-below t,
-  greatest-value.Post,
-  greatest-over-reads.Asked,
-  greatest-over-reads.Learnt,
-) (greatest-value-at t) greatest-value.Post greatest-value-Inv-loop greatest-value-μ-loop
+greatest-value-mul-n : (t : ℕ) → greatest-value-lts.Need-mul-n (greatest-value-claims t) (greatest-value-at t) greatest-value.Post greatest-value-Inv-loop greatest-value-μ-loop
 greatest-value-mul-n t c = let f = c .before .pre .1 .shallow in omega arith
 
-greatest-value-add-n : (t : ℕ) → greatest-value-lts.Need-add-n (
-  leans-reads.Asked,
-  leans-reads.Learnt,
-  least-value-below t,
-  least-value.Post,
-  greatest-value-below t,
-  greatest-value.Post,
-  greatest-over-reads.Asked,
-  greatest-over-reads.Learnt,
-) (greatest-value-at t) greatest-value.Post greatest-value-Inv-loop greatest-value-μ-loop
+greatest-value-add-n : (t : ℕ) → greatest-value-lts.Need-add-n (greatest-value-claims t) (greatest-value-at t) greatest-value.Post greatest-value-Inv-loop greatest-value-μ-loop
 greatest-value-add-n t c = let f = c .before .pre .1 .shallow in omega arith
 
-greatest-value-mul-n-2 : (t : ℕ) → greatest-value-lts.Need-mul-n-2 (
-  leans-reads.Asked,
-  leans-reads.Learnt,
-  least-value-below t,
-  least-value.Post,
-  greatest-value-below t,
-  greatest-value.Post,
-  greatest-over-reads.Asked,
-  greatest-over-reads.Learnt,
-) (greatest-value-at t) greatest-value.Post greatest-value-Inv-loop greatest-value-μ-loop
+greatest-value-mul-n-2 : (t : ℕ) → greatest-value-lts.Need-mul-n-2 (greatest-value-claims t) (greatest-value-at t) greatest-value.Post greatest-value-Inv-loop greatest-value-μ-loop
 greatest-value-mul-n-2 t c = let f = c .before .pre .1 .shallow in omega arith
 
-greatest-value-shared-slice-read-n : (t : ℕ) → greatest-value-lts.Need-shared-slice-read-n (
-  leans-reads.Asked,
-  leans-reads.Learnt,
-  least-value-below t,
-  least-value.Post,
-  greatest-value-below t,
-  greatest-value.Post,
-  greatest-over-reads.Asked,
-  greatest-over-reads.Learnt,
-) (greatest-value-at t) greatest-value.Post greatest-value-Inv-loop greatest-value-μ-loop
+greatest-value-shared-slice-read-n : (t : ℕ) → greatest-value-lts.Need-shared-slice-read-n (greatest-value-claims t) (greatest-value-at t) greatest-value.Post greatest-value-Inv-loop greatest-value-μ-loop
 greatest-value-shared-slice-read-n t c = let f = c .before .before .pre .1 .shallow in let l = c .before .before .pre .1 .counts in omega arith
 
-greatest-value-loop-holds : (t : ℕ) → greatest-value-lts.Need-loop-holds (
-  leans-reads.Asked,
-  leans-reads.Learnt,
-  least-value-below t,
-  least-value.Post,
-  greatest-value-below t,
-  greatest-value.Post,
-  greatest-over-reads.Asked,
-  greatest-over-reads.Learnt,
-) (greatest-value-at t) greatest-value.Post greatest-value-Inv-loop greatest-value-μ-loop
+greatest-value-loop-holds : (t : ℕ) → greatest-value-lts.Need-loop-holds (greatest-value-claims t) (greatest-value-at t) greatest-value.Post greatest-value-Inv-loop greatest-value-μ-loop
 greatest-value-loop-holds t c = let s = c .before .before .args in (omega arith, needed-none (s .nest .now) (s .counts .now) _ _)
 
-greatest-value-mul-leans : (t : ℕ) → greatest-value-lts.Need-mul-leans (
-  leans-reads.Asked,
-  leans-reads.Learnt,
-  least-value-below t,
-  least-value.Post,
-  greatest-value-below t,
-  greatest-value.Post,
-  greatest-over-reads.Asked,
-  greatest-over-reads.Learnt,
-) (greatest-value-at t) greatest-value.Post greatest-value-Inv-loop greatest-value-μ-loop
+greatest-value-mul-leans : (t : ℕ) → greatest-value-lts.Need-mul-leans (greatest-value-claims t) (greatest-value-at t) greatest-value.Post greatest-value-Inv-loop greatest-value-μ-loop
 greatest-value-mul-leans t c = let f = c .before .before .before .before .pre .1 .shallow in omega arith
 
-greatest-value-add-leans : (t : ℕ) → greatest-value-lts.Need-add-leans (
-  leans-reads.Asked,
-  leans-reads.Learnt,
-  least-value-below t,
-  least-value.Post,
-  greatest-value-below t,
-  greatest-value.Post,
-  greatest-over-reads.Asked,
-  greatest-over-reads.Learnt,
-) (greatest-value-at t) greatest-value.Post greatest-value-Inv-loop greatest-value-μ-loop
+greatest-value-add-leans : (t : ℕ) → greatest-value-lts.Need-add-leans (greatest-value-claims t) (greatest-value-at t) greatest-value.Post greatest-value-Inv-loop greatest-value-μ-loop
 greatest-value-add-leans t c = let f = c .before .before .before .before .pre .1 .shallow in omega arith
 
-greatest-value-leans-requires : (t : ℕ) → greatest-value-lts.Need-leans-requires (
-  leans-reads.Asked,
-  leans-reads.Learnt,
-  least-value-below t,
-  least-value.Post,
-  greatest-value-below t,
-  greatest-value.Post,
-  greatest-over-reads.Asked,
-  greatest-over-reads.Learnt,
-) (greatest-value-at t) greatest-value.Post greatest-value-Inv-loop greatest-value-μ-loop
+greatest-value-leans-requires : (t : ℕ) → greatest-value-lts.Need-leans-requires (greatest-value-claims t) (greatest-value-at t) greatest-value.Post greatest-value-Inv-loop greatest-value-μ-loop
 greatest-value-leans-requires t c κs = let s = c .before .before .before .before in let q = s .pre .1 in let f = q .shallow in let n = q .upper-count (s .args .k) (omega arith) in let h = c .loop-test .taken in (q .words, omega arith, omega arith)
 
-greatest-value-least-value-requires : (t : ℕ) → greatest-value-lts.Need-least-value-requires (
-  leans-reads.Asked,
-  leans-reads.Learnt,
-  least-value-below t,
-  least-value.Post,
-  greatest-value-below t,
-  greatest-value.Post,
-  greatest-over-reads.Asked,
-  greatest-over-reads.Learnt,
-) (greatest-value-at t) greatest-value.Post greatest-value-Inv-loop greatest-value-μ-loop
+greatest-value-least-value-requires : (t : ℕ) → greatest-value-lts.Need-least-value-requires (greatest-value-claims t) (greatest-value-at t) greatest-value.Post greatest-value-Inv-loop greatest-value-μ-loop
 greatest-value-least-value-requires t c κs = let s = c .before .before .before .before .before .before in let m = s .pre .0 in let h = c .before .before .loop-test .taken in (omega arith, loops-before (s .args .nest .now) (s .args .counts .now) (suc (s .args .k)) (c .before .before .before .loop .i) (s .pre .1) (omega arith))
 
-greatest-value-greatest-value-requires : (t : ℕ) → greatest-value-lts.Need-greatest-value-requires (
-  leans-reads.Asked,
-  leans-reads.Learnt,
-  least-value-below t,
-  least-value.Post,
-  greatest-value-below t,
-  greatest-value.Post,
-  greatest-over-reads.Asked,
-  greatest-over-reads.Learnt,
-) (greatest-value-at t) greatest-value.Post greatest-value-Inv-loop greatest-value-μ-loop
+greatest-value-greatest-value-requires : (t : ℕ) → greatest-value-lts.Need-greatest-value-requires (greatest-value-claims t) (greatest-value-at t) greatest-value.Post greatest-value-Inv-loop greatest-value-μ-loop
 greatest-value-greatest-value-requires t c κs = let s = c .before .before .before .before .before .before .before in let m = s .pre .0 in let h = c .before .before .before .loop-test .taken in (omega arith, loops-before (s .args .nest .now) (s .args .counts .now) (suc (s .args .k)) (c .before .before .before .before .loop .i) (s .pre .1) (omega arith))
 
-greatest-value-mul-outer : (t : ℕ) → greatest-value-lts.Need-mul-outer (
-  leans-reads.Asked,
-  leans-reads.Learnt,
-  least-value-below t,
-  least-value.Post,
-  greatest-value-below t,
-  greatest-value.Post,
-  greatest-over-reads.Asked,
-  greatest-over-reads.Learnt,
-) (greatest-value-at t) greatest-value.Post greatest-value-Inv-loop greatest-value-μ-loop
+greatest-value-mul-outer : (t : ℕ) → greatest-value-lts.Need-mul-outer (greatest-value-claims t) (greatest-value-at t) greatest-value.Post greatest-value-Inv-loop greatest-value-μ-loop
 greatest-value-mul-outer t c = let f = c .before .before .before .before .before .before .before .before .before .before .pre .1 .shallow in let h = c .before .before .before .before .before .before .loop-test .taken in omega arith
 
-greatest-value-array-set-from-outer : (t : ℕ) → greatest-value-lts.Need-array-set-from-outer (
-  leans-reads.Asked,
-  leans-reads.Learnt,
-  least-value-below t,
-  least-value.Post,
-  greatest-value-below t,
-  greatest-value.Post,
-  greatest-over-reads.Asked,
-  greatest-over-reads.Learnt,
-) (greatest-value-at t) greatest-value.Post greatest-value-Inv-loop greatest-value-μ-loop
+greatest-value-array-set-from-outer : (t : ℕ) → greatest-value-lts.Need-array-set-from-outer (greatest-value-claims t) (greatest-value-at t) greatest-value.Post greatest-value-Inv-loop greatest-value-μ-loop
 greatest-value-array-set-from-outer t c = let f = c .before .before .before .before .before .before .before .before .before .before .pre .1 .shallow in let h = c .before .before .before .before .before .before .loop-test .taken in let l = c .before .before .before .before .before .before .before .loop .inv .1 .six in omega arith
 
-greatest-value-add-i : (t : ℕ) → greatest-value-lts.Need-add-i (
-  leans-reads.Asked,
-  leans-reads.Learnt,
-  least-value-below t,
-  least-value.Post,
-  greatest-value-below t,
-  greatest-value.Post,
-  greatest-over-reads.Asked,
-  greatest-over-reads.Learnt,
-) (greatest-value-at t) greatest-value.Post greatest-value-Inv-loop greatest-value-μ-loop
+greatest-value-add-i : (t : ℕ) → greatest-value-lts.Need-add-i (greatest-value-claims t) (greatest-value-at t) greatest-value.Post greatest-value-Inv-loop greatest-value-μ-loop
 greatest-value-add-i t c = let f = c .before .before .before .before .before .before .pre .1 .shallow in let h = c .before .before .loop-test .taken in omega arith
 
-greatest-value-loop-less : (t : ℕ) → greatest-value-lts.Need-loop-less (
-  leans-reads.Asked,
-  leans-reads.Learnt,
-  least-value-below t,
-  least-value.Post,
-  greatest-value-below t,
-  greatest-value.Post,
-  greatest-over-reads.Asked,
-  greatest-over-reads.Learnt,
-) (greatest-value-at t) greatest-value.Post greatest-value-Inv-loop greatest-value-μ-loop
+greatest-value-loop-less : (t : ℕ) → greatest-value-lts.Need-loop-less (greatest-value-claims t) (greatest-value-at t) greatest-value.Post greatest-value-Inv-loop greatest-value-μ-loop
 greatest-value-loop-less t c = let h = c .before .before .loop-test .taken in omega arith
 
-greatest-value-loop-again : (t : ℕ) → greatest-value-lts.Need-loop-again (
-  leans-reads.Asked,
-  leans-reads.Learnt,
-  least-value-below t,
-  least-value.Post,
-  greatest-value-below t,
-  greatest-value.Post,
-  greatest-over-reads.Asked,
-  greatest-over-reads.Learnt,
-) (greatest-value-at t) greatest-value.Post greatest-value-Inv-loop greatest-value-μ-loop
+greatest-value-loop-again : (t : ℕ) → greatest-value-lts.Need-loop-again (greatest-value-claims t) (greatest-value-at t) greatest-value.Post greatest-value-Inv-loop greatest-value-μ-loop
 greatest-value-loop-again t c = let s = c .before .before .before .before .before .before in let l = c .before .before .before .loop in let f = s .pre .1 .shallow in let h = c .before .before .loop-test .taken in
     let a = s .args in let are : List Range → Type 0 = NeededAre (a .nest .now) (a .counts .now) (a .k * 32 + 16) (getD (a .counts .now) (a .k * 2 + 1) 0) (l .i + 1) in (
       omega arith,
@@ -246,30 +124,24 @@ greatest-value-loop-again t c = let s = c .before .before .before .before .befor
           (c .if1 .came),
     )
 
-greatest-value-greatest-over-requires : (t : ℕ) → greatest-value-lts.Need-greatest-over-requires (
-  leans-reads.Asked,
-  leans-reads.Learnt,
-  least-value-below t,
-  least-value.Post,
-  greatest-value-below t,
-  greatest-value.Post,
-  greatest-over-reads.Asked,
-  greatest-over-reads.Learnt,
-) (greatest-value-at t) greatest-value.Post greatest-value-Inv-loop greatest-value-μ-loop
+greatest-value-greatest-over-requires : (t : ℕ) → greatest-value-lts.Need-greatest-over-requires (greatest-value-claims t) (greatest-value-at t) greatest-value.Post greatest-value-Inv-loop greatest-value-μ-loop
 greatest-value-greatest-over-requires t c κs = let s = c .before .before .before .before in let l = c .before .loop in let h = c .loop-test .left in needed-in (s .args .nest .now) (s .args .counts .now) _ _ (s .args .k) (l .i) (l .outer) (s .pre .1) (l .inv .1) (omega arith)
 
-greatest-value-returns : (t : ℕ) → greatest-value-lts.Need-returns (
+greatest-value-returns : (t : ℕ) → greatest-value-lts.Need-returns (greatest-value-claims t) (greatest-value-at t) greatest-value.Post greatest-value-Inv-loop greatest-value-μ-loop
+greatest-value-returns t c = let s = c .before .before .before .before .before in let l = c .before .before .loop in let h = c .before .loop-test .left in let v = c .greatest-over in
+    (needed-greatest (s .args .nest .now) (s .args .counts .now) (s .args .k) (l .i) (l .outer) (s .pre .1) (omega arith) (v .result .value) (l .inv .1) (v .ensures .0), v .ensures .1)
+
+abbrev least-value-claims : ℕ → least-value-lts.Claims
+least-value-claims t = (
   leans-reads.Asked,
   leans-reads.Learnt,
   least-value-below t,
   least-value.Post,
   greatest-value-below t,
   greatest-value.Post,
-  greatest-over-reads.Asked,
-  greatest-over-reads.Learnt,
-) (greatest-value-at t) greatest-value.Post greatest-value-Inv-loop greatest-value-μ-loop
-greatest-value-returns t c = let s = c .before .before .before .before .before in let l = c .before .before .loop in let h = c .before .loop-test .left in let v = c .greatest-over in
-    (needed-greatest (s .args .nest .now) (s .args .counts .now) (s .args .k) (l .i) (l .outer) (s .pre .1) (omega arith) (v .result .value) (l .inv .1) (v .ensures .0), v .ensures .1)
+  least-over-reads.Asked,
+  least-over-reads.Learnt,
+)
 
 abbrev least-value-Inv-loop : least-value-lts.InvT-loop
 least-value-Inv-loop nest counts k n outer₀ i₀ outer i = (i ≤ k) × NeededAre nest counts (k * 32) n i outer
@@ -277,160 +149,43 @@ least-value-Inv-loop nest counts k n outer₀ i₀ outer i = (i ≤ k) × Needed
 abbrev least-value-μ-loop : least-value-lts.MeasureT-loop
 least-value-μ-loop nest counts k n outer₀ i₀ outer i = k - i
 
-least-value-mul-n : (t : ℕ) → least-value-lts.Need-mul-n (
-  leans-reads.Asked,
-  leans-reads.Learnt,
-  least-value-below t,
-  least-value.Post,
-  greatest-value-below t,
-  greatest-value.Post,
-  least-over-reads.Asked,
-  least-over-reads.Learnt,
-) (least-value-at t) least-value.Post least-value-Inv-loop least-value-μ-loop
+least-value-mul-n : (t : ℕ) → least-value-lts.Need-mul-n (least-value-claims t) (least-value-at t) least-value.Post least-value-Inv-loop least-value-μ-loop
 least-value-mul-n t c = let f = c .before .pre .1 .shallow in omega arith
 
-least-value-mul-n-2 : (t : ℕ) → least-value-lts.Need-mul-n-2 (
-  leans-reads.Asked,
-  leans-reads.Learnt,
-  least-value-below t,
-  least-value.Post,
-  greatest-value-below t,
-  greatest-value.Post,
-  least-over-reads.Asked,
-  least-over-reads.Learnt,
-) (least-value-at t) least-value.Post least-value-Inv-loop least-value-μ-loop
+least-value-mul-n-2 : (t : ℕ) → least-value-lts.Need-mul-n-2 (least-value-claims t) (least-value-at t) least-value.Post least-value-Inv-loop least-value-μ-loop
 least-value-mul-n-2 t c = let f = c .before .pre .1 .shallow in omega arith
 
-least-value-shared-slice-read-n : (t : ℕ) → least-value-lts.Need-shared-slice-read-n (
-  leans-reads.Asked,
-  leans-reads.Learnt,
-  least-value-below t,
-  least-value.Post,
-  greatest-value-below t,
-  greatest-value.Post,
-  least-over-reads.Asked,
-  least-over-reads.Learnt,
-) (least-value-at t) least-value.Post least-value-Inv-loop least-value-μ-loop
+least-value-shared-slice-read-n : (t : ℕ) → least-value-lts.Need-shared-slice-read-n (least-value-claims t) (least-value-at t) least-value.Post least-value-Inv-loop least-value-μ-loop
 least-value-shared-slice-read-n t c = let f = c .before .before .pre .1 .shallow in let l = c .before .before .pre .1 .counts in omega arith
 
-least-value-loop-holds : (t : ℕ) → least-value-lts.Need-loop-holds (
-  leans-reads.Asked,
-  leans-reads.Learnt,
-  least-value-below t,
-  least-value.Post,
-  greatest-value-below t,
-  greatest-value.Post,
-  least-over-reads.Asked,
-  least-over-reads.Learnt,
-) (least-value-at t) least-value.Post least-value-Inv-loop least-value-μ-loop
+least-value-loop-holds : (t : ℕ) → least-value-lts.Need-loop-holds (least-value-claims t) (least-value-at t) least-value.Post least-value-Inv-loop least-value-μ-loop
 least-value-loop-holds t c = let s = c .before .before .args in (omega arith, needed-none (s .nest .now) (s .counts .now) _ _)
 
-least-value-mul-leans : (t : ℕ) → least-value-lts.Need-mul-leans (
-  leans-reads.Asked,
-  leans-reads.Learnt,
-  least-value-below t,
-  least-value.Post,
-  greatest-value-below t,
-  greatest-value.Post,
-  least-over-reads.Asked,
-  least-over-reads.Learnt,
-) (least-value-at t) least-value.Post least-value-Inv-loop least-value-μ-loop
+least-value-mul-leans : (t : ℕ) → least-value-lts.Need-mul-leans (least-value-claims t) (least-value-at t) least-value.Post least-value-Inv-loop least-value-μ-loop
 least-value-mul-leans t c = let f = c .before .before .before .before .pre .1 .shallow in omega arith
 
-least-value-leans-requires : (t : ℕ) → least-value-lts.Need-leans-requires (
-  leans-reads.Asked,
-  leans-reads.Learnt,
-  least-value-below t,
-  least-value.Post,
-  greatest-value-below t,
-  greatest-value.Post,
-  least-over-reads.Asked,
-  least-over-reads.Learnt,
-) (least-value-at t) least-value.Post least-value-Inv-loop least-value-μ-loop
+least-value-leans-requires : (t : ℕ) → least-value-lts.Need-leans-requires (least-value-claims t) (least-value-at t) least-value.Post least-value-Inv-loop least-value-μ-loop
 least-value-leans-requires t c κs = let s = c .before .before .before .before in let q = s .pre .1 in let f = q .shallow in let n = q .lower-count (s .args .k) (omega arith) in let h = c .loop-test .taken in (q .words, omega arith, omega arith)
 
-least-value-least-value-requires : (t : ℕ) → least-value-lts.Need-least-value-requires (
-  leans-reads.Asked,
-  leans-reads.Learnt,
-  least-value-below t,
-  least-value.Post,
-  greatest-value-below t,
-  greatest-value.Post,
-  least-over-reads.Asked,
-  least-over-reads.Learnt,
-) (least-value-at t) least-value.Post least-value-Inv-loop least-value-μ-loop
+least-value-least-value-requires : (t : ℕ) → least-value-lts.Need-least-value-requires (least-value-claims t) (least-value-at t) least-value.Post least-value-Inv-loop least-value-μ-loop
 least-value-least-value-requires t c κs = let s = c .before .before .before .before .before .before in let m = s .pre .0 in let h = c .before .before .loop-test .taken in (omega arith, loops-before (s .args .nest .now) (s .args .counts .now) (suc (s .args .k)) (c .before .before .before .loop .i) (s .pre .1) (omega arith))
 
-least-value-greatest-value-requires : (t : ℕ) → least-value-lts.Need-greatest-value-requires (
-  leans-reads.Asked,
-  leans-reads.Learnt,
-  least-value-below t,
-  least-value.Post,
-  greatest-value-below t,
-  greatest-value.Post,
-  least-over-reads.Asked,
-  least-over-reads.Learnt,
-) (least-value-at t) least-value.Post least-value-Inv-loop least-value-μ-loop
+least-value-greatest-value-requires : (t : ℕ) → least-value-lts.Need-greatest-value-requires (least-value-claims t) (least-value-at t) least-value.Post least-value-Inv-loop least-value-μ-loop
 least-value-greatest-value-requires t c κs = let s = c .before .before .before .before .before .before .before in let m = s .pre .0 in let h = c .before .before .before .loop-test .taken in (omega arith, loops-before (s .args .nest .now) (s .args .counts .now) (suc (s .args .k)) (c .before .before .before .before .loop .i) (s .pre .1) (omega arith))
 
-least-value-mul-outer : (t : ℕ) → least-value-lts.Need-mul-outer (
-  leans-reads.Asked,
-  leans-reads.Learnt,
-  least-value-below t,
-  least-value.Post,
-  greatest-value-below t,
-  greatest-value.Post,
-  least-over-reads.Asked,
-  least-over-reads.Learnt,
-) (least-value-at t) least-value.Post least-value-Inv-loop least-value-μ-loop
+least-value-mul-outer : (t : ℕ) → least-value-lts.Need-mul-outer (least-value-claims t) (least-value-at t) least-value.Post least-value-Inv-loop least-value-μ-loop
 least-value-mul-outer t c = let f = c .before .before .before .before .before .before .before .before .before .before .pre .1 .shallow in let h = c .before .before .before .before .before .before .loop-test .taken in omega arith
 
-least-value-array-set-from-outer : (t : ℕ) → least-value-lts.Need-array-set-from-outer (
-  leans-reads.Asked,
-  leans-reads.Learnt,
-  least-value-below t,
-  least-value.Post,
-  greatest-value-below t,
-  greatest-value.Post,
-  least-over-reads.Asked,
-  least-over-reads.Learnt,
-) (least-value-at t) least-value.Post least-value-Inv-loop least-value-μ-loop
+least-value-array-set-from-outer : (t : ℕ) → least-value-lts.Need-array-set-from-outer (least-value-claims t) (least-value-at t) least-value.Post least-value-Inv-loop least-value-μ-loop
 least-value-array-set-from-outer t c = let f = c .before .before .before .before .before .before .before .before .before .before .pre .1 .shallow in let h = c .before .before .before .before .before .before .loop-test .taken in let l = c .before .before .before .before .before .before .before .loop .inv .1 .six in omega arith
 
-least-value-add-i : (t : ℕ) → least-value-lts.Need-add-i (
-  leans-reads.Asked,
-  leans-reads.Learnt,
-  least-value-below t,
-  least-value.Post,
-  greatest-value-below t,
-  greatest-value.Post,
-  least-over-reads.Asked,
-  least-over-reads.Learnt,
-) (least-value-at t) least-value.Post least-value-Inv-loop least-value-μ-loop
+least-value-add-i : (t : ℕ) → least-value-lts.Need-add-i (least-value-claims t) (least-value-at t) least-value.Post least-value-Inv-loop least-value-μ-loop
 least-value-add-i t c = let f = c .before .before .before .before .before .before .pre .1 .shallow in let h = c .before .before .loop-test .taken in omega arith
 
-least-value-loop-less : (t : ℕ) → least-value-lts.Need-loop-less (
-  leans-reads.Asked,
-  leans-reads.Learnt,
-  least-value-below t,
-  least-value.Post,
-  greatest-value-below t,
-  greatest-value.Post,
-  least-over-reads.Asked,
-  least-over-reads.Learnt,
-) (least-value-at t) least-value.Post least-value-Inv-loop least-value-μ-loop
+least-value-loop-less : (t : ℕ) → least-value-lts.Need-loop-less (least-value-claims t) (least-value-at t) least-value.Post least-value-Inv-loop least-value-μ-loop
 least-value-loop-less t c = let h = c .before .before .loop-test .taken in omega arith
 
-least-value-loop-again : (t : ℕ) → least-value-lts.Need-loop-again (
-  leans-reads.Asked,
-  leans-reads.Learnt,
-  least-value-below t,
-  least-value.Post,
-  greatest-value-below t,
-  greatest-value.Post,
-  least-over-reads.Asked,
-  least-over-reads.Learnt,
-) (least-value-at t) least-value.Post least-value-Inv-loop least-value-μ-loop
+least-value-loop-again : (t : ℕ) → least-value-lts.Need-loop-again (least-value-claims t) (least-value-at t) least-value.Post least-value-Inv-loop least-value-μ-loop
 least-value-loop-again t c = let s = c .before .before .before .before .before .before in let l = c .before .before .before .loop in let f = s .pre .1 .shallow in let h = c .before .before .loop-test .taken in
     let a = s .args in let are : List Range → Type 0 = NeededAre (a .nest .now) (a .counts .now) (a .k * 32) (getD (a .counts .now) (a .k * 2) 0) (l .i + 1) in (
       omega arith,
@@ -440,43 +195,16 @@ least-value-loop-again t c = let s = c .before .before .before .before .before .
           (c .if1 .came),
     )
 
-least-value-least-over-requires : (t : ℕ) → least-value-lts.Need-least-over-requires (
-  leans-reads.Asked,
-  leans-reads.Learnt,
-  least-value-below t,
-  least-value.Post,
-  greatest-value-below t,
-  greatest-value.Post,
-  least-over-reads.Asked,
-  least-over-reads.Learnt,
-) (least-value-at t) least-value.Post least-value-Inv-loop least-value-μ-loop
+least-value-least-over-requires : (t : ℕ) → least-value-lts.Need-least-over-requires (least-value-claims t) (least-value-at t) least-value.Post least-value-Inv-loop least-value-μ-loop
 least-value-least-over-requires t c κs = let s = c .before .before .before .before in let l = c .before .loop in let h = c .loop-test .left in needed-in (s .args .nest .now) (s .args .counts .now) _ _ (s .args .k) (l .i) (l .outer) (s .pre .1) (l .inv .1) (omega arith)
 
-least-value-returns : (t : ℕ) → least-value-lts.Need-returns (
-  leans-reads.Asked,
-  leans-reads.Learnt,
-  least-value-below t,
-  least-value.Post,
-  greatest-value-below t,
-  greatest-value.Post,
-  least-over-reads.Asked,
-  least-over-reads.Learnt,
-) (least-value-at t) least-value.Post least-value-Inv-loop least-value-μ-loop
+least-value-returns : (t : ℕ) → least-value-lts.Need-returns (least-value-claims t) (least-value-at t) least-value.Post least-value-Inv-loop least-value-μ-loop
 least-value-returns t c = let s = c .before .before .before .before .before in let l = c .before .before .loop in let h = c .before .loop-test .left in let v = c .least-over in
     (needed-least (s .args .nest .now) (s .args .counts .now) (s .args .k) (l .i) (l .outer) (s .pre .1) (omega arith) (v .result .value) (l .inv .1) (v .ensures .0), v .ensures .1)
 
 pub +greatest-value+least-value-spec : {M : Type 1} → statement M
 +greatest-value+least-value-spec =
-    close μ-greatest-value μ-least-value (λ t. greatest-value-lts.spec (
-      leans-reads.Asked,
-      leans-reads.Learnt,
-      least-value-below t,
-      least-value.Post,
-      greatest-value-below t,
-      greatest-value.Post,
-      greatest-over-reads.Asked,
-      greatest-over-reads.Learnt,
-    )
+    close μ-greatest-value μ-least-value (λ t. greatest-value-lts.spec (greatest-value-claims t)
     (greatest-value-at t)
     greatest-value.Post
     greatest-value-Inv-loop
@@ -498,16 +226,7 @@ pub +greatest-value+least-value-spec : {M : Type 1} → statement M
     (greatest-value-loop-again t)
     (greatest-value-greatest-over-requires t)
     (greatest-value-returns t))
-    λ t. least-value-lts.spec (
-      leans-reads.Asked,
-      leans-reads.Learnt,
-      least-value-below t,
-      least-value.Post,
-      greatest-value-below t,
-      greatest-value.Post,
-      least-over-reads.Asked,
-      least-over-reads.Learnt,
-    )
+    λ t. least-value-lts.spec (least-value-claims t)
     (least-value-at t)
     least-value.Post
     least-value-Inv-loop

@@ -1,5 +1,7 @@
 -- `greatest_of`: the greatest e, divided and rounded down.
-use Rattle.extremes.proofs.ValueLaws.{divisor-positive, value-fits, greatest-is}
+use Rattle.extremes.proofs.ValueLaws.{divisor-positive, value-fits, quotient-is}
+use Rattle.bounds.proofs.Sides.{upper}
+use Rattle.extremes.specs.Values.{greatestOf}
 use borrow.Author.Needs.{needs}
 use Rattle.extremes.proofs.greatest_of.Statement.{statement}
 use Rattle.extremes.proofs.greatest_of.Tie as tie
@@ -35,8 +37,9 @@ floor-div-requires : tie.Need-floor-div-requires
 floor-div-requires c κs = let s = c .before .before .before .before .before in divisor-positive (s .args .nest .now) (s .args .j) (s .args .k) (s .args .outer) (s .pre) (c .word2 .ensures)
 
 returns : tie.Need-returns
+unfolding greatestOf
 returns c = let s = c .before .before .before .before .before .before in let e = c .before .before .before .before .before .greatest-sum in
-    greatest-is (s .args .nest .now) (s .args .j) (s .args .k) (s .args .outer) (s .pre) (e .result .value) (e .ensures .1) (c .before .before .before .before .word .ensures) (c .floor-div .result) (c .before .word2 .ensures) (e .ensures .0) (c .floor-div .ensures)
+    quotient-is (s .args .nest .now) (s .args .j) (s .args .k) (s .args .outer) (s .pre) (e .result .value) (e .ensures .1) (c .before .before .before .before .word .ensures) upper (c .before .word2 .ensures) (c .floor-div .result) (e .ensures .0) (c .floor-div .ensures)
 
 pub greatest-of-spec : {M : Type 1} → statement M
 greatest-of-spec =

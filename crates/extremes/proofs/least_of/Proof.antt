@@ -1,5 +1,7 @@
 -- `least_of`: the least e, divided and rounded up.
-use Rattle.extremes.proofs.ValueLaws.{divisor-positive, value-fits, least-is}
+use Rattle.extremes.proofs.ValueLaws.{divisor-positive, value-fits, quotient-is}
+use Rattle.bounds.proofs.Sides.{lower}
+use Rattle.extremes.specs.Values.{leastOf}
 use borrow.Author.Needs.{needs}
 use Rattle.extremes.proofs.least_of.Statement.{statement}
 use Rattle.extremes.proofs.least_of.Tie as tie
@@ -35,8 +37,9 @@ ceil-div-requires : tie.Need-ceil-div-requires
 ceil-div-requires c κs = let s = c .before .before .before .before .before in divisor-positive (s .args .nest .now) (s .args .j) (s .args .k) (s .args .outer) (s .pre) (c .word2 .ensures)
 
 returns : tie.Need-returns
+unfolding leastOf
 returns c = let s = c .before .before .before .before .before .before in let e = c .before .before .before .before .before .least-sum in
-    least-is (s .args .nest .now) (s .args .j) (s .args .k) (s .args .outer) (s .pre) (e .result .value) (e .ensures .1) (c .before .before .before .before .word .ensures) (c .ceil-div .result) (c .before .word2 .ensures) (e .ensures .0) (c .ceil-div .ensures)
+    quotient-is (s .args .nest .now) (s .args .j) (s .args .k) (s .args .outer) (s .pre) (e .result .value) (e .ensures .1) (c .before .before .before .before .word .ensures) lower (c .before .word2 .ensures) (c .ceil-div .result) (e .ensures .0) (c .ceil-div .ensures)
 
 pub least-of-spec : {M : Type 1} → statement M
 least-of-spec =

@@ -1,48 +1,48 @@
 -- `least_sum`: the sum so far is that of the first i terms.
 use Prim.Native.Nat.{_-_, _≤_}
 use native.Mathlib.Omega.{arith}
-use Rattle.extremes.proofs.SumLaws.{LeastSoFar, least-none, least-so-far-size, term-in, least-next, least-whole}
+use Rattle.bounds.proofs.Sides.{lower}
+use Rattle.extremes.proofs.SumLaws.{SoFar, nothing-yet, term-in, next-sum, whole-sum}
 use Rattle.extremes.proofs.least_sum.Statement.{statement}
 use Rattle.extremes.proofs.least_sum.Tie as tie
 
 abbrev Inv-loop : tie.InvT-loop
-Inv-loop words at n ranges sum₀ i₀ sum i = (i ≤ n) × LeastSoFar words at n ranges i (sum .value)
+Inv-loop words at n ranges sum₀ i₀ sum i = (i ≤ n) × SoFar lower words at n ranges i (sum .value)
 
 abbrev μ-loop : tie.MeasureT-loop
 μ-loop words at n ranges sum₀ i₀ sum i = n - i
 
 loop-holds : tie.Need-loop-holds Inv-loop μ-loop
-loop-holds c = (omega arith, least-none (c .args .words .now) (c .args .at) (c .args .n) (c .args .t4) (c .pre))
+loop-holds c = let s = c in (omega arith, nothing-yet lower (s .args .words .now) (s .args .at) (s .args .n) (s .args .t4) (s .pre))
+
+mul-r : tie.Need-mul-r Inv-loop μ-loop
+mul-r c = let f = c .before .before .pre .ranges .few in omega arith
+
+array-copy-out-r : tie.Need-array-copy-out-r Inv-loop μ-loop
+array-copy-out-r c = let f = c .before .before .pre .ranges .few in let l = c .before .before .pre .ranges .six in omega arith
 
 add-word : tie.Need-add-word Inv-loop μ-loop
-add-word c = let v = c .before .before .pre .inside in omega arith
+add-word c = let v = c .before .before .before .pre .inside in omega arith
 
 word-requires : tie.Need-word-requires Inv-loop μ-loop
-word-requires c κs = let v = c .before .before .pre .inside in omega arith
+word-requires c κs = let v = c .before .before .before .pre .inside in omega arith
 
-mul-plus-least : tie.Need-mul-plus-least Inv-loop μ-loop
-mul-plus-least c = let f = c .before .before .before .pre .ranges .few in omega arith
-
-array-copy-out-plus-least : tie.Need-array-copy-out-plus-least Inv-loop μ-loop
-array-copy-out-plus-least c = let f = c .before .before .before .pre .ranges .few in let l = c .before .before .before .pre .ranges .six in omega arith
-
-plus-least-requires : tie.Need-plus-least-requires Inv-loop μ-loop
-plus-least-requires c κs = let s = c .before .before .before .before in let l = c .before .before .before .loop in term-in (s .args .words .now) (s .args .at) (s .args .n) (s .args .t4) (s .pre) (l .i) (l .sum .value) (c .before .word .ensures) (c .before .before .loop-test .taken)
-    (least-so-far-size (s .args .words .now) (s .args .at) (s .args .n) (s .args .t4) (s .pre) (l .i) (l .sum .value) (l .inv .1))
+plus-term-requires : tie.Need-plus-term-requires Inv-loop μ-loop
+plus-term-requires c κs = let s = c .before .before .before .before .before .before in let l = c .before .before .before .before .before .loop in
+    term-in lower (s .args .words .now) (s .args .at) (s .args .n) (s .args .t4) (s .pre) (l .i) (l .sum .value) (l .inv .1) (c .before .before .word .ensures) (c .before .before .before .before .loop-test .taken)
 
 add-i : tie.Need-add-i Inv-loop μ-loop
-add-i c = let f = c .before .before .before .before .before .pre .ranges .few in omega arith
+add-i c = let f = c .before .before .before .before .before .before .before .pre .ranges .few in omega arith
 
 loop-less : tie.Need-loop-less Inv-loop μ-loop
 loop-less c = omega arith
 
 loop-again : tie.Need-loop-again Inv-loop μ-loop
-loop-again c = let s = c .before .before .before .before .before in let l = c .before .before .before .before .loop in
-    (omega arith, least-next (s .args .words .now) (s .args .at) (s .args .n) (s .args .t4) (s .pre) (l .i) (l .sum .value) (c .before .before .word .ensures) (c .before .before .before .loop-test .taken) (c .plus-least .result .value) (l .inv .1) (c .plus-least .ensures))
+loop-again c = let s = c .before .before .before .before .before .before .before in let l = c .before .before .before .before .before .before .loop in
+    (omega arith, next-sum lower (s .args .words .now) (s .args .at) (s .args .n) (s .args .t4) (s .pre) (l .i) (l .sum .value) (l .inv .1) (c .before .before .before .word .ensures) (c .before .before .before .before .before .loop-test .taken) (c .plus-term .result .value) (c .plus-term .ensures))
 
 returns : tie.Need-returns Inv-loop μ-loop
-returns c = let s = c .before .before in let l = c .before .loop in
-    least-whole (s .args .words .now) (s .args .at) (s .args .n) (s .args .t4) (s .pre) (l .i) (l .sum .value) (omega arith) (l .inv .1)
+returns c = let s = c .before .before in let l = c .before .loop in whole-sum lower (s .args .words .now) (s .args .at) (s .args .n) (s .args .t4) (s .pre) (l .i) (l .sum .value) (l .inv .1) (omega arith)
 
 pub least-sum-spec : {M : Type 1} → statement M
 least-sum-spec =
@@ -51,11 +51,11 @@ least-sum-spec =
     Inv-loop
     μ-loop
     loop-holds
+    mul-r
+    array-copy-out-r
     add-word
     word-requires
-    mul-plus-least
-    array-copy-out-plus-least
-    plus-least-requires
+    plus-term-requires
     add-i
     loop-less
     loop-again

@@ -4,15 +4,13 @@ use Prim.Native.Nat.{_+_, _-_, _≤_, _<_}
 use native.Mathlib.Omega.{arith}
 use Rattle.integers.specs.Difference.{size}
 use Rattle.bounds.proofs.LimitLaws.{copied}
+use Rattle.bounds.proofs.SideLaws.{side-last, side-before, side-all}
+use Rattle.bounds.proofs.Sides.{upper}
 use Rattle.extremes.specs.Ranges.{rangesOf}
-use Rattle.extremes.specs.Values.{smallestFrom}
-use Rattle.extremes.proofs.ValueLaws.{limit-in, smallest-last, smallest-before, smallest-all}
+use Rattle.extremes.specs.Values.{greatestOf, smallestFrom}
+use Rattle.extremes.proofs.ValueLaws.{limit-in}
 use Rattle.extremes.proofs.smallest_from.Statement.{statement}
 use Rattle.extremes.proofs.smallest_from.Tie as tie
-use Rattle.extremes.proofs.smallest_from.Reads as reads
-use Rattle.extremes.proofs.smallest_from.Lts as lts
-use Rattle.extremes.proofs.greatest_of.Reads as greatest-of-reads
-use Rattle.bounds.proofs.smaller.Reads as smaller-reads
 
 abbrev Inv-loop : tie.InvT-loop
 Inv-loop nest j n k outer i₀ r₀ i r = (i < n) × (r .value ≡ smallestFrom nest k (j + i) (n - i) (rangesOf k outer)) × (size (r .value) ≤ 34359738368)
@@ -20,52 +18,44 @@ Inv-loop nest j n k outer i₀ r₀ i r = (i < n) × (r .value ≡ smallestFrom 
 abbrev μ-loop : tie.MeasureT-loop
 μ-loop nest j n k outer i₀ r₀ i r = i
 
--- src/lib.rt:123:17
 sub-i : tie.Need-sub-i Inv-loop μ-loop
 sub-i c = c .pre .some
 
--- src/lib.rt:125:34
 add-greatest-of : tie.Need-add-greatest-of Inv-loop μ-loop
 add-greatest-of c = let v = c .pre .inside in omega arith
 
--- src/lib.rt:125:16
 greatest-of-requires : tie.Need-greatest-of-requires Inv-loop μ-loop
 greatest-of-requires c κs = let h = c .pre .some in limit-in (c .args .nest .now) (c .args .j) (c .args .n) (c .args .k) (c .args .outer) (c .pre) (c .args .n - 1) (omega arith)
 
--- src/lib.rt:127:5
 loop-holds : tie.Need-loop-holds Inv-loop μ-loop
+unfolding smallestFrom greatestOf
 loop-holds c = let s = c .before in let h = s .pre .some in let e = copied (c .greatest-of .result) (c .greatest-of .ensures .1) in
-    (omega arith, e ∙ c .greatest-of .ensures .0 ∙ smallest-last (s .args .nest .now) (s .args .j) (s .args .n) (s .args .k) (s .args .outer) (s .pre), rw e (c .greatest-of .ensures .1))
+    (omega arith, e ∙ c .greatest-of .ensures .0 ∙ side-last upper (greatestOf (rangesOf (s .args .k) (s .args .outer))) (s .args .nest .now) (s .args .k) (s .args .j) (s .args .n) h, rw e (c .greatest-of .ensures .1))
 
--- src/lib.rt:128:9
 sub-i-2 : tie.Need-sub-i-2 Inv-loop μ-loop
 sub-i-2 c = c .loop-test .taken
 
--- src/lib.rt:129:46
 add-greatest-of-2 : tie.Need-add-greatest-of-2 Inv-loop μ-loop
 add-greatest-of-2 c = let v = c .before .before .before .pre .inside in omega arith
 
--- src/lib.rt:129:28
 greatest-of-requires-2 : tie.Need-greatest-of-requires-2 Inv-loop μ-loop
 greatest-of-requires-2 c κs = let s = c .before .before .before in limit-in (s .args .nest .now) (s .args .j) (s .args .n) (s .args .k) (s .args .outer) (s .pre) (c .before .loop .i - 1) (omega arith)
 
--- src/lib.rt:129:9
 smaller-requires : tie.Need-smaller-requires Inv-loop μ-loop
 smaller-requires c κs = let e = copied (c .greatest-of2 .result) (c .greatest-of2 .ensures .1) in (rw e (c .greatest-of2 .ensures .1), c .before .before .loop .inv .2)
 
--- src/lib.rt:127:5
 loop-less : tie.Need-loop-less Inv-loop μ-loop
 loop-less c = let h = c .before .before .loop-test .taken in omega arith
 
--- src/lib.rt:127:5
 loop-again : tie.Need-loop-again Inv-loop μ-loop
+unfolding smallestFrom greatestOf
 loop-again c = let s = c .before .before .before .before .before in let l = c .before .before .before .loop in let v = c .before .greatest-of2 in let e = copied (v .result) (v .ensures .1) in
-    (omega arith, c .smaller .ensures .0 ∙ smallest-before (s .args .nest .now) (s .args .j) (s .args .n) (s .args .k) (s .args .outer) (s .pre) (l .i) (c .before .before .loop-test .taken) (l .inv .0) (l .r .value) _ (l .inv .1) (e ∙ v .ensures .0), c .smaller .ensures .1)
+    (omega arith, c .smaller .ensures .0 ∙ side-before upper (greatestOf (rangesOf (s .args .k) (s .args .outer))) (s .args .nest .now) (s .args .k) (s .args .j) (s .args .n) (l .i) (c .before .before .loop-test .taken) (l .inv .0) (l .r .value) _ (l .inv .1) (e ∙ v .ensures .0), c .smaller .ensures .1)
 
--- src/lib.rt:119:1
 returns : tie.Need-returns Inv-loop μ-loop
+unfolding smallestFrom greatestOf
 returns c = let s = c .before .before .before in let l = c .before .loop in
-    (smallest-all (s .args .nest .now) (s .args .j) (s .args .n) (s .args .k) (s .args .outer) (s .pre) (l .i) (omega (arith, c .loop-test .left)) (l .r .value) (l .inv .1), l .inv .2)
+    (side-all upper (greatestOf (rangesOf (s .args .k) (s .args .outer))) (s .args .nest .now) (s .args .k) (s .args .j) (s .args .n) (l .i) (omega (arith, c .loop-test .left)) (l .r .value) (l .inv .1), l .inv .2)
 
 pub smallest-from-spec : {M : Type 1} → statement M
 smallest-from-spec =
