@@ -6,7 +6,7 @@ use Prim.Native.Nat.{ℕ, _+_, _*_, _≤_}
 use lib.ListN.{length, take}
 use Rattle.lists.specs.Membership.{All}
 use Rattle.model.specs.Grammar as Grammar
-use Rattle.model.specs.Grammar.{elements, total, shape, array, mostDimensions, mostArrays, arrayRoom}
+use Rattle.model.specs.Grammar.{elements, total, shape, array, mostDimensions, mostArrays, arrayRoom, mostElements}
 use Rattle.model.specs.Ranges.{ArrayRanges}
 use Rattle.reading.specs.Refusals.{Reads}
 use Rattle.reading.specs.declared.Status.the-variants.{Fine}
@@ -39,7 +39,7 @@ pub record ReadsArray (t : ℕ) (b : List ℕ) (k : ℕ) (r : ShapeRead) : Type 
   pub within : ShapeIn (r .shape)
   pub total : r .elements ≡ elements (shapeOf (r .shape))
   pub ranges : r .status ≡ Fine → ArrayRanges (shapeOf (r .shape))
-  pub room : r .status ≡ Fine → t + r .elements ≤ 16384
+  pub room : r .status ≡ Fine → t + r .elements ≤ mostElements
 
 -- an array can be laid; `room` is the number of words
 pub record LayShapeIn (room i : ℕ) (a : Shape) : Type 0 where
@@ -54,7 +54,7 @@ pub record ReadsArrays (b : List ℕ) (at : ℕ) (e e′ : List ℕ) (r : Arrays
   pub count : length arrays ≡ r .count
   pub few : r .count ≤ mostArrays
   pub ranges : All ArrayRanges arrays
-  pub room : total arrays ≤ 16384
+  pub room : total arrays ≤ mostElements
   pub laid : e′ ≡ layRows arrayRoom e 0 (map shapeWords arrays)
   -- as they stand on the slice
   pub same : arraysOf (take (r .count * arrayRoom) e′) ≡ arrays

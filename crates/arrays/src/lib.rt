@@ -3,7 +3,7 @@ ghost use mathlib.Core.Path.{_≡_};
 ghost use Prim.Native.Nat.{_*_, _≤_};
 ghost use lib.ListN.{length};
 ghost use Rattle.lists.specs.Parts.{put};
-ghost use Rattle.model.specs.Grammar.{mostDimensions, arrayRoom, mostExtents};
+ghost use Rattle.model.specs.Grammar.{mostDimensions, arrayRoom, mostExtents, mostElements};
 ghost use Rattle.reading.specs.Refusals.{Reached};
 ghost use Rattle.reading.specs.declared.Status.the-variants.{Refused};
 ghost use Rattle.arrays.specs.Laid.{shapeWords};
@@ -11,6 +11,8 @@ ghost use Rattle.arrays.specs.Arrays.{shapeOf, LayShapeIn, ReadsShape, R
 use model::ARRAY_ROOM;
 use model::ARRAYS;
 use model::DIMENSIONS;
+use model::ELEMENTS;
+use model::EXTENT;
 use reading::Natural;
 use reading::Refusal;
 use reading::Status;
@@ -64,7 +66,7 @@ pub fn read_shape(s: &[u8], at: usize) -> ShapeRead
     let mut next = at + 1;
     let mut k = 0;
     while k < dimensions {
-        match reading::read_natural(s, next, 1, 4096) {
+        match reading::read_natural(s, next, 1, EXTENT) {
             Natural::Value(n) => {
                 extents[k] = n;
                 elements = elements * n;
@@ -87,14 +89,14 @@ pub fn read_shape(s: &[u8], at: usize) -> ShapeRead
 
 // An array after others of `total` elements; all together have at most 16,384.
 pub fn read_array(s: &[u8], at: usize, total: usize) -> ShapeRead
-    requires { ⌜ Reached (now s) at × (total ≤ 16384) ⌝ }
+    requires { ⌜ Reached (now s) at × (total ≤ mostElements) ⌝ }
     ensures { λ r. ⌜ ReadsArray total (now (s .entry)) at r ⌝ }
 {
     let one = read_shape(s, at);
     let status = one.status;
     match status {
         Status::Fine => {
-            if 16384 < total + one.elements {
+            if ELEMENTS < total + one.elements {
                 return no_shape(Refusal::TooManyElements(one.next - 1), at);
             }
             one

@@ -8,7 +8,7 @@ use Rattle.lists.specs.Parts.{put}
 use Rattle.model.specs.Ticket as Model
 use Rattle.model.specs.Bounds.{accessesOf}
 use Rattle.model.specs.Grammar as Grammar
-use Rattle.model.specs.Grammar.{Reader, _>>=_, count, times, mostStatements, mostWrites, mostReads, mostAccesses, mostArrays, mostDimensions, mostLoops, arrayRoom, mostWords}
+use Rattle.model.specs.Grammar.{Reader, _>>=_, count, times, mostStatements, mostWrites, mostReads, mostAccesses, mostArrays, mostDimensions, mostLoops, arrayRoom, mostWords, mostExtent}
 use Rattle.reading.specs.Refusals.{Reached, Reads}
 use Rattle.reading.specs.declared.Status.the-variants.{Fine}
 use Rattle.elements.specs.Layout.{arraysOf}
@@ -24,7 +24,7 @@ pub record ArraysIn (e : List ℕ) (m : ℕ) : Type 0 where
   pub length-is : length e ≡ m * arrayRoom
   pub few : m ≤ mostArrays
   pub dimensions : (i : ℕ) → i < m → getD e (i * arrayRoom) 0 ≤ mostDimensions
-  pub extents : (j : ℕ) → getD e j 0 ≤ 4096
+  pub extents : (j : ℕ) → getD e j 0 ≤ mostExtent
 
 pub record Room (b : List ℕ) (at n : ℕ) (e : List ℕ) (m rows names : ℕ) : Type 0 where
   pub reached : Reached b at

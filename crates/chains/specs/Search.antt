@@ -10,7 +10,7 @@ use Rattle.lists.specs.Order.{Ordered}
 use Rattle.lists.specs.Parts.{rows}
 use Rattle.integers.specs.Sign.{Sign}
 use Rattle.model.specs.Inside.{Earlier}
-use Rattle.model.specs.Grammar.{mostPoints, mostLoops}
+use Rattle.model.specs.Grammar.{mostPoints, mostLoops, mostElements}
 use Rattle.model.specs.Directions.{vectorCount}
 use Rattle.vectors.specs.Numbers.{number}
 use Rattle.vectors.specs.Candidates.{code, Agree, Steady}
@@ -63,7 +63,7 @@ pub record Linkable (from to head out : List ℕ) : Type 0 where
   pub both : length to ≡ length from
   pub sources : Below (length head) from
   pub sinks : Below (length head) to
-  pub heads : length head ≤ 16384
+  pub heads : length head ≤ mostElements
   pub clear : Clear head
   pub room : length from ≤ length out
 
@@ -147,7 +147,7 @@ pub record Linked (from next head start : List ℕ) : Type 0 where
   pub nexts : Links from from false next
   pub table : length from ≤ length next
   pub sources : Below (length head) from
-  pub heads : length head ≤ 16384
+  pub heads : length head ≤ mostElements
   pub clear : Clear head
   pub room : length from ≤ length start
 

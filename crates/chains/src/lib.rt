@@ -4,6 +4,7 @@ ghost use mathlib.Core.Bool.{true, false};
 ghost use Prim.Native.Nat.{_+_, _-_, _≤_, _<_};
 ghost use lib.ListN.{length, getD};
 ghost use Rattle.model.specs.Directions.{vectorCount};
+ghost use Rattle.model.specs.Grammar.{mostElements};
 ghost use Rattle.vectors.specs.Candidates.{stride};
 ghost use Rattle.chains.specs.Search.{Below, Links, Unlinked, NextLinked, Clear, ClearElse, Linkable, Linked, Followable, upTo, Adds, walked, Walkable, Level, LevelElse, Tabled, Passed, found, Searchable};
 use model::LOOPS;
@@ -25,7 +26,7 @@ fn narrow(x: usize) -> u16
 
 // Takes the heads of all elements that `from` has away.
 fn clear(from: &[u16], head: &mut [u16])
-    requires { ⌜ Below (length (now head)) (now from) × (length (now head) ≤ 16384) × ClearElse (now from) (now head) (length (now from)) ⌝ }
+    requires { ⌜ Below (length (now head)) (now from) × (length (now head) ≤ mostElements) × ClearElse (now from) (now head) (length (now from)) ⌝ }
     ensures { λ _. ⌜ Clear (now (head .exit)) ⌝ }
 {
     let mut y = from.len();

@@ -13,7 +13,7 @@ use Rattle.model.specs.Ticket.{Access, Statement}
 use Rattle.model.specs.Machine.{same, element, accesses}
 use Rattle.model.specs.Directions.{Line, occurs, allLines, kindCount}
 use Rattle.model.specs.Inside.{Earlier}
-use Rattle.model.specs.Grammar.{mostPoints, mostLoops}
+use Rattle.model.specs.Grammar.{mostPoints, mostLoops, mostElements}
 use Rattle.vectors.specs.Numbers.{place, placeOf, marksFor}
 use Rattle.vectors.specs.Candidates.{row}
 use Rattle.chains.specs.Search.{some, found, Clear}
@@ -94,7 +94,7 @@ pub record Ready (F : Flat) (marks : List Bool) : Type 0 where
 
 -- every number is below m, of which there are no more than elements
 pub record NumbersBelow (m : ℕ) (F : Flat) : Type 0 where
-  pub few : m ≤ 16384
+  pub few : m ≤ mostElements
   pub below : (a x : ℕ) → a < length (F .statements) → x < F .count → numberAt F a x < m
 
 -- the mark of every line that there could be is set if the model says that it occurs, and no other mark changes

@@ -7,6 +7,7 @@ ghost use Rattle.model.specs.Directions.{kindCount, vectorCount};
 ghost use Rattle.vectors.specs.Numbers.{placeOf, marksFor};
 ghost use Rattle.chains.specs.Search.{Adds, Clear, Linked};
 ghost use Rattle.dependence.specs.Flat.{flat, Ready, Searched, kindOf, numbersOf, setBy, setFrom, NumbersBelow, Lent, Listed, Alike, FirstLike};
+use model::ELEMENTS;
 use model::KINDS;
 use model::POINTS;
 use model::VECTORS;
@@ -271,7 +272,7 @@ fn dependences_in_large(
         return;
     }
     let mut next = [0u16; POINTS];
-    let mut head = [0u16; 16384];
+    let mut head = [0u16; ELEMENTS];
     let mut start = [0u16; POINTS];
     from_all(
         points,

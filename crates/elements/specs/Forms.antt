@@ -7,7 +7,7 @@ use lib.IntN.{ℤ, pos, natAbs, _+ℤ_, _*ℤ_}
 use lib.Signed.{_≤ℤ_}
 use lib.ListN.{length, getD, take, drop, set, replicate}
 use Rattle.integers.specs.Affine.{affine, Within, AffineIn}
-use Rattle.model.specs.Grammar.{arrayRoom, mostLoops}
+use Rattle.model.specs.Grammar.{arrayRoom, mostLoops, mostElements, mostExtent}
 use Rattle.bounds.specs.Ranges.{Narrow}
 use Rattle.elements.specs.Layout.{AccessesOk}
 
@@ -38,7 +38,7 @@ valueAt f point = affine (getD f 0 (pos 0)) (take (length point) (drop 1 f)) poi
 -- a form of two dimensions at most, and one more: its extent and subscript j. No product leaves 64 bits
 pub record FoldIn (f : List ℤ) (extent : ℕ) (w : List ℤ) (j : ℕ) : Type 0 where
   pub near : Within 134246399 f
-  pub extents : extent ≤ 4096
+  pub extents : extent ≤ mostExtent
   pub inside : j * 8 + 8 ≤ length w
   pub small : Within 32767 w
 
@@ -46,7 +46,7 @@ pub record FormIn (w : List ℤ) (o a : List ℕ) (k b : ℕ) : Type 0 where
   pub loops : ℕ
   pub accesses : AccessesOk w o a loops
   pub there : k < length o
-  pub begins : b ≤ 16384
+  pub begins : b ≤ mostElements
 
 -- a form at a point where its value is small
 pub record ValueIn (f point : List ℤ) : Type 0 where
@@ -59,4 +59,4 @@ pub record ValueIn (f point : List ℤ) : Type 0 where
 pub record PlacedIn (f point : List ℤ) : Type 0 where
   pub value : ValueIn f point
   pub inside : pos 0 ≤ℤ valueAt f point
-  pub below : natAbs (valueAt f point) < 16384
+  pub below : natAbs (valueAt f point) < mostElements

@@ -9,7 +9,7 @@ use lib.IntN.{ℤ, pos}
 use lib.ListN.{length, getD, take, drop}
 use Rattle.integers.specs.Affine.{Within}
 use Rattle.model.specs.Ticket.{Subscript, Access}
-use Rattle.model.specs.Grammar.{mostAccesses, accessRoom, arrayRoom, mostExtents, mostLoops}
+use Rattle.model.specs.Grammar.{mostAccesses, accessRoom, arrayRoom, mostExtents, mostLoops, mostExtent}
 
 unfoldable pub extentsAt : List ℕ → ℕ → List ℕ
 extentsAt a i = take (getD a (i * arrayRoom) 0) (drop (i * arrayRoom + 1) a)
@@ -50,7 +50,7 @@ pub record ArrayIn (a : List ℕ) (i : ℕ) : Type 0 where
   pub few : length a ≤ mostExtents
   pub there : i < length a / arrayRoom
   pub dimensions : (j : ℕ) → j < length a / arrayRoom → getD a (j * arrayRoom) 0 ≤ 3
-  pub extents : (j : ℕ) → getD a j 0 ≤ 4096
+  pub extents : (j : ℕ) → getD a j 0 ≤ mostExtent
 
 -- what every ticket's arrays and accesses have, in a nest of n loops
 pub record AccessesOk (w : List ℤ) (o a : List ℕ) (n : ℕ) : Type 0 where
@@ -60,5 +60,5 @@ pub record AccessesOk (w : List ℤ) (o a : List ℕ) (n : ℕ) : Type 0 where
   pub shallow : n ≤ mostLoops
   pub small : Within 32767 w
   pub dimensions : (i : ℕ) → i < length a / arrayRoom → getD a (i * arrayRoom) 0 ≤ 3
-  pub extents : (j : ℕ) → getD a j 0 ≤ 4096
+  pub extents : (j : ℕ) → getD a j 0 ≤ mostExtent
   pub there : (k : ℕ) → k < length o → getD o k 0 < length a / arrayRoom

@@ -7,7 +7,7 @@ use lib.IntN.{ℤ}
 use lib.ListN.{length}
 use Rattle.lists.specs.Membership.{All}
 use Rattle.lists.specs.Parts.{rows, put}
-use Rattle.model.specs.Grammar.{total, arrayRoom}
+use Rattle.model.specs.Grammar.{total, arrayRoom, mostElements}
 use Rattle.model.specs.Bounds.{strays}
 use Rattle.model.specs.Machine.{element}
 use Rattle.model.specs.Store.{placeOf}
@@ -16,13 +16,13 @@ use Rattle.elements.specs.Search.{RowsIn}
 
 pub record BaseIn (a : List ℕ) (i : ℕ) : Type 0 where
   pub array : ArrayIn a i
-  pub fits : total (arraysOf a) ≤ 16384
+  pub fits : total (arraysOf a) ≤ mostElements
 
 -- all n arrays of a slice
 pub record TotalIn (a : List ℕ) (n : ℕ) : Type 0 where
   pub all : length a ≡ n * arrayRoom
   pub each : (i : ℕ) → i < n → ArrayIn a i
-  pub fits : total (arraysOf a) ≤ 16384
+  pub fits : total (arraysOf a) ≤ mostElements
 
 -- the place of access k of all at a point
 unfoldable pub placeAt : List ℤ → List ℕ → List ℕ → ℕ → ℕ → List ℤ → ℕ
@@ -42,5 +42,5 @@ pub record NumberIn (w : List ℤ) (o a : List ℕ) (points : List ℤ) (depth c
   pub accesses : AccessesOk w o a depth
   pub stored : RowsIn points depth count
   pub inside : (k : ℕ) → k < length o → All (λ p. strays (arraysOf a) p (accessAt w o a depth k) ≡ false) (rows depth count points)
-  pub fits : total (arraysOf a) ≤ 16384
+  pub fits : total (arraysOf a) ≤ mostElements
   pub space : length o * count ≤ room

@@ -14,7 +14,7 @@ use Rattle.model.specs.Answer.{Answer, accepted, refused, require, _>>_}
 use Rattle.model.specs.Ticket.{Access, Statement}
 use Rattle.model.specs.Bounds.{subscriptAt, strays, accessesOf, inArrays}
 use Rattle.model.specs.Store.{sum}
-use Rattle.model.specs.Grammar.{mostStatements, mostPoints, mostLoops}
+use Rattle.model.specs.Grammar.{mostStatements, mostPoints, mostLoops, mostExtent}
 use Rattle.elements.specs.Layout.{formAt, arraysOf, bodiesFrom, AccessesOk}
 
 -- not from 0 to extent − 1
@@ -31,7 +31,7 @@ pub record RowsIn (points : List ℤ) (depth count : ℕ) : Type 0 where
 pub record StrayIn (w : List ℤ) (j extent : ℕ) (points : List ℤ) (depth count : ℕ) : Type 0 where
   pub inside : j * 8 + 8 ≤ length w
   pub small : Within 32767 w
-  pub extents : extent ≤ 4096
+  pub extents : extent ≤ mostExtent
   pub stored : RowsIn points depth count
 
 -- some point's subscript j leaves its extent

@@ -7,7 +7,7 @@ ghost use lib.ListN.{length};
 ghost use Rattle.lists.specs.Parts.{rows, put};
 ghost use Rattle.integers.specs.Difference.{size};
 ghost use Rattle.integers.specs.Affine.{Within};
-ghost use Rattle.model.specs.Grammar.{elements, total};
+ghost use Rattle.model.specs.Grammar.{elements, total, mostElements, mostExtent};
 ghost use Rattle.model.specs.Store.{base};
 ghost use Rattle.bounds.specs.Ranges.{Narrow};
 ghost use Rattle.elements.specs.Layout.{extentsAt, arraysOf, ArrayIn};
@@ -26,7 +26,7 @@ fn value(form: &[i64], point: &[i64]) -> i64
 
 // Whether it is not from 0 to extent − 1.
 fn leaves(form: &[i64], extent: usize, point: &[i64]) -> bool
-    requires { ⌜ ValueIn (now form) (now point) × (extent ≤ 4096) ⌝ }
+    requires { ⌜ ValueIn (now form) (now point) × (extent ≤ mostExtent) ⌝ }
     ensures { λ r. ⌜ r ≡ off extent (valueAt (now (form .entry)) (now (point .entry))) ⌝ }
 {
     let x = value(form, point);
@@ -161,7 +161,7 @@ pub fn total_of(arrays: &[usize], n: usize) -> usize
 
 // One number of a form, with one dimension more.
 fn number(x: i64, extent: usize, word: i64) -> i64
-    requires { ⌜ (size x ≤ 134246399) × (extent ≤ 4096) × (size word ≤ 32767) ⌝ }
+    requires { ⌜ (size x ≤ 134246399) × (extent ≤ mostExtent) × (size word ≤ 32767) ⌝ }
     ensures { λ r. ⌜ r ≡ x *ℤ pos extent +ℤ word ⌝ }
 {
     x * (extent as i64) + word
@@ -186,7 +186,7 @@ fn deepen(form: [i64; 8], extent: usize, words: &[i16], j: usize) -> [i64; 8]
 
 // A form with b more.
 fn raise(form: [i64; 8], b: usize) -> [i64; 8]
-    requires { ⌜ Within 549873283071 form × (b ≤ 16384) ⌝ }
+    requires { ⌜ Within 549873283071 form × (b ≤ mostElements) ⌝ }
     ensures { λ r. ⌜ r ≡ raised b form ⌝ }
 {
     let mut r = form;

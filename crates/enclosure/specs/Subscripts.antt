@@ -8,7 +8,7 @@ use Rattle.integers.specs.Affine.{Within}
 use Rattle.model.specs.Ticket.{Subscript}
 use Rattle.model.specs.Quick as Model
 use Rattle.model.specs.Quick.{leastSum, greatestSum}
-use Rattle.model.specs.Grammar.{arrayRoom}
+use Rattle.model.specs.Grammar.{arrayRoom, mostExtent}
 use Rattle.elements.specs.Layout.{formAt, AccessesOk}
 use Rattle.extremes.specs.declared.Range.{Range}
 use Rattle.extremes.specs.Ranges.{RangesIn}
@@ -29,7 +29,7 @@ AllEnclosed rs w o a n m = (k : ℕ) → k < m → FirstEnclosed rs w o a n k (g
 pub record SubscriptIn (w : List ℤ) (j n extent : ℕ) (b : List Range) : Type 0 where
   pub small : Within 32767 w
   pub inside : j * 8 + 8 ≤ length w
-  pub extents : extent ≤ 4096
+  pub extents : extent ≤ mostExtent
   pub ranges : RangesIn n b
 
 pub record AccessesIn (w : List ℤ) (o a : List ℕ) (n : ℕ) (b : List Range) : Type 0 where

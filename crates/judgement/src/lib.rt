@@ -12,6 +12,7 @@ ghost use Rattle.stepping.specs.Taking.{TakingIn};
 ghost use Rattle.judgement.specs.Judgement.{DirectionIn, stageStatus, StageTaken, sheetAt, TakeIn, Taken, SurveyedNew, JudgeIn, JudgesSteps, Judges};
 use directions::DirectionSet;
 use model::ACCESS_ROOM;
+use model::ARRAY_ROOM;
 use reading::Refusal;
 use reading::Status;
 use sheet::Outline;
@@ -128,7 +129,7 @@ fn take(
         counts,
         &mut words[..accesses * ACCESS_ROOM],
         &owners[..accesses],
-        &extents[..arrays * 4],
+        &extents[..arrays * ARRAY_ROOM],
         depth,
         step,
         number,

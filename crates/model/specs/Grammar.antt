@@ -34,6 +34,13 @@ mostArrays = 4
 abbrev pub mostDimensions : ℕ
 mostDimensions = 3
 
+-- an extent, and the elements of all arrays
+abbrev pub mostExtent : ℕ
+mostExtent = 4096
+
+abbrev pub mostElements : ℕ
+mostElements = 16384
+
 -- loops, of a ticket's nest and after its sections
 abbrev pub ticketLoops : ℕ
 ticketLoops = 4
@@ -197,13 +204,13 @@ total (a ∷ rest) = elements a + total rest
 unfoldable pub shape : Reader (List ℕ)
 shape = do
   d ← count 1 mostDimensions
-  times d (natural 1 4096)
+  times d (natural 1 mostExtent)
 
 -- one after arrays of t elements; 5 is overfull
 unfoldable pub array : ℕ → Reader (List ℕ)
 array t = do
   a ← shape
-  must (leb (t + elements a) 16384) 5
+  must (leb (t + elements a) mostElements) 5
   done a
 
 unfoldable pub arraysFrom : ℕ → ℕ → Reader (List (List ℕ))

@@ -21,6 +21,12 @@ pub const ARRAYS: usize = 4;
 // dimensions of an array
 pub const DIMENSIONS: usize = 3;
 
+// an extent
+pub const EXTENT: usize = 4096;
+
+// elements of all arrays
+pub const ELEMENTS: usize = 16384;
+
 // loops of a ticket's nest
 pub const TICKET_LOOPS: usize = 4;
 

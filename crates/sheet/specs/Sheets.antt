@@ -7,7 +7,7 @@ use lib.IntN.{ℤ}
 use lib.ListN.{length, take, getD}
 use Rattle.lists.specs.Membership.{All}
 use Rattle.model.specs.Ticket.{Statement, Nest}
-use Rattle.model.specs.Grammar.{total, mostAccesses, accessRoom, mostWords, mostStatements, mostArrays, arrayRoom, mostExtents}
+use Rattle.model.specs.Grammar.{total, mostAccesses, accessRoom, mostWords, mostStatements, mostArrays, arrayRoom, mostExtents, mostElements}
 use Rattle.model.specs.Store.{sum}
 use Rattle.bounds.specs.Flat.{loopsFrom, NestOk}
 use Rattle.elements.specs.Layout.{arraysOf, accessAt, accessesFrom, AccessesOk}
@@ -84,7 +84,7 @@ pub record SheetIn (P : Sheet) : Type 0 where
   pub nest : NestOk (P .limits) (P .counts) (P .depth)
   pub some : 1 ≤ P .depth
   pub accesses-ok : AccessesOk (wordsIn P) (ownersIn P) (extentsIn P) (P .depth)
-  pub fits : total (arraysOf (extentsIn P)) ≤ 16384
+  pub fits : total (arraysOf (extentsIn P)) ≤ mostElements
   pub all-accesses : sum (sizesIn P) ≡ P .accesses
   pub each : All (λ m. 1 ≤ m) (sizesIn P)
   pub few-arrays : P .arrays ≤ mostArrays
