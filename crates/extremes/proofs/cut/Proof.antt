@@ -5,15 +5,12 @@ use Rattle.extremes.proofs.cut.Tie as tie
 use Rattle.extremes.proofs.cut.Reads as reads
 use Rattle.extremes.proofs.cut.Lts as lts
 
--- src/lib.rt:140:9
 returns : tie.Need-returns
 returns c = let s = c .before .before .before in cut-high (s .args .x .value) (s .pre) (c .if1 .taken)
 
--- src/lib.rt:143:9
 returns-2 : tie.Need-returns-2
 returns-2 c = let s = c .before .before .before .before .before .before in cut-low (s .args .x .value) (s .pre) (c .before .before .before .if1 .left) (c .if2 .taken)
 
--- src/lib.rt:135:1
 returns-3 : tie.Need-returns-3
 returns-3 c = let s = c .before .before .before .before .before .before in cut-none (s .args .x .value) (s .pre) (c .before .before .before .if1 .left) (c .if2 .left)
 

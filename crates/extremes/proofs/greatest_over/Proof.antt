@@ -9,39 +9,30 @@ use Rattle.extremes.proofs.greatest_over.Lts as lts
 use Rattle.extremes.proofs.cut.Reads as cut-reads
 use Rattle.extremes.proofs.smallest_from.Reads as smallest-from-reads
 
--- src/lib.rt:162:29
 mul-smallest-from : tie.Need-mul-smallest-from
 mul-smallest-from c = search needs
 
--- src/lib.rt:162:29
 add-smallest-from : tie.Need-add-smallest-from
 add-smallest-from c = search needs
 
--- src/lib.rt:162:49
 mul-smallest-from-2 : tie.Need-mul-smallest-from-2
 mul-smallest-from-2 c = search needs
 
--- src/lib.rt:162:49
 add-smallest-from-2 : tie.Need-add-smallest-from-2
 add-smallest-from-2 c = search needs
 
--- src/lib.rt:162:42
 mul-smallest-from-3 : tie.Need-mul-smallest-from-3
 mul-smallest-from-3 c = search needs
 
--- src/lib.rt:162:42
 shared-slice-read-smallest-from : tie.Need-shared-slice-read-smallest-from
 shared-slice-read-smallest-from c = search needs
 
--- src/lib.rt:162:9
 smallest-from-requires : tie.Need-smallest-from-requires
 smallest-from-requires c κs = let s = c .before .before in upper-in (s .args .nest .now) (s .args .counts .now) (s .args .k) (s .args .outer) (s .pre)
 
--- src/lib.rt:162:5
 cut-requires : tie.Need-cut-requires
 cut-requires c κs = search needs
 
--- src/lib.rt:158:1
 returns : tie.Need-returns
 returns c = let s = c .before .before .before .before in let x = c .before .smallest-from in
     (greatest-cut (s .args .nest .now) (s .args .counts .now) (s .args .k) (rangesOf (s .args .k) (s .args .outer)) (x .result .value) (c .cut .result .value) (x .ensures .0) (c .cut .ensures .0), c .cut .ensures .1)

@@ -9,31 +9,24 @@ use Rattle.extremes.proofs.least_over.Lts as lts
 use Rattle.extremes.proofs.cut.Reads as cut-reads
 use Rattle.extremes.proofs.largest_from.Reads as largest-from-reads
 
--- src/lib.rt:154:28
 mul-largest-from : tie.Need-mul-largest-from
 mul-largest-from c = search needs
 
--- src/lib.rt:154:43
 mul-largest-from-2 : tie.Need-mul-largest-from-2
 mul-largest-from-2 c = search needs
 
--- src/lib.rt:154:36
 mul-largest-from-3 : tie.Need-mul-largest-from-3
 mul-largest-from-3 c = search needs
 
--- src/lib.rt:154:36
 shared-slice-read-largest-from : tie.Need-shared-slice-read-largest-from
 shared-slice-read-largest-from c = search needs
 
--- src/lib.rt:154:9
 largest-from-requires : tie.Need-largest-from-requires
 largest-from-requires c κs = let s = c .before .before in lower-in (s .args .nest .now) (s .args .counts .now) (s .args .k) (s .args .outer) (s .pre)
 
--- src/lib.rt:154:5
 cut-requires : tie.Need-cut-requires
 cut-requires c κs = search needs
 
--- src/lib.rt:150:1
 returns : tie.Need-returns
 returns c = let s = c .before .before .before .before in let x = c .before .largest-from in
     (least-cut (s .args .nest .now) (s .args .counts .now) (s .args .k) (rangesOf (s .args .k) (s .args .outer)) (x .result .value) (c .cut .result .value) (x .ensures .0) (c .cut .ensures .0), c .cut .ensures .1)

@@ -17,40 +17,31 @@ Inv-loop nest counts n r₀ i₀ r i = (i ≤ n) × RangesAre nest counts i r
 abbrev μ-loop : tie.MeasureT-loop
 μ-loop nest counts n r₀ i₀ r i = n - i
 
--- src/lib.rt:204:5
 loop-holds : tie.Need-loop-holds Inv-loop μ-loop
 loop-holds c = let s = c .before in (omega arith, none-held (s .args .nest .now) (s .args .counts .now) _ refl)
 
--- src/lib.rt:205:13
 least-value-requires : tie.Need-least-value-requires Inv-loop μ-loop
 least-value-requires c κs = let s = c .before .before .before in loops-before (s .args .nest .now) (s .args .counts .now) (s .args .n) (c .before .loop .i) (s .pre) (c .loop-test .taken)
 
--- src/lib.rt:206:13
 greatest-value-requires : tie.Need-greatest-value-requires Inv-loop μ-loop
 greatest-value-requires c κs = let s = c .before .before .before .before in loops-before (s .args .nest .now) (s .args .counts .now) (s .args .n) (c .before .before .loop .i) (s .pre) (c .before .loop-test .taken)
 
--- src/lib.rt:207:9
 mul-r : tie.Need-mul-r Inv-loop μ-loop
 mul-r c = let f = c .before .before .before .before .before .before .before .pre .shallow in let h = c .before .before .before .before .loop-test .taken in omega arith
 
--- src/lib.rt:207:9
 array-set-from-r : tie.Need-array-set-from-r Inv-loop μ-loop
 array-set-from-r c = let f = c .before .before .before .before .before .before .before .pre .shallow in let h = c .before .before .before .before .loop-test .taken in let l = c .before .before .before .before .before .loop .inv .1 .held .six in omega arith
 
--- src/lib.rt:208:9
 add-i : tie.Need-add-i Inv-loop μ-loop
 add-i c = let f = c .before .before .before .before .before .before .before .pre .shallow in let h = c .before .before .before .before .loop-test .taken in omega arith
 
--- src/lib.rt:204:5
 loop-less : tie.Need-loop-less Inv-loop μ-loop
 loop-less c = let h = c .before .before .before .before .loop-test .taken in omega arith
 
--- src/lib.rt:204:5
 loop-again : tie.Need-loop-again Inv-loop μ-loop
 loop-again c = let s = c .before .before .before .before .before .before .before in let l = c .before .before .before .before .before .loop in let f = s .pre .shallow in let h = c .before .before .before .before .loop-test .taken in
     (omega arith, more-held (s .args .nest .now) (s .args .counts .now) (l .i) (l .r) (c .before .before .before .least-value .result .value) (c .before .before .greatest-value .result .value) (omega arith) (l .inv .1) (c .before .before .before .least-value .ensures) (c .before .before .greatest-value .ensures))
 
--- src/lib.rt:198:1
 returns : tie.Need-returns Inv-loop μ-loop
 returns c = let s = c .before .before .before in let l = c .before .loop in let e : l .i ≡ s .args .n = omega arith in subst (λ (k : ℕ). RangesAre (s .args .nest .now) (s .args .counts .now) k (l .r)) e (l .inv .1)
 

@@ -7,31 +7,24 @@ use Rattle.quick.proofs.common_divisor.Reads as reads
 use Rattle.quick.proofs.common_divisor.Lts as lts
 use Rattle.quick.proofs.gcd_onto.Reads as gcd-onto-reads
 
--- src/lib.rt:275:29
 mul-gcd-onto : tie.Need-mul-gcd-onto
 mul-gcd-onto c = search needs
 
--- src/lib.rt:275:29
 add-gcd-onto : tie.Need-add-gcd-onto
 add-gcd-onto c = search needs
 
--- src/lib.rt:275:9
 gcd-onto-requires : tie.Need-gcd-onto-requires
 gcd-onto-requires c κs = search needs
 
--- src/lib.rt:276:21
 mul-gcd-onto-2 : tie.Need-mul-gcd-onto-2
 mul-gcd-onto-2 c = search needs
 
--- src/lib.rt:276:21
 add-gcd-onto-2 : tie.Need-add-gcd-onto-2
 add-gcd-onto-2 c = search needs
 
--- src/lib.rt:276:5
 gcd-onto-requires-2 : tie.Need-gcd-onto-requires-2
 gcd-onto-requires-2 c κs = search needs
 
--- src/lib.rt:271:1
 returns : tie.Need-returns
 returns c = let s = c .before .before in gcd-both (s .args .words .now) (s .args .n) (s .args .u) (s .args .v) (c .before .gcd-onto .result) (c .gcd-onto2 .result) (c .before .gcd-onto .ensures) (c .gcd-onto2 .ensures)
 

@@ -7,19 +7,15 @@ use Rattle.quick.proofs.divides.Reads as reads
 use Rattle.quick.proofs.divides.Lts as lts
 use Rattle.quick.proofs.magnitude.Reads as magnitude-reads
 
--- src/lib.rt:263:9
 magnitude-requires : tie.Need-magnitude-requires
 magnitude-requires c κs = search needs
 
--- src/lib.rt:265:9
 returns : tie.Need-returns
 returns c = let s = c .before .before in let m = c .before .magnitude in divides-none (s .args .g) (m .result) (s .args .c) (s .pre) (m .ensures) (c .if1 .taken)
 
--- src/lib.rt:267:5
 rem-result : tie.Need-rem-result
 rem-result c = search needs
 
--- src/lib.rt:259:1
 returns-2 : tie.Need-returns-2
 returns-2 c = let s = c .before .before in let m = c .before .magnitude in divides-some (s .args .g) (m .result) (s .args .c) (s .pre) (m .ensures)
 

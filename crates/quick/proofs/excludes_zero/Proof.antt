@@ -5,11 +5,9 @@ use Rattle.quick.proofs.excludes_zero.Tie as tie
 use Rattle.quick.proofs.excludes_zero.Reads as reads
 use Rattle.quick.proofs.excludes_zero.Lts as lts
 
--- src/lib.rt:321:9
 returns : tie.Need-returns
 returns c = let s = c .before .before .before in zero-below (s .args .least .value) (s .args .greatest .value) (s .pre) (c .if1 .taken)
 
--- src/lib.rt:316:1
 returns-2 : tie.Need-returns-2
 returns-2 c = let s = c .before .before .before .before .before in zero-above (s .args .least .value) (s .args .greatest .value) (s .pre) (c .before .before .if1 .left)
 

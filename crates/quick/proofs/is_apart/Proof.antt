@@ -10,71 +10,54 @@ use Rattle.extremes.proofs.ranges.Reads as ranges-reads
 use Rattle.quick.proofs.some_apart.Reads as some-apart-reads
 use Rattle.quick.proofs.some_empty.Reads as some-empty-reads
 
--- src/lib.rt:370:8
 mul-if1 : tie.Need-mul-if1
 mul-if1 c = search needs
 
--- src/lib.rt:370:8
 shared-slice-read-if1 : tie.Need-shared-slice-read-if1
 shared-slice-read-if1 c = search needs
 
--- src/lib.rt:370:25
 mul-if1-2 : tie.Need-mul-if1-2
 mul-if1-2 c = search needs
 
--- src/lib.rt:370:25
 shared-slice-read-if1-2 : tie.Need-shared-slice-read-if1-2
 shared-slice-read-if1-2 c = search needs
 
--- src/lib.rt:371:9
 returns : tie.Need-returns
 returns c = let s = c .before .before .before .before .before .before in apart-arrays (s .args .nest .now) (s .args .counts .now) (s .args .depth) (s .args .words .now) (s .args .owners .now) (s .args .arrays .now) (s .args .first) (s .args .second) (s .pre) (c .if1 .taken)
 
--- src/lib.rt:373:9
 ranges-requires : tie.Need-ranges-requires
 ranges-requires c κs = search needs
 
--- src/lib.rt:374:8
 some-empty-requires : tie.Need-some-empty-requires
 some-empty-requires c κs = search needs
 
--- src/lib.rt:375:9
 returns-2 : tie.Need-returns-2
 returns-2 c = let s = c .before .before .before .before .before .before .before .before .before in let r = c .before .before .ranges in let t = c .before .some-empty in apart-empty (s .args .nest .now) (s .args .counts .now) (s .args .depth) (s .args .words .now) (s .args .owners .now) (s .args .arrays .now) (s .args .first) (s .args .second) (s .pre) (c .before .before .before .if1 .left) (r .result) (r .ensures) (t .result) (t .ensures) (c .if2 .taken)
 
--- src/lib.rt:377:20
 mul-d : tie.Need-mul-d
 mul-d c = search needs
 
--- src/lib.rt:377:20
 shared-slice-read-d : tie.Need-shared-slice-read-d
 shared-slice-read-d c = search needs
 
--- src/lib.rt:377:20
 mul-d-2 : tie.Need-mul-d-2
 mul-d-2 c = let s = c .before .before .before .before .before .before .before .before .before .before in let h = array-there (s .args .nest .now) (s .args .counts .now) (s .args .depth) (s .args .words .now) (s .args .owners .now) (s .args .arrays .now) (s .args .first) (s .args .second) (s .pre) in omega arith
 
--- src/lib.rt:377:13
 mul-d-3 : tie.Need-mul-d-3
 mul-d-3 c = let s = c .before .before .before .before .before .before .before .before .before .before in let h = array-there (s .args .nest .now) (s .args .counts .now) (s .args .depth) (s .args .words .now) (s .args .owners .now) (s .args .arrays .now) (s .args .first) (s .args .second) (s .pre) in omega arith
 
--- src/lib.rt:377:13
 shared-slice-read-d-2 : tie.Need-shared-slice-read-d-2
 shared-slice-read-d-2 c = let s = c .before .before .before .before .before .before .before .before .before .before .before in let h = array-there (s .args .nest .now) (s .args .counts .now) (s .args .depth) (s .args .words .now) (s .args .owners .now) (s .args .arrays .now) (s .args .first) (s .args .second) (s .pre) in h .0
 
--- src/lib.rt:378:23
 mul-some-apart : tie.Need-mul-some-apart
 mul-some-apart c = search needs
 
--- src/lib.rt:378:34
 mul-some-apart-2 : tie.Need-mul-some-apart-2
 mul-some-apart-2 c = search needs
 
--- src/lib.rt:378:5
 some-apart-requires : tie.Need-some-apart-requires
 some-apart-requires c κs = let s = c .before .before .before .before .before .before .before .before .before .before .before in forms-in (s .args .nest .now) (s .args .counts .now) (s .args .depth) (s .args .words .now) (s .args .owners .now) (s .args .arrays .now) (s .args .first) (s .args .second) (s .pre) (c .before .before .before .before .ranges .result) (c .before .before .before .before .ranges .ensures .held)
 
--- src/lib.rt:357:1
 returns-3 : tie.Need-returns-3
 returns-3 c = let s = c .before .before .before .before .before .before .before .before .before .before .before .before in let r = c .before .before .before .before .before .ranges in let t = c .before .before .before .before .some-empty in
     apart-forms (s .args .nest .now) (s .args .counts .now) (s .args .depth) (s .args .words .now) (s .args .owners .now) (s .args .arrays .now) (s .args .first) (s .args .second) (s .pre) (c .before .before .before .before .before .before .if1 .left) (r .result) (r .ensures) (t .result) (t .ensures) (c .before .before .before .if2 .left) (c .some-apart .result) (c .some-apart .ensures)

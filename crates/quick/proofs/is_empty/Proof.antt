@@ -5,7 +5,6 @@ use Rattle.quick.proofs.is_empty.Tie as tie
 use Rattle.quick.proofs.is_empty.Reads as reads
 use Rattle.quick.proofs.is_empty.Lts as lts
 
--- src/lib.rt:214:1
 returns : tie.Need-returns
 returns c = let s = c .before .before in empty-is (s .args .r) (s .pre)
 

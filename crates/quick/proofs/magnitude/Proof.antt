@@ -6,23 +6,18 @@ use Rattle.quick.proofs.magnitude.Tie as tie
 use Rattle.quick.proofs.magnitude.Reads as reads
 use Rattle.quick.proofs.magnitude.Lts as lts
 
--- src/lib.rt:241:17
 sub-result : tie.Need-sub-result
 sub-result c = neg-fits (c .before .args .a) (c .before .pre)
 
--- src/lib.rt:241:16
 cast-result : tie.Need-cast-result
 cast-result c = neg-cast (c .before .args .a) (c .before .pre) (c .if1 .taken)
 
--- src/lib.rt:241:40
 cast-result-2 : tie.Need-cast-result-2
 cast-result-2 c = pos-cast (c .before .args .a) (c .before .pre) (c .if1 .left)
 
--- src/lib.rt:237:1
 returns : tie.Need-returns
 returns c = neg-abs (c .before .args .a) (c .before .pre)
 
--- src/lib.rt:237:1
 returns-2 : tie.Need-returns-2
 returns-2 c = search needs
 

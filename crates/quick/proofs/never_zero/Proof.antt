@@ -13,36 +13,28 @@ use Rattle.quick.proofs.excludes_zero.Reads as excludes-zero-reads
 use Rattle.quick.proofs.greatest_difference.Reads as greatest-difference-reads
 use Rattle.quick.proofs.least_difference.Reads as least-difference-reads
 
--- src/lib.rt:331:9
 common-divisor-requires : tie.Need-common-divisor-requires
 common-divisor-requires c κs = search needs
 
--- src/lib.rt:332:9
 constant-difference-requires : tie.Need-constant-difference-requires
 constant-difference-requires c κs = search needs
 
--- src/lib.rt:333:9
 divides-requires : tie.Need-divides-requires
 divides-requires c κs = divisor-asks (c .before .constant-difference .result .value) (c .before .constant-difference .ensures .1)
 
--- src/lib.rt:334:9
 returns : tie.Need-returns
 returns c = let s = c .before .before .before .before .before in let d = c .before .before .before .constant-difference in let g = c .before .before .before .before .common-divisor in let t = c .before .divides in
     never-divided (s .args .words .now) (s .args .n) (s .args .u) (s .args .v) (rangesOf (s .args .n) (s .args .ranges)) (g .result) (d .result .value) (t .result) (g .ensures) (d .ensures) (t .ensures) (c .if1 .taken)
 
--- src/lib.rt:336:9
 least-difference-requires : tie.Need-least-difference-requires
 least-difference-requires c κs = search needs
 
--- src/lib.rt:337:9
 greatest-difference-requires : tie.Need-greatest-difference-requires
 greatest-difference-requires c κs = search needs
 
--- src/lib.rt:338:5
 excludes-zero-requires : tie.Need-excludes-zero-requires
 excludes-zero-requires c κs = search needs
 
--- src/lib.rt:327:1
 returns-2 : tie.Need-returns-2
 returns-2 c = let s = c .before .before .before .before .before .before .before .before in let d = c .before .before .before .before .before .before .constant-difference in let g = c .before .before .before .before .before .before .before .common-divisor in let t = c .before .before .before .before .divides in let x = c .before .before .least-difference in let y = c .before .greatest-difference in
     never-reached (s .args .words .now) (s .args .n) (s .args .u) (s .args .v) (rangesOf (s .args .n) (s .args .ranges)) (g .result) (d .result .value) (t .result) (g .ensures) (d .ensures) (t .ensures) (c .before .before .before .if1 .left)

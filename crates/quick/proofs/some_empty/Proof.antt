@@ -15,39 +15,30 @@ Inv-loop n ranges i₀ i = (i ≤ n) × RangesLeft ranges n i
 abbrev μ-loop : tie.MeasureT-loop
 μ-loop n ranges i₀ i = n - i
 
--- src/lib.rt:227:5
 loop-holds : tie.Need-loop-holds Inv-loop μ-loop
 loop-holds c = (omega arith, all-ranges-left (c .args .t1) (c .args .n))
 
--- src/lib.rt:228:21
 mul-is-empty : tie.Need-mul-is-empty Inv-loop μ-loop
 mul-is-empty c = let f = c .before .before .pre .few in omega arith
 
--- src/lib.rt:228:21
 array-copy-out-is-empty : tie.Need-array-copy-out-is-empty Inv-loop μ-loop
 array-copy-out-is-empty c = let f = c .before .before .pre .few in let l = c .before .before .pre .six in omega arith
 
--- src/lib.rt:228:12
 is-empty-requires : tie.Need-is-empty-requires Inv-loop μ-loop
 is-empty-requires c κs = let s = c .before .before .before in range-near (s .args .n) (s .args .t1) (s .pre) (c .before .before .loop .i) (c .before .loop-test .taken)
 
--- src/lib.rt:229:13
 returns : tie.Need-returns Inv-loop μ-loop
 returns c = let s = c .before .before .before .before .before in let l = c .before .before .before .before .loop in empty-found (s .args .t1) (s .args .n) (l .i) (s .pre) (c .before .before .before .loop-test .taken) (l .inv .1) (c .before .is-empty .result) (c .before .is-empty .ensures) (c .if1 .taken)
 
--- src/lib.rt:231:9
 add-i : tie.Need-add-i Inv-loop μ-loop
 add-i c = let f = c .before .before .before .before .before .pre .few in omega arith
 
--- src/lib.rt:227:5
 loop-less : tie.Need-loop-less Inv-loop μ-loop
 loop-less c = omega arith
 
--- src/lib.rt:227:5
 loop-again : tie.Need-loop-again Inv-loop μ-loop
 loop-again c = let s = c .before .before .before .before .before in let l = c .before .before .before .before .loop in (omega arith, fewer-ranges-left (s .args .t1) (s .args .n) (l .i) (s .pre) (c .before .before .before .loop-test .taken) (l .inv .1) (c .before .is-empty .result) (c .before .is-empty .ensures) (c .if1 .left))
 
--- src/lib.rt:222:1
 returns-2 : tie.Need-returns-2 Inv-loop μ-loop
 returns-2 c = let s = c .before .before in let l = c .before .loop in no-range-left (s .args .t1) (s .args .n) (l .i) (omega arith) (l .inv .1)
 
