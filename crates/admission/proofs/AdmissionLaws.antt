@@ -10,18 +10,19 @@ use Rattle.model.specs.Answer.{accepted, _>>_, _>>=_}
 use Rattle.model.specs.Bounds.{space, inArrays, admitted}
 use Rattle.model.specs.Points.{iterations}
 use Rattle.model.specs.Grammar.{ticketLoops, mostPoints}
-use Rattle.reading.specs.declared.Refusal.{Refusal}
-use Rattle.reading.specs.declared.Refusal.the-variants.{IndexOutOfRange, TooManyPoints, SubscriptOutOfBounds}
-use Rattle.reading.specs.declared.Status.{Status}
-use Rattle.reading.specs.Refusals.{refusal}
+use Rattle.ticket_refusals.specs.declared.Refusal.{Refusal}
+use Rattle.ticket_refusals.specs.declared.Refusal.the-variants.{IndexOutOfRange, TooManyPoints, SubscriptOutOfBounds}
+use Rattle.ticket_refusals.specs.declared.Status.{Status}
+use Rattle.ticket_refusals.specs.Refusals.{refusal}
 use Rattle.space.specs.Surveys as Space
 use Rattle.space.specs.declared.Verdict.{Verdict}
 use Rattle.space.specs.declared.Verdict.the-variants.{Admitted, FarIndex, Crowded}
 use Rattle.space.proofs.ListLaws.{admitted-near, admitted-few}
 use Rattle.elements.specs.Search as Elements
 use Rattle.sheet.specs.Sheets.{Sheet, nestOf}
-use Rattle.sheet.specs.Stages.{Surveyed, ListIn, PointsAre, Searched}
-use Rattle.sheet.proofs.StageLaws.{depth-is}
+use Rattle.space.specs.Nests.{NestSurveyed, ListIn, PointsAre}
+use Rattle.elements.specs.Nests.{NestSearched}
+use Rattle.space.proofs.NestLaws.{depth-is}
 use Rattle.admission.specs.declared.Counted.{Counted}
 use Rattle.admission.specs.declared.Counted.the-variants.{Points, Refused}
 use Rattle.admission.specs.Admission.{answerOf, passed, Counts, Admits, Waits, FindIn, EnumerateIn, Enumerates}
@@ -36,7 +37,7 @@ not-points r n e = absurd (subst (λ (x : Counted). isRefused x) e tt)
 
 -- ---- 7 and 8
 
-module _ (P : Sheet) (v : Verdict) (g : Surveyed P 32767 mostPoints v) where
+module _ (P : Sheet) (v : Verdict) (g : NestSurveyed P 32767 mostPoints v) where
   surveyed : Space.answerOf 7 8 v ≡ space (nestOf P .loops)
   unfolding space
   surveyed = g .same 7 8
@@ -65,7 +66,7 @@ pub none-out : (r : ℕ) → r ≤ 0 → accepted tt ≡ Elements.answerOf r
 none-out zero z = refl
 none-out (suc r) z = absurd (omega arith)
 
-pub admits-by : (P : Sheet) → space (nestOf P .loops) ≡ accepted tt → (r : ℕ) → Searched P r → (s : Status) → passed s ≡ Elements.answerOf r → Admits P s
+pub admits-by : (P : Sheet) → space (nestOf P .loops) ≡ accepted tt → (r : ℕ) → NestSearched P r → (s : Status) → passed s ≡ Elements.answerOf r → Admits P s
 unfolding admitted _>>_ _>>=_
 admits-by P h r f s g = g ∙ f ∙ sym (ap (_>> inArrays (nestOf P .arrays) (iterations (nestOf P .loops)) 1 (nestOf P .statements)) h)
 
@@ -97,7 +98,7 @@ module _ (P : Sheet) (o : List ℤ) (h : EnumerateIn P (length o)) (e : List ℤ
   pub find-in : FindIn P e n
   find-in = record { stray = record { sheet = h .sheet; points-are = f .0 }; spacious = h .spacious }
 
-  pub enumerated : (r : ℕ) → Searched P r → (s : Status) → passed s ≡ Elements.answerOf r → Enumerates P o e s
+  pub enumerated : (r : ℕ) → NestSearched P r → (s : Status) → passed s ≡ Elements.answerOf r → Enumerates P o e s
   enumerated r g s q = record {
     same = admits-by P (h .spacious) r g s q;
     points = subst (PointsAre P e) (f .0 .count) (f .0);

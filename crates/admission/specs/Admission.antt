@@ -9,11 +9,12 @@ use Rattle.model.specs.Points.{iterations}
 use Rattle.model.specs.Bounds.{space, admitted}
 use Rattle.model.specs.Shape.{WellFormed}
 use Rattle.model.specs.Grammar.{ticketLoops}
-use Rattle.reading.specs.Refusals.{refusal}
-use Rattle.reading.specs.declared.Status.{Status}
-use Rattle.reading.specs.declared.Status.the-variants as Status
+use Rattle.ticket_refusals.specs.Refusals.{refusal}
+use Rattle.ticket_refusals.specs.declared.Status.{Status}
+use Rattle.ticket_refusals.specs.declared.Status.the-variants as Status
 use Rattle.sheet.specs.Sheets.{Sheet, nestOf, SheetIn}
-use Rattle.sheet.specs.Stages.{PointsAre, StrayIn}
+use Rattle.space.specs.Nests.{PointsAre}
+use Rattle.elements.specs.Nests.{NestStrayIn}
 use Rattle.admission.specs.declared.Counted.{Counted}
 use Rattle.admission.specs.declared.Counted.the-variants.{Points, Refused}
 
@@ -48,7 +49,7 @@ pub record Waits (P : Sheet) (n : ℕ) : Type 0 where
 
 -- a nest that passes 7 and 8, and its n points
 pub record FindIn (P : Sheet) (points : List ℤ) (n : ℕ) : Type 0 where
-  pub stray : StrayIn P points n
+  pub stray : NestStrayIn P points n
   pub spacious : space (nestOf P .loops) ≡ accepted tt
 
 -- a nest that passes 7 and 8, and room for its points

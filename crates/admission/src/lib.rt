@@ -5,14 +5,14 @@ ghost use lib.ListN.{length};
 ghost use Rattle.model.specs.Grammar.{ticketLoops, mostPoints};
 ghost use Rattle.elements.specs.Search.{answerOf};
 ghost use Rattle.sheet.specs.Sheets.{sheetOf, SheetIn};
-ghost use Rattle.sheet.specs.Stages.{Searched};
+ghost use Rattle.elements.specs.Nests.{NestSearched};
 ghost use Rattle.admission.specs.Admission.{Counts, FindIn, passed, Waits, EnumerateIn, Admits, Enumerates};
 use model::POINTS;
 use model::TICKET_LOOPS;
-use reading::Refusal;
-use reading::Status;
 use sheet::Outline;
 use space::Verdict;
+use ticket_refusals::Refusal;
+use ticket_refusals::Status;
 
 pub enum Counted {
     // so many
@@ -24,7 +24,7 @@ pub fn count_points(outline: Outline, limits: &[i16], words: &[i16]) -> Counted
     requires { ⌜ SheetIn (sheetOf outline (now limits) (now words)) ⌝ }
     ensures { λ r. ⌜ Counts (sheetOf outline (now (limits .entry)) (now (words .entry))) r ⌝ }
 {
-    match sheet::survey(outline, limits, words, 32767, POINTS) {
+    match space::survey(outline, limits, words, 32767, POINTS) {
         Verdict::Admitted(n) => Counted::Points(n),
         Verdict::FarIndex(k) => Counted::Refused(Refusal::IndexOutOfRange(k)),
         Verdict::Crowded(k) => Counted::Refused(Refusal::TooManyPoints(k)),
@@ -40,14 +40,14 @@ fn find_stray(
     count: usize,
 ) -> usize
     requires { ⌜ FindIn (sheetOf outline (now limits) (now words)) (now points) count ⌝ }
-    ensures { λ r. ⌜ Searched (sheetOf outline (now (limits .entry)) (now (words .entry))) r ⌝ }
+    ensures { λ r. ⌜ NestSearched (sheetOf outline (now (limits .entry)) (now (words .entry))) r ⌝ }
 {
     if 32 < count {
         if enclosure::stays_inside(outline, limits, words) {
             return 0;
         }
     }
-    sheet::find_stray(outline, limits, words, points, count)
+    elements::find_stray(outline, limits, words, points, count)
 }
 
 // Refusal 9 by what was found.
@@ -65,7 +65,7 @@ pub fn enumerate(outline: Outline, limits: &[i16], words: &[i16], points: &mut [
     requires { ⌜ EnumerateIn (sheetOf outline (now limits) (now words)) (length (now points)) ⌝ }
     ensures { λ r. ⌜ Enumerates (sheetOf outline (now (limits .entry)) (now (words .entry))) (now (points .entry)) (now (points .exit)) r ⌝ }
 {
-    let count = sheet::list_points(outline, limits, words, points);
+    let count = space::list_points(outline, limits, words, points);
     answer(find_stray(outline, limits, words, points, count))
 }
 
@@ -74,8 +74,8 @@ fn admit_by_points(outline: Outline, limits: &[i16], words: &[i16], points: &mut
     requires { ⌜ EnumerateIn (sheetOf outline (now limits) (now words)) (length (now points)) ⌝ }
     ensures { λ r. ⌜ Admits (sheetOf outline (now (limits .entry)) (now (words .entry))) r ⌝ }
 {
-    let count = sheet::list_points(outline, limits, words, points);
-    answer(sheet::find_stray(outline, limits, words, points, count))
+    let count = space::list_points(outline, limits, words, points);
+    answer(elements::find_stray(outline, limits, words, points, count))
 }
 
 // The same of many points: without them, where the ranges of the loops show that refusal 9 is passed. Apart from `admit`, whose callers would

@@ -9,7 +9,7 @@ use lib.Seq.{length-take-le}
 use Rattle.lists.specs.Membership.{All}
 use Rattle.lists.proofs.MembershipLaws.{all-imp, all-cons, all-take, all-getD, all-getD-default, map-all}
 use Rattle.model.specs.Ranges.{InRange, ArrayRanges}
-use Rattle.elements.specs.Layout.{extentsAt, arraysFrom, arraysOf}
+use Rattle.sheet.specs.Layout.{extentsAt, arraysFrom, arraysOf}
 use Rattle.arrays.specs.Laid.{layRows, shapeWords}
 use Rattle.arrays.proofs.RowLaws.{part-take, part-head, part-tail, rows-length, rows-all, rows-at}
 

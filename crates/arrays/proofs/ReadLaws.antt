@@ -13,10 +13,10 @@ use Rattle.model.specs.Grammar.{Reader, _>>=_, done, count, elements, total, sh
 use Rattle.model.specs.Ranges.{ArrayRanges}
 use Rattle.model.proofs.Answers.AnswerLaws.{leads-accepted}
 use Rattle.model.proofs.Grammar.ArrayReading.{total-snoc, shape-meets}
-use Rattle.reading.specs.Refusals.{answer, Reached}
-use Rattle.reading.specs.declared.Status.{Status}
+use Rattle.reading.specs.Reads.{answer, Reached}
+use Rattle.ticket_refusals.specs.declared.Status.{Status}
 use Rattle.reading.proofs.ReaderLaws.{after-value, after-refusal, before, repeated, repeated-start, repeated-more, repeated-no, repeated-done}
-use Rattle.elements.specs.Layout.{arraysOf}
+use Rattle.sheet.specs.Layout.{arraysOf}
 use Rattle.arrays.specs.Laid.{layRows, shapeWords}
 use Rattle.arrays.specs.Arrays.{ReadsArrays}
 use Rattle.arrays.proofs.RowLaws.{rows-more}

@@ -8,9 +8,9 @@ use Rattle.lists.specs.Membership.{All}
 use Rattle.model.specs.Grammar as Grammar
 use Rattle.model.specs.Grammar.{elements, total, shape, array, mostDimensions, mostArrays, arrayRoom, mostElements}
 use Rattle.model.specs.Ranges.{ArrayRanges}
-use Rattle.reading.specs.Refusals.{Reads}
-use Rattle.reading.specs.declared.Status.the-variants.{Fine}
-use Rattle.elements.specs.Layout.{arraysOf}
+use Rattle.reading.specs.Reads.{Reads}
+use Rattle.ticket_refusals.specs.declared.Status.the-variants.{Fine}
+use Rattle.sheet.specs.Layout.{arraysOf}
 use Rattle.arrays.specs.Laid.{layRows, shapeWords}
 use Rattle.arrays.specs.declared.Shape.{Shape}
 use Rattle.arrays.specs.declared.ShapeRead.{ShapeRead}

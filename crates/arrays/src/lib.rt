@@ -4,8 +4,8 @@ ghost use Prim.Native.Nat.{_*_, _≤_};
 ghost use lib.ListN.{length};
 ghost use Rattle.lists.specs.Parts.{put};
 ghost use Rattle.model.specs.Grammar.{mostDimensions, arrayRoom, mostExtents, mostElements};
-ghost use Rattle.reading.specs.Refusals.{Reached};
-ghost use Rattle.reading.specs.declared.Status.the-variants.{Refused};
+ghost use Rattle.reading.specs.Reads.{Reached};
+ghost use Rattle.ticket_refusals.specs.declared.Status.the-variants.{Refused};
 ghost use Rattle.arrays.specs.Laid.{shapeWords};
 ghost use Rattle.arrays.specs.Arrays.{shapeOf, LayShapeIn, ReadsShape, ReadsArray, ReadsArrays};
 use model::ARRAY_ROOM;
@@ -14,8 +14,8 @@ use model::DIMENSIONS;
 use model::ELEMENTS;
 use model::EXTENT;
 use reading::Natural;
-use reading::Refusal;
-use reading::Status;
+use ticket_refusals::Refusal;
+use ticket_refusals::Status;
 
 // An array: its first `dimensions` extents.
 pub struct Shape {

@@ -13,7 +13,7 @@ use Rattle.lists.proofs.TestLaws.{true-T}
 use Rattle.model.specs.Bounds.{subscriptAt}
 use Rattle.model.specs.Directions.{signs, earlier, vectorCount}
 use Rattle.model.proofs.Quick.QuickRangeLaws.{InRanges}
-use Rattle.elements.specs.Layout.{formAt}
+use Rattle.sheet.specs.Layout.{formAt}
 use Rattle.extremes.specs.declared.Range.{Range}
 use Rattle.extremes.specs.Ranges.{rangesOf}
 use Rattle.vectors.specs.Numbers.{digit, numberAfter, number}

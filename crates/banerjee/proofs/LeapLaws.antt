@@ -25,7 +25,7 @@ use Rattle.integers.proofs.Polynomial.{_⊕_, _⊖_, ⊝, #}
 use Rattle.integers.proofs.Linear.{lin, _⊑_, _≐_, _⟶_}
 use Rattle.model.specs.Quick as Model
 use Rattle.bounds.proofs.LimitLaws.{within-drop}
-use Rattle.elements.specs.Layout.{formAt}
+use Rattle.sheet.specs.Layout.{formAt}
 use Rattle.quick.specs.Differences.{differenceAt, PairIn}
 use Rattle.extremes.specs.declared.Range.{Range}
 use Rattle.extremes.proofs.TermLaws.{copy}

@@ -156,7 +156,8 @@ module _ (c d : ℤ) (r : Range) (p : SpanIn c d r) where
       record {
         low = q .low;
         high = q .high;
-        holds = λ x y hx hy e. subst (InRange (rangeAs v)) (sym (exchanged x y)) (q .holds y x hy hx (ap digit (means-sign less y x (digit-means greater x y e))));
+        holds = λ x y hx hy e. subst (InRange (rangeAs v)) (sym (exchanged x y))
+            (q .holds y x hy hx (ap digit (means-sign less y x (digit-means greater x y e))));
       }
 
 -- ---- by the digit

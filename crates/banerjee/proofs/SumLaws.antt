@@ -16,7 +16,7 @@ use Rattle.integers.proofs.AffineLaws.{within-at, dot-snoc}
 use Rattle.integers.proofs.Polynomial.{_⊕_, _⊖_, _⊗_, #}
 use Rattle.integers.proofs.Linear.{lin, by, _≐_, _⟶_}
 use Rattle.model.specs.Bounds.{subscriptAt}
-use Rattle.elements.specs.Layout.{formAt, formsFrom}
+use Rattle.sheet.specs.Layout.{formAt, formsFrom}
 use Rattle.extremes.proofs.TermLaws.{copy}
 use Rattle.banerjee.specs.Sums.{coefficientSum, terms, difference, SubscriptsIn, SumsIn}
 use Rattle.banerjee.proofs.MachineLaws.{kept}

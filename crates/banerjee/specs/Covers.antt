@@ -11,7 +11,7 @@ use Rattle.model.specs.Bounds.{subscriptAt}
 use Rattle.model.specs.Directions.{signs, earlier, vectorCount}
 use Rattle.model.proofs.Quick.QuickRangeLaws.{InRanges}
 use Rattle.model.specs.Grammar.{accessRoom}
-use Rattle.elements.specs.Layout.{formsFrom}
+use Rattle.sheet.specs.Layout.{formsFrom}
 use Rattle.extremes.specs.declared.Range.{Range}
 use Rattle.extremes.specs.Ranges.{rangesOf, RangesIn}
 use Rattle.vectors.specs.Numbers.{number}

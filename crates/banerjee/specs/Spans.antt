@@ -11,7 +11,7 @@ use Rattle.model.specs.Bounds.{subscriptAt}
 use Rattle.model.specs.Directions.{signs}
 use Rattle.model.proofs.Quick.QuickRangeLaws.{InRange, InRanges}
 use Rattle.model.specs.Grammar.{mostLoops}
-use Rattle.elements.specs.Layout.{formsFrom}
+use Rattle.sheet.specs.Layout.{formsFrom}
 use Rattle.extremes.specs.declared.Range.{Range}
 use Rattle.extremes.specs.Ranges.{rangeAs, rangesOf, NearRange, RangesIn}
 use Rattle.vectors.specs.Numbers.{digit, numberAfter}

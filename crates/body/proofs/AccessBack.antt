@@ -11,7 +11,7 @@ use Rattle.lists.proofs.MembershipLaws.{all-cons, all-getD, map-all}
 use Rattle.model.specs.Ticket.{Subscript, Access}
 use Rattle.model.specs.Ranges.{Small, SubscriptRanges, AccessRanges}
 use Rattle.model.specs.Grammar.{accessRoom}
-use Rattle.elements.specs.Layout.{formAt, formsFrom, accessAt, accessesFrom}
+use Rattle.sheet.specs.Layout.{formAt, formsFrom, accessAt, accessesFrom}
 use Rattle.arrays.specs.Laid.{layRows}
 use Rattle.nest.specs.Laid.{affineWords}
 use Rattle.body.specs.Laid.{layAccess, layAccesses}

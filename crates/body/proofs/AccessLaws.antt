@@ -14,9 +14,9 @@ use Rattle.model.specs.Ticket as Model
 use Rattle.model.specs.Grammar.{count, natural, times, done, extents, subscript, access, mostWords, mostAccesses, mostReads}
 use Rattle.model.proofs.Answers.AnswerLaws.{leads-accepted}
 use Rattle.model.proofs.Grammar.StatementReading as Reading
-use Rattle.reading.specs.Refusals.{Reached}
+use Rattle.reading.specs.Reads.{Reached}
 use Rattle.reading.proofs.ReaderLaws.{after-value, after-refusal, before, times-start, times-more, times-no, times-done}
-use Rattle.elements.specs.Layout.{extentsAt, arraysOf, ArrayIn}
+use Rattle.sheet.specs.Layout.{extentsAt, arraysOf, ArrayIn}
 use Rattle.elements.proofs.LayoutLaws.{extents-are}
 use Rattle.elements.proofs.ElementLaws.{arrays-length}
 use Rattle.arrays.specs.Laid.{layRows}

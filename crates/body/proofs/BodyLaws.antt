@@ -14,7 +14,7 @@ use Rattle.model.specs.Answer.{accepted, refused}
 use Rattle.model.specs.Ticket.{Access, Statement}
 use Rattle.model.specs.Bounds.{accessesOf}
 use Rattle.model.specs.Grammar.{count, times, statement, statements, mostAccesses}
-use Rattle.reading.specs.Refusals.{Reached}
+use Rattle.reading.specs.Reads.{Reached}
 use Rattle.reading.proofs.ReaderLaws.{after-value, after-refusal, before, times-start, times-more, times-no, times-done}
 use Rattle.body.specs.Laid.{layAccesses, arrayNumbers, accessesIn, sizeOf}
 use Rattle.body.specs.Statements.{Laid, StatementLaid}

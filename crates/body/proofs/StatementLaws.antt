@@ -14,10 +14,12 @@ use Rattle.model.specs.Answer.{accepted, refused}
 use Rattle.model.specs.Ticket.{Access, Statement}
 use Rattle.model.specs.Bounds.{accessesOf}
 use Rattle.model.specs.Grammar.{Reader, _>>=_, count, natural, times, done, access, statement}
-use Rattle.reading.specs.Refusals.{answer, firstOf}
-use Rattle.reading.specs.declared.Status.{Status}
-use Rattle.reading.proofs.ReaderLaws.{first-fine, after-value, after-refusal, both-read, regrouped}
-use Rattle.elements.specs.Layout.{arraysOf}
+use Rattle.ticket_refusals.specs.Refusals.{firstOf}
+use Rattle.reading.specs.Reads.{answer}
+use Rattle.ticket_refusals.specs.declared.Status.{Status}
+use Rattle.ticket_refusals.proofs.StatusLaws.{first-fine}
+use Rattle.reading.proofs.ReaderLaws.{after-value, after-refusal, both-read, regrouped}
+use Rattle.sheet.specs.Layout.{arraysOf}
 use Rattle.body.specs.Laid.{layAccess, layAccesses, arrayNumbers}
 use Rattle.body.specs.Statements.{Laid, accesses, ReadsAccess, ReadsAccesses, ReadsStatement}
 use Rattle.body.specs.declared.AccessRead.{AccessRead}

@@ -9,9 +9,9 @@ use Rattle.model.specs.Ticket as Model
 use Rattle.model.specs.Bounds.{accessesOf}
 use Rattle.model.specs.Grammar as Grammar
 use Rattle.model.specs.Grammar.{Reader, _>>=_, count, times, mostStatements, mostWrites, mostReads, mostAccesses, mostArrays, mostDimensions, mostLoops, arrayRoom, mostWords, mostExtent}
-use Rattle.reading.specs.Refusals.{Reached, Reads}
-use Rattle.reading.specs.declared.Status.the-variants.{Fine}
-use Rattle.elements.specs.Layout.{arraysOf}
+use Rattle.reading.specs.Reads.{Reached, Reads}
+use Rattle.ticket_refusals.specs.declared.Status.the-variants.{Fine}
+use Rattle.sheet.specs.Layout.{arraysOf}
 use Rattle.body.specs.Laid.{layAccess, layAccesses, arrayNumbers, accessesIn, sizeOf}
 use Rattle.body.specs.declared.AccessRead.{AccessRead}
 use Rattle.body.specs.declared.AccessesRead.{AccessesRead}

@@ -5,8 +5,8 @@ ghost use mathlib.Core.Bool.{cond};
 ghost use lib.Dec.{eqb};
 ghost use lib.ListN.{length};
 ghost use Rattle.model.specs.Grammar.{mostStatements, mostWrites, mostReads, mostAccesses};
-ghost use Rattle.reading.specs.Refusals.{Reached};
-ghost use Rattle.reading.specs.declared.Status.the-variants.{Refused};
+ghost use Rattle.reading.specs.Reads.{Reached};
+ghost use Rattle.ticket_refusals.specs.declared.Status.the-variants.{Refused};
 ghost use Rattle.body.specs.Statements.{Room, ReadsAccess, ReadsAccesses, ReadsStatement, ReadsBody};
 use model::ARRAY_ROOM;
 use model::DIMENSIONS;
@@ -14,8 +14,8 @@ use model::READS;
 use model::ROW_ROOM;
 use model::STATEMENTS;
 use reading::Natural;
-use reading::Refusal;
-use reading::Status;
+use ticket_refusals::Refusal;
+use ticket_refusals::Status;
 
 pub struct AccessRead {
     pub status: Status,
@@ -212,7 +212,7 @@ fn read_statement(
     );
     let a = first.status;
     let b = others.status;
-    let status = reading::first_of(a, b);
+    let status = ticket_refusals::first_refusal(a, b);
     StatementRead {
         status: status,
         rule: rule,

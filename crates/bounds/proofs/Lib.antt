@@ -1,5 +1,4 @@
 -- Laws that the crate's contracts need.
-pub mod FlatLaws
 pub mod Sides
 pub mod LimitLaws
 pub mod SideLaws

@@ -15,7 +15,7 @@ use Rattle.integers.proofs.RingLaws.{zarith}
 use Rattle.integers.proofs.RangeLaws.{back, size-fits}
 use Rattle.integers.proofs.AffineLaws.{within-at, within-take, affine-size, nest-affine}
 use Rattle.model.specs.Points.{value}
-use Rattle.bounds.specs.Flat.{limitAt}
+use Rattle.sheet.specs.Flat.{limitAt}
 use Rattle.bounds.specs.Ranges.{Narrow, LimitIn, DivisorIn}
 use Rattle.bounds.proofs.Sides.{Side, rounded, rounded-size}
 
@@ -86,7 +86,9 @@ module _ {s : List ℤ} {j : ℕ} {outer : List ℤ} (p : DivisorIn s j outer) {
   divisor-positive = rw (w, read-word (p .limit) (j * 8)) (p .positive)
 
   -- rounded as the limits of a side are
-  pub quotient-is : (d : Side) (v r : ℤ) → (v ≡ value (limitAt s (length outer) j) outer) × Narrow v → r ≡ rounded d (toZ w64 (ofZ w64 v)) (toZ w64 (ofZ w64 m))
-      → (toZ w64 (ofZ w64 r) ≡ rounded d (value (limitAt s (length outer) j) outer) (pos (limitAt s (length outer) j .multiplier))) × Narrow (toZ w64 (ofZ w64 r))
+  pub quotient-is : (d : Side) (v r : ℤ) → (v ≡ value (limitAt s (length outer) j) outer) × Narrow v
+      → r ≡ rounded d (toZ w64 (ofZ w64 v)) (toZ w64 (ofZ w64 m))
+      → (toZ w64 (ofZ w64 r) ≡ rounded d (value (limitAt s (length outer) j) outer) (pos (limitAt s (length outer) j .multiplier)))
+      × Narrow (toZ w64 (ofZ w64 r))
   quotient-is d v r q e = rounded-is d (value (limitAt s (length outer) j) outer) (pos (limitAt s (length outer) j .multiplier)) r
       (subst Narrow (q .0) (q .1)) (e ∙ rw (copied v (q .1), divisor-is, q .0))

@@ -17,7 +17,7 @@ use Rattle.integers.proofs.DifferenceLaws.{sub-fact}
 use Rattle.integers.proofs.RingLaws.{zarith}
 use Rattle.integers.proofs.RangeLaws.{back, size-fits, size-sub, size-natAbs, cast-ok, test-lt, test-lt-no}
 use Rattle.model.specs.Points.{span, firstIndex, lastIndex}
-use Rattle.bounds.specs.Flat.{NestOk, loopAt}
+use Rattle.sheet.specs.Flat.{NestOk, loopAt}
 use Rattle.bounds.specs.Ranges.{Narrow, ceilAt, floorAt, firstFrom, lastFrom, Outside, RangeIn, Ranged}
 use Rattle.bounds.proofs.LimitLaws.{copied}
 

@@ -9,7 +9,7 @@ use lib.IntN.{ℤ}
 use mir.Syntax.{w64}
 use mir.Val.{toZ, ofZ}
 use Rattle.model.specs.Ticket.{Limit}
-use Rattle.bounds.specs.Flat.{limitAt, limitsAt}
+use Rattle.sheet.specs.Flat.{limitAt, limitsAt}
 use Rattle.bounds.specs.Ranges.{Narrow, DivisorIn, SideIn}
 use Rattle.bounds.proofs.LimitLaws.{copied}
 use Rattle.bounds.proofs.Sides.{Side, isTighter, tighter, tightest, first-tighter, second-tighter, one-limit, more-limits}
@@ -20,7 +20,8 @@ module _ (d : Side) (x y : ℤ) (p : Narrow x × Narrow y) where
   test-is : isTighter d (toZ w64 (ofZ w64 x)) (toZ w64 (ofZ w64 y)) ≡ isTighter d x y
   test-is = rw (copied x (p .0), copied y (p .1))
 
-  pub first-chosen : isTighter d (toZ w64 (ofZ w64 x)) (toZ w64 (ofZ w64 y)) ≡ true → (toZ w64 (ofZ w64 x) ≡ tighter d x y) × Narrow (toZ w64 (ofZ w64 x))
+  pub first-chosen : isTighter d (toZ w64 (ofZ w64 x)) (toZ w64 (ofZ w64 y)) ≡ true
+      → (toZ w64 (ofZ w64 x) ≡ tighter d x y) × Narrow (toZ w64 (ofZ w64 x))
   first-chosen e = let a = copied x (p .0) in (a ∙ first-tighter d x y (sym test-is ∙ e), rw a (p .0))
 
   pub second-chosen : isTighter d (toZ w64 (ofZ w64 x)) (toZ w64 (ofZ w64 y)) ≡ false → (y ≡ tighter d x y) × Narrow y
@@ -38,7 +39,8 @@ module _ (d : Side) (f : Limit → ℤ) (s : List ℤ) (k j n : ℕ) where
 
   pub side-before : (i : ℕ) → 1 ≤ i → i < n → (r x : ℤ) → r ≡ tightest d (map f (limitsAt s k (j + i) (n - i))) → x ≡ f (limitAt s k (j + (i - 1)))
       → tighter d x r ≡ tightest d (map f (limitsAt s k (j + (i - 1)) (n - (i - 1))))
-  side-before i h l r x e g = rw (e, g) (sym (more-limits d f s k (j + (i - 1)) (j + i) (n - (i - 1)) (n - i) (omega arith) (omega arith) (omega arith)))
+  side-before i h l r x e g = rw (e, g)
+      (sym (more-limits d f s k (j + (i - 1)) (j + i) (n - (i - 1)) (n - i) (omega arith) (omega arith) (omega arith)))
 
   pub side-all : (i : ℕ) → i ≡ 0 → (r : ℤ) → r ≡ tightest d (map f (limitsAt s k (j + i) (n - i))) → r ≡ tightest d (map f (limitsAt s k j n))
   side-all i z r e = let a : j + i ≡ j = omega arith in let b : n - i ≡ n = omega arith in e ∙ rw (a, b)

@@ -1,5 +1,5 @@
--- The two sides of a loop. A lower limit is rounded up, and the largest of all counts; an upper one is rounded down, and the smallest counts. What is
--- said of a side here is said of both.
+-- The two sides of a loop. A lower limit is rounded up, and the largest of all counts; an upper one is rounded down, and the smallest counts.
+-- What is said of a side here is said of both.
 use mathlib.Core.Path.{_≡_}
 use mathlib.Core.Bool.{Bool, true, false}
 use mathlib.Core.List.{List, map}
@@ -12,7 +12,7 @@ use Rattle.integers.specs.Division.{floorDiv, ceilDiv}
 use Rattle.integers.proofs.DivisionLaws.{size-ceil, size-floor}
 use Rattle.model.specs.Ticket.{Limit}
 use Rattle.model.specs.Points.{maxZ, minZ, largest, smallest}
-use Rattle.bounds.specs.Flat.{limitAt, limitsAt}
+use Rattle.sheet.specs.Flat.{limitAt, limitsAt}
 
 pub data Side : Type 0 where
   lower upper : Side

@@ -11,7 +11,7 @@ use Rattle.integers.specs.Affine.{Within}
 use Rattle.model.specs.Ticket.{Limit, Loop}
 use Rattle.model.specs.Points.{value, largest, smallest, firstIndex, lastIndex}
 use Rattle.model.specs.Grammar.{mostSides, nestLimits, nestRoom, mostLoops}
-use Rattle.bounds.specs.Flat.{limitsAt, Positive}
+use Rattle.sheet.specs.Flat.{limitsAt, Positive}
 
 -- within ±2^35, as the value of every limit is at indices within ±100,000
 abbrev pub Narrow : ℤ → Type 0

@@ -4,7 +4,7 @@ ghost use Prim.Native.Nat.{_+_, _≤_, _<_};
 ghost use lib.IntN.{_-ℤ_};
 ghost use lib.ListN.{length};
 ghost use Rattle.model.specs.Points.{value, maxZ, minZ, span};
-ghost use Rattle.bounds.specs.Flat.{limitAt, loopAt};
+ghost use Rattle.sheet.specs.Flat.{limitAt, loopAt};
 ghost use Rattle.bounds.specs.Ranges.{Narrow, ceilAt, floorAt, firstFrom, lastFrom, LimitIn, DivisorIn, SideIn, RangeIn, Ranged};
 
 // What limit j has against its multiplier times the index: the constant and the coefficients times the indices outside.

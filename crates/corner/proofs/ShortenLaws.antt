@@ -23,7 +23,7 @@ use Rattle.model.specs.Encode.{limitWords}
 use Rattle.model.specs.Judge.{smallLimit}
 use Rattle.model.specs.Inside.{InLimits}
 use Rattle.model.specs.Grammar.{mostSides, nestRoom}
-use Rattle.bounds.specs.Flat.{limitAt, limitsAt, loopAt, Positive, NestOk}
+use Rattle.sheet.specs.Flat.{limitAt, limitsAt, loopAt, Positive, NestOk}
 use Rattle.rows.specs.Rows.{Tried}
 use Rattle.nest.specs.Nested.{limitOf, LimitIn}
 use Rattle.nest.specs.declared.Limit as Nest

@@ -6,7 +6,7 @@ use lib.IntN.{ℤ}
 use lib.ListN.{length}
 use Rattle.model.specs.Inside.{InLimits}
 use Rattle.model.specs.Grammar.{mostSides, nestRoom, mostLoops}
-use Rattle.bounds.specs.Flat.{loopAt, NestOk}
+use Rattle.sheet.specs.Flat.{loopAt, NestOk}
 
 -- every index within the limits of a loop of the second nest is within those of the same loop of the first
 pub record Narrower (s : List ℤ) (c : List ℕ) (depth : ℕ) (t : List ℤ) (d : List ℕ) : Type 0 where

@@ -2,7 +2,7 @@
 ghost use mathlib.Core.Path.{_≡_};
 ghost use Prim.Native.Nat.{_≤_, _<_};
 ghost use Rattle.integers.specs.Difference.{size};
-ghost use Rattle.bounds.specs.Flat.{NestOk};
+ghost use Rattle.sheet.specs.Flat.{NestOk};
 ghost use Rattle.extremes.specs.Ranges.{rangeAs, NearRange, RangesIn};
 ghost use Rattle.nest.specs.Nested.{LimitIn};
 ghost use Rattle.corner.specs.Corners.{ShortenIn, Shortens, Narrower};

@@ -1,4 +1,4 @@
--- What a ticket that was admitted gives: listed points can be searched, and where refusal 9 was not given, no access leaves its array.
+-- Where refusal 9 was not given, no access leaves its array.
 use mathlib.Core.Path.{_≡_, refl, sym, _∙_, ap, subst}
 use mathlib.Core.Bool.{Bool, true, false}
 use mathlib.Core.Logic.{_⊎_, inl, inr, ⊎-elim}
@@ -16,21 +16,9 @@ use Rattle.model.specs.Answer.{Answer, accepted, refused}
 use Rattle.model.specs.Ticket.{Access, Statement}
 use Rattle.model.specs.Bounds.{strays, accessesOf, inArrays}
 use Rattle.model.specs.Store.{sum}
-use Rattle.space.specs.Stored.{PointsIn, Listed}
-use Rattle.space.proofs.ListLaws.{listed-near, listed-room}
-use Rattle.elements.specs.Layout.{arraysOf, accessAt, accessesFrom, bodiesFrom}
-use Rattle.elements.specs.Search.{RowsIn, inBodies}
+use Rattle.sheet.specs.Layout.{arraysOf, accessAt, accessesFrom, bodiesFrom}
+use Rattle.elements.specs.Search.{inBodies}
 use Rattle.elements.proofs.StrayLaws.{in-bodies, body-clear, body-strays}
-
-pub listed-rows : (s : List ℤ) (c : List ℕ) (depth : ℕ) (o e : List ℤ) (r : ℕ) → PointsIn s c depth (length o) → Listed s c depth o e r → RowsIn e depth r
-listed-rows s c depth o e r p g = record {
-  few = p .nest .shallow;
-  bound = g .few;
-  room = listed-room s c depth o e r p g .1;
-  near = listed-near s c depth (length o) o e r p g;
-}
-
--- ---- refusal 9 was not given
 
 stopped : {a b : ℕ} → _≡_ {A = Answer (Unit {0})} (refused a b) (accepted tt) → ⊥
 stopped e = let z : _≡_ {A = ℕ} 0 1 = cc in omega arith

@@ -11,7 +11,7 @@ use Rattle.lists.specs.Membership.{All}
 use Rattle.lists.proofs.MembershipLaws.{all-take, all-drop, mem-getD}
 use Rattle.model.specs.Grammar.{elements, total, extents}
 use Rattle.model.specs.Store.{base}
-use Rattle.elements.specs.Layout.{extentsAt, arraysFrom, arraysOf, ArrayIn}
+use Rattle.sheet.specs.Layout.{extentsAt, arraysFrom, arraysOf, ArrayIn}
 use Rattle.elements.proofs.LayoutLaws.{extents-are, extents-length, extent-read}
 
 abbrev pub Small : List ℕ → Type 0

@@ -10,7 +10,7 @@ use lib.ListN.{length, getD, drop}
 use lib.Seq.{drop-length}
 use Rattle.lists.specs.Parts.{rows}
 use Rattle.model.specs.Store.{sum}
-use Rattle.elements.specs.Layout.{extentsAt, arraysOf, accessesFrom, bodiesFrom, ArrayIn}
+use Rattle.sheet.specs.Layout.{extentsAt, arraysOf, accessesFrom, bodiesFrom, ArrayIn}
 use Rattle.elements.specs.Search.{straysAt, StrayIn, inBodies, answerOf, SearchIn, Searched}
 use Rattle.elements.proofs.LayoutLaws.{array-in, array-ends, extents-length, extent-read, bodies-drop, sum-drop}
 use Rattle.elements.proofs.StrayLaws.{grows, dimensionsStray, one-dimension, accessStrays, accessesStray, all-dimensions, one-access, in-bodies, body-clear, body-strays, no-body}

@@ -22,7 +22,7 @@ use Rattle.integers.proofs.Linear.{lin, _≐_}
 use Rattle.model.specs.Bounds.{subscriptAt}
 use Rattle.bounds.proofs.LimitLaws.{copied, within-drop}
 use Rattle.bounds.specs.Ranges.{Narrow}
-use Rattle.elements.specs.Layout.{formAt, ArrayIn, AccessesOk}
+use Rattle.sheet.specs.Layout.{formAt, ArrayIn, AccessesOk}
 use Rattle.elements.specs.Forms.{wordsAt, folded, formTo, raised, formOf, valueAt, FoldIn, ValueIn, PlacedIn}
 use Rattle.elements.proofs.LayoutLaws.{array-in}
 

@@ -10,7 +10,7 @@ use lib.ListN.{length, getD, drop, length-drop}
 use lib.Seq.{length-take-le, getD-take, getD-drop, drop-cons}
 use Rattle.model.specs.Grammar.{extents}
 use Rattle.model.specs.Store.{sum}
-use Rattle.elements.specs.Layout.{extentsAt, arraysFrom, arraysOf, formAt, formsFrom, accessAt, accessesFrom, bodiesFrom, ArrayIn, AccessesOk}
+use Rattle.sheet.specs.Layout.{extentsAt, arraysFrom, arraysOf, formAt, formsFrom, accessAt, accessesFrom, bodiesFrom, ArrayIn, AccessesOk}
 
 -- ---- arrays
 

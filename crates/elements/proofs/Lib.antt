@@ -11,3 +11,6 @@ pub mod PlaceLaws
 pub mod NumberLaws
 pub mod AdmittedLaws
 pub mod Witness
+pub mod NestLaws
+pub mod NestArrayLaws
+pub mod ClearLaws

@@ -14,7 +14,7 @@ use Rattle.lists.proofs.PartLaws.{length-rows, length-put, set-put, put-nil, ge
 use Rattle.model.specs.Bounds.{strays}
 use Rattle.model.specs.Store.{base}
 use Rattle.model.specs.Grammar.{mostAccesses, mostPoints, mostNumbers}
-use Rattle.elements.specs.Layout.{arraysOf, accessAt}
+use Rattle.sheet.specs.Layout.{arraysOf, accessAt}
 use Rattle.elements.specs.Forms.{formOf, valueAt, FormIn, PlacedIn}
 use Rattle.elements.specs.Places.{BaseIn, NumberIn, placeAt, placesOf, numbered}
 use Rattle.elements.proofs.LayoutLaws.{array-in}

@@ -20,7 +20,7 @@ use Rattle.model.specs.Bounds.{subscriptAt, outside, strays}
 use Rattle.model.specs.Machine.{element}
 use Rattle.model.specs.Store.{base, placeFrom, placeOf}
 use Rattle.bounds.specs.Ranges.{Narrow}
-use Rattle.elements.specs.Layout.{extentsAt, arraysOf, formAt, formsFrom, accessAt, ArrayIn, AccessesOk}
+use Rattle.sheet.specs.Layout.{extentsAt, arraysOf, formAt, formsFrom, accessAt, ArrayIn, AccessesOk}
 use Rattle.elements.specs.Search.{off}
 use Rattle.elements.specs.Forms.{wordsAt, formTo, formOf, valueAt, PlacedIn}
 use Rattle.elements.specs.Places.{placeAt}

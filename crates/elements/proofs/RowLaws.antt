@@ -17,8 +17,9 @@ use Rattle.lists.proofs.TestLaws.{some-any, any-join, true-T, T-true}
 use Rattle.lists.proofs.PartLaws.{rows-suc, rows-getD, length-rows, row-fits}
 use Rattle.integers.specs.Affine.{Within}
 use Rattle.model.specs.Bounds.{subscriptAt}
-use Rattle.elements.specs.Layout.{formAt}
-use Rattle.elements.specs.Search.{off, straysAt, RowsIn, StrayIn}
+use Rattle.sheet.specs.Layout.{formAt}
+use Rattle.elements.specs.Search.{off, straysAt, StrayIn}
+use Rattle.space.specs.Stored.{RowsIn}
 use Rattle.elements.specs.Forms.{wordsAt, valueAt, ValueIn}
 use Rattle.elements.proofs.FormLaws.{words-length, within-words, value-words}
 use Rattle.elements.proofs.SubscriptLaws.{subscript-in}

@@ -14,7 +14,7 @@ use Rattle.lists.proofs.TestLaws.{any-join, any-none}
 use Rattle.model.specs.Answer.{accepted, refused, require, _>>_, _>>=_}
 use Rattle.model.specs.Ticket.{Access, Statement}
 use Rattle.model.specs.Bounds.{subscriptAt, outside, strays, accessesOf, inArrays}
-use Rattle.elements.specs.Layout.{extentsAt, arraysOf, formAt, formsFrom, accessAt, accessesFrom, AccessesOk}
+use Rattle.sheet.specs.Layout.{extentsAt, arraysOf, formAt, formsFrom, accessAt, accessesFrom, AccessesOk}
 use Rattle.elements.specs.Search.{off, straysAt, inBodies}
 use Rattle.elements.proofs.LayoutLaws.{array-in, extents-are, extents-length, forms-snoc, forms-length, accesses-snoc}
 

@@ -7,7 +7,7 @@ use native.Mathlib.Nat.{mul-div-cancel}
 use lib.ListN.{length}
 use Rattle.model.specs.Grammar.{elements, total}
 use Rattle.model.specs.Store.{base}
-use Rattle.elements.specs.Layout.{extentsAt, arraysOf}
+use Rattle.sheet.specs.Layout.{extentsAt, arraysOf}
 use Rattle.elements.proofs.ElementLaws.{arrays-length, no-base, next-base, array-fits}
 use Rattle.elements.specs.Places.{TotalIn}
 

@@ -13,8 +13,9 @@ use Rattle.integers.specs.Affine.{Within, affine, dot}
 use Rattle.model.specs.Grammar.{elements, total, extents}
 use Rattle.model.specs.Bounds.{subscriptAt, outside, strays}
 use Rattle.model.specs.Store.{sum}
-use Rattle.elements.specs.Layout.{extentsAt, arraysFrom, arraysOf, formAt, formsFrom, accessAt, AccessesOk}
-use Rattle.elements.specs.Search.{RowsIn, SearchIn}
+use Rattle.sheet.specs.Layout.{extentsAt, arraysFrom, arraysOf, formAt, formsFrom, accessAt, AccessesOk}
+use Rattle.elements.specs.Search.{SearchIn}
+use Rattle.space.specs.Stored.{RowsIn}
 use Rattle.elements.specs.Places.{NumberIn}
 
 abbrev words : List ℤ

@@ -9,7 +9,7 @@ use lib.ListN.{length, getD, take, drop, set, replicate}
 use Rattle.integers.specs.Affine.{affine, Within, AffineIn}
 use Rattle.model.specs.Grammar.{arrayRoom, mostLoops, mostElements, mostExtent}
 use Rattle.bounds.specs.Ranges.{Narrow}
-use Rattle.elements.specs.Layout.{AccessesOk}
+use Rattle.sheet.specs.Layout.{AccessesOk}
 
 -- the words of subscript j of all
 unfoldable pub wordsAt : List ℤ → ℕ → List ℤ

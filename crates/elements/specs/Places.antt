@@ -11,8 +11,8 @@ use Rattle.model.specs.Grammar.{total, arrayRoom, mostElements}
 use Rattle.model.specs.Bounds.{strays}
 use Rattle.model.specs.Machine.{element}
 use Rattle.model.specs.Store.{placeOf}
-use Rattle.elements.specs.Layout.{arraysOf, accessAt, ArrayIn, AccessesOk}
-use Rattle.elements.specs.Search.{RowsIn}
+use Rattle.sheet.specs.Layout.{arraysOf, accessAt, ArrayIn, AccessesOk}
+use Rattle.space.specs.Stored.{RowsIn}
 
 pub record BaseIn (a : List ℕ) (i : ℕ) : Type 0 where
   pub array : ArrayIn a i

@@ -6,7 +6,6 @@ use Prim.Native.Nat.{ℕ, zero, suc, _+_, _*_, _≤_}
 use lib.IntN.{ℤ, pos}
 use lib.Signed.{ltZ, leZ}
 use lib.ListN.{length}
-use Rattle.lists.specs.Membership.{All}
 use Rattle.lists.specs.Tests.{any}
 use Rattle.lists.specs.Parts.{rows}
 use Rattle.integers.specs.Affine.{Within}
@@ -14,19 +13,13 @@ use Rattle.model.specs.Answer.{Answer, accepted, refused, require, _>>_}
 use Rattle.model.specs.Ticket.{Access, Statement}
 use Rattle.model.specs.Bounds.{subscriptAt, strays, accessesOf, inArrays}
 use Rattle.model.specs.Store.{sum}
-use Rattle.model.specs.Grammar.{mostStatements, mostPoints, mostLoops, mostExtent}
-use Rattle.elements.specs.Layout.{formAt, arraysOf, bodiesFrom, AccessesOk}
+use Rattle.model.specs.Grammar.{mostStatements, mostExtent}
+use Rattle.sheet.specs.Layout.{formAt, arraysOf, bodiesFrom, AccessesOk}
+use Rattle.space.specs.Stored.{RowsIn}
 
 -- not from 0 to extent − 1
 unfoldable pub off : ℕ → ℤ → Bool
 off extent x = ltZ x (pos 0) || leZ (pos extent) x
-
--- stored points that were admitted
-pub record RowsIn (points : List ℤ) (depth count : ℕ) : Type 0 where
-  pub few : depth ≤ mostLoops
-  pub bound : count ≤ mostPoints
-  pub room : count * depth ≤ length points
-  pub near : All (Within 100000) (rows depth count points)
 
 pub record StrayIn (w : List ℤ) (j extent : ℕ) (points : List ℤ) (depth count : ℕ) : Type 0 where
   pub inside : j * 8 + 8 ≤ length w

@@ -9,12 +9,17 @@ ghost use Rattle.integers.specs.Difference.{size};
 ghost use Rattle.integers.specs.Affine.{Within};
 ghost use Rattle.model.specs.Grammar.{elements, total, mostElements, mostExtent};
 ghost use Rattle.model.specs.Store.{base};
+ghost use Rattle.model.specs.Entries.{transparent};
 ghost use Rattle.bounds.specs.Ranges.{Narrow};
-ghost use Rattle.elements.specs.Layout.{extentsAt, arraysOf, ArrayIn};
+ghost use Rattle.sheet.specs.Layout.{extentsAt, arraysOf, ArrayIn};
+ghost use Rattle.sheet.specs.Sheets.{sheetOf, nestOf, SheetIn};
 ghost use Rattle.elements.specs.Search.{off, straysAt, StrayIn, SearchIn, Searched};
 ghost use Rattle.elements.specs.Forms.{wordsAt, folded, raised, formOf, valueAt, FoldIn, FormIn, ValueIn, PlacedIn};
 ghost use Rattle.elements.specs.Places.{BaseIn, TotalIn, NumberIn, placesOf, numbered};
+ghost use Rattle.elements.specs.Nests.{NestStrayIn, NestSearched, opaqueAt, NestNumberIn, NumbersAre};
+use model::ACCESS_ROOM;
 use model::ARRAY_ROOM;
+use sheet::Outline;
 
 // The value of a form at a point.
 fn value(form: &[i64], point: &[i64]) -> i64
@@ -78,7 +83,7 @@ fn strays(
 }
 
 // The number of the first statement that has a subscript which leaves its extent at some point, or 0.
-pub fn find_stray(
+fn search_statements(
     words: &[i16],
     owners: &[usize],
     arrays: &[usize],
@@ -247,7 +252,7 @@ fn number_access(
 }
 
 // Writes the place of every access at every point, those of one access after those of another.
-pub fn number_accesses(
+fn number_all(
     words: &[i16],
     owners: &[usize],
     arrays: &[usize],
@@ -264,4 +269,85 @@ pub fn number_accesses(
         number_access(words, owners, arrays, k, points, depth, count, out);
         k += 1;
     }
+}
+
+// The number of the first statement that has a subscript which leaves its extent at some point, or 0.
+pub fn find_stray(
+    outline: Outline,
+    limits: &[i16],
+    words: &[i16],
+    points: &[i64],
+    count: usize,
+) -> usize
+    requires { ⌜ NestStrayIn (sheetOf outline (now limits) (now words)) (now points) count ⌝ }
+    ensures { λ r. ⌜ NestSearched (sheetOf outline (now (limits .entry)) (now (words .entry))) r ⌝ }
+{
+    let owners = outline.owners;
+    let extents = outline.extents;
+    let sizes = outline.sizes;
+    let depth = outline.depth;
+    let accesses = outline.accesses;
+    search_statements(
+        &words[..accesses * ACCESS_ROOM],
+        &owners[..accesses],
+        &extents[..outline.arrays * ARRAY_ROOM],
+        &sizes[..outline.statements],
+        points,
+        depth,
+        count,
+    )
+}
+
+// The number of elements of all arrays.
+pub fn elements_in(outline: Outline, limits: &[i16], words: &[i16]) -> usize
+    requires { ⌜ SheetIn (sheetOf outline (now limits) (now words)) ⌝ }
+    ensures { λ r. ⌜ r ≡ total (nestOf (sheetOf outline (now (limits .entry)) (now (words .entry))) .arrays) ⌝ }
+{
+    let extents = outline.extents;
+    let arrays = outline.arrays;
+    total_of(&extents[..arrays * ARRAY_ROOM], arrays)
+}
+
+// The number of the first statement with rule 0, from 1, or 0.
+pub fn first_opaque(outline: Outline, limits: &[i16], words: &[i16]) -> usize
+    requires { ⌜ SheetIn (sheetOf outline (now limits) (now words)) ⌝ }
+    ensures { λ r. ⌜ opaqueAt r ≡ transparent 1 (nestOf (sheetOf outline (now (limits .entry)) (now (words .entry))) .statements) ⌝ }
+{
+    let statements = outline.statements;
+    let rules = outline.rules;
+    let mut s = 0;
+    while s < statements {
+        if rules[s] == 0 {
+            return s + 1;
+        }
+        s += 1;
+    }
+    0
+}
+
+// The place in the store of every access at every point that is lent, those of one access after those of another.
+pub fn number_accesses(
+    outline: Outline,
+    limits: &[i16],
+    words: &[i16],
+    points: &[i64],
+    count: usize,
+    numbers: &mut [u16],
+)
+    requires { ⌜ NestNumberIn (sheetOf outline (now limits) (now words)) (now points) count (length (now numbers)) ⌝ }
+    ensures { λ _. ⌜ NumbersAre (sheetOf outline (now (limits .entry)) (now (words .entry))) (now (points .entry)) count (now (numbers .exit)) ⌝ }
+{
+    let owners = outline.owners;
+    let extents = outline.extents;
+    let depth = outline.depth;
+    let accesses = outline.accesses;
+    number_all(
+        &words[..accesses * ACCESS_ROOM],
+        &owners[..accesses],
+        &extents[..outline.arrays * ARRAY_ROOM],
+        points,
+        depth,
+        count,
+        numbers,
+    );
 }

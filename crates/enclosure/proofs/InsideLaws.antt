@@ -26,14 +26,13 @@ use Rattle.model.proofs.Points.PointLaws.{iterations-inside}
 use Rattle.model.proofs.Points.WithinLaws.{space-within}
 use Rattle.model.proofs.Points.ArrayLaws.{Off, OffAt, Strays, accepted-arrays}
 use Rattle.model.proofs.Quick.QuickRangeLaws.{InRanges, least-sum, greatest-sum, in-ranges}
-use Rattle.elements.specs.Layout.{arraysOf, accessAt, AccessesOk}
+use Rattle.sheet.specs.Layout.{arraysOf, accessAt, AccessesOk}
 use Rattle.elements.proofs.LayoutLaws.{array-in, extents-are, extents-length, extent-read}
 use Rattle.elements.proofs.PlaceLaws.{forms-getD}
 use Rattle.extremes.specs.declared.Range.{Range}
 use Rattle.extremes.specs.Ranges.{rangesOf}
 use Rattle.extremes.specs.Values.{RangesAre}
-use Rattle.sheet.specs.Sheets.{Sheet, extentsIn, ownersIn, wordsIn, nestOf, SheetIn}
-use Rattle.sheet.specs.Stages.{noAccess}
+use Rattle.sheet.specs.Sheets.{Sheet, extentsIn, ownersIn, wordsIn, nestOf, SheetIn, noAccess}
 use Rattle.sheet.proofs.SheetLaws.{access-is, access-count, loops-run, owners-count}
 use Rattle.enclosure.specs.Subscripts.{Enclosed, AllEnclosed}
 use Rattle.enclosure.specs.Promises.{StaysInside}

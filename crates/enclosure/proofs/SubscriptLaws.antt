@@ -15,7 +15,7 @@ use Rattle.integers.proofs.AffineLaws.{within-at}
 use Rattle.model.specs.Quick.{leastSum, greatestSum}
 use Rattle.model.specs.Grammar.{mostExtents}
 use Rattle.bounds.proofs.LimitLaws.{copied}
-use Rattle.elements.specs.Layout.{formAt}
+use Rattle.sheet.specs.Layout.{formAt}
 use Rattle.elements.proofs.LayoutLaws.{array-in, array-ends}
 use Rattle.extremes.specs.declared.Range.{Range}
 use Rattle.extremes.specs.Ranges.{rangesOf}

@@ -9,7 +9,7 @@ use Rattle.model.specs.Ticket.{Subscript}
 use Rattle.model.specs.Quick as Model
 use Rattle.model.specs.Quick.{leastSum, greatestSum}
 use Rattle.model.specs.Grammar.{arrayRoom, mostExtent}
-use Rattle.elements.specs.Layout.{formAt, AccessesOk}
+use Rattle.sheet.specs.Layout.{formAt, AccessesOk}
 use Rattle.extremes.specs.declared.Range.{Range}
 use Rattle.extremes.specs.Ranges.{RangesIn}
 

@@ -5,7 +5,7 @@ ghost use mathlib.Core.Bool.{true};
 ghost use Prim.Native.Nat.{_*_, _≤_, _<_};
 ghost use lib.ListN.{length, getD};
 ghost use Rattle.model.specs.Grammar.{arrayRoom};
-ghost use Rattle.elements.specs.Layout.{formAt};
+ghost use Rattle.sheet.specs.Layout.{formAt};
 ghost use Rattle.extremes.specs.Ranges.{rangeAs, rangesOf, NearRange, RangesIn};
 ghost use Rattle.sheet.specs.Sheets.{sheetOf, SheetIn};
 ghost use Rattle.enclosure.specs.Subscripts.{Enclosed, FirstEnclosed, AllEnclosed, SubscriptIn, AccessesIn};

@@ -14,8 +14,8 @@ use Rattle.model.specs.Words.{bytesOf}
 use Rattle.model.specs.Encode.{counted, loopWords, arrayWords, statementWords, nestWords, encode}
 use Rattle.model.specs.Ranges.{Small, nestSections}
 use Rattle.model.proofs.Grammar.RoundTripLaws.{encode-length, nest-small}
-use Rattle.bounds.specs.Flat.{loopsFrom}
-use Rattle.elements.specs.Layout.{arraysOf}
+use Rattle.sheet.specs.Flat.{loopsFrom}
+use Rattle.sheet.specs.Layout.{arraysOf}
 use Rattle.sheet.specs.Sheets.{Sheet, extentsIn, sizesIn, ownersIn, wordsIn, statementsFrom, nestOf, SheetIn}
 use Rattle.sheet.proofs.SheetLaws.{owners-count, sizes-count}
 use Rattle.writing.specs.Writing.{Writable, Written}

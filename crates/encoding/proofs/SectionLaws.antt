@@ -7,7 +7,7 @@ use lib.IntN.{ℤ, pos}
 use lib.ListN.{length, getD, take, drop}
 use Rattle.model.specs.Encode.{counted, accessWords}
 use Rattle.model.specs.Grammar.{mostAccesses}
-use Rattle.elements.specs.Layout.{accessAt, accessesFrom}
+use Rattle.sheet.specs.Layout.{accessAt, accessesFrom}
 use Rattle.writing.proofs.WritingLaws.{spans}
 use Rattle.lengths.specs.Lengths.{ArraysIn}
 use Rattle.lengths.proofs.SumLaws.{array-ends}

@@ -12,7 +12,7 @@ use Rattle.lists.proofs.FlatMapLaws.{flatMap-one}
 use Rattle.model.specs.Encode.{counted, accessWords, statementWords}
 use Rattle.model.specs.Store.{sum}
 use Rattle.model.specs.Grammar.{mostAccesses}
-use Rattle.elements.specs.Layout.{accessAt, accessesFrom}
+use Rattle.sheet.specs.Layout.{accessAt, accessesFrom}
 use Rattle.writing.specs.Writing.{Writable, Written}
 use Rattle.writing.proofs.WritingLaws.{spans, writable-left, writable-right, written-both, Filling, front-next, front-more}
 use Rattle.lengths.specs.Slices.{statementAt, statementsAt}

@@ -8,30 +8,18 @@ use lib.ListN.{length, getD, replicate, length-replicate, getD-replicate}
 use Rattle.lists.proofs.MembershipLaws.{all-nil, all-cons}
 use Rattle.integers.specs.Affine.{Within}
 use Rattle.integers.proofs.RingLaws.{zarith}
-use Rattle.model.specs.Grammar.{elements, total, extents, mostWords, nestRoom, mostAccesses, accessRoom}
+use Rattle.model.specs.Grammar.{elements, total, extents, mostWords, nestRoom, accessRoom}
 use Rattle.model.specs.Store.{sum}
 use Rattle.model.specs.Ranges.{InRange, Small, LimitRanges, LoopRanges, ArrayRanges, SubscriptRanges, AccessRanges, StatementRanges, NestRanges}
 use Rattle.model.specs.Shape.{Runs, Fits, FitsAll, WellFormed}
-use Rattle.bounds.specs.Flat.{limitAt, limitsAt, loopAt, loopsFrom, NestOk}
-use Rattle.elements.specs.Layout.{extentsAt, arraysFrom, arraysOf, formAt, formsFrom, accessAt, accessesFrom, AccessesOk}
+use Rattle.sheet.specs.Flat.{limitAt, limitsAt, loopAt, loopsFrom, NestOk}
+use Rattle.sheet.specs.Layout.{extentsAt, arraysFrom, arraysOf, formAt, formsFrom, accessAt, accessesFrom, AccessesOk}
+use Rattle.sheet.proofs.Plain.{plain}
 use Rattle.sheet.specs.Sheets.{Sheet, wordsIn, ownersIn, extentsIn, statementsFrom, nestOf, SheetIn}
 use Rattle.encoding.specs.Encodable.{SheetEncodable}
 
 abbrev smallest : Sheet
-smallest = record {
-  depth = 1;
-  limits = replicate nestRoom (pos 1);
-  counts = replicate 12 1;
-  arrays = 1;
-  extents = replicate 16 1;
-  statements = 1;
-  sizes = replicate 4 1;
-  rules = replicate 4 0;
-  constants = replicate 4 0;
-  accesses = 1;
-  owners = replicate mostAccesses 0;
-  words = replicate mostWords (pos 0);
-}
+smallest = plain 1 0
 
 within-ones : (n : ℕ) → Within 32767 (replicate n (pos 1))
 within-ones zero = tt

@@ -9,7 +9,7 @@ use Rattle.model.specs.Shape.{WellFormed}
 use Rattle.model.specs.Store.{sum}
 use Rattle.model.specs.Ranges.{Small, NestRanges}
 use Rattle.model.specs.Grammar.{mostStatements, mostLoops, mostLimits}
-use Rattle.elements.specs.Layout.{AccessesOk}
+use Rattle.sheet.specs.Layout.{AccessesOk}
 use Rattle.sheet.specs.Sheets.{Sheet, nestOf, SheetIn}
 use Rattle.lengths.specs.Slices.{nestAt, SlicesIn}
 

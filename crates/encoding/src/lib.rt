@@ -1,6 +1,6 @@
 // A nest as a ticket's bytes in a lent buffer. `at` is a place in the buffer, and a writer answers the place behind what it wrote.
 ghost use Rattle.model.specs.Encode.{counted, arrayWords, accessWords, statementWords, nestWords};
-ghost use Rattle.elements.specs.Layout.{arraysOf, accessAt, accessesFrom};
+ghost use Rattle.sheet.specs.Layout.{arraysOf, accessAt, accessesFrom};
 ghost use Rattle.sheet.specs.Sheets.{sheetOf, nestOf};
 ghost use Rattle.writing.specs.Writing.{Writable, Written};
 ghost use Rattle.lengths.specs.Slices.{statementAt, statementsAt, nestAt, SlicesIn};

@@ -6,10 +6,10 @@ use lib.ListN.{length, length-append}
 use Rattle.model.specs.Answer as Model
 use Rattle.model.specs.Answer.{count}
 use Rattle.model.specs.Entries.{handOut, write, writeOf, list, listOf}
-use Rattle.intake.specs.declared.Answer.{Answer}
-use Rattle.intake.specs.declared.Answer.the-variants.{Accepted, Refused}
-use Rattle.intake.specs.Answers.{answerOf, Hands}
-use Rattle.intake.proofs.AnswerLaws.{handed-fits}
+use Rattle.entry_answers.specs.declared.Answer.{Answer}
+use Rattle.entry_answers.specs.declared.Answer.the-variants.{Accepted, Refused}
+use Rattle.entry_answers.specs.Answers.{answerOf, Hands}
+use Rattle.entry_answers.proofs.AnswerLaws.{handed-fits}
 
 fits : (m : Model.Answer (List ℕ)) (o e : List ℕ) (a : Answer) → Hands (handOut m o) a e → count (answerOf a) ≤ length o
 unfolding count

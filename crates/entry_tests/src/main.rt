@@ -7,12 +7,12 @@ ghost use mathlib.Core.Path.{_≡_};
 ghost use Prim.Native.Nat.{_+_, _*_, _<_, _≤_};
 ghost use lib.ListN.{length};
 ghost use Rattle.model.specs.Answer.{count};
-ghost use Rattle.intake.specs.Answers.{answerOf};
-use intake::Answer;
+ghost use Rattle.entry_answers.specs.Answers.{answerOf};
+use entry_answers::Answer;
 use libc::STDIN_FILENO;
 use libc::STDOUT_FILENO;
 use quick_entry::Tested;
-use reading::Refusal;
+use ticket_refusals::Refusal;
 
 // ---- answers
 
@@ -29,8 +29,8 @@ fn print_count(n: usize) {
 
 fn print_refusal(r: Refusal) {
     io::write_all(STDOUT_FILENO, b"refused");
-    print_number(reading::number_of(r));
-    print_number(reading::place_of(r));
+    print_number(ticket_refusals::number_of(r));
+    print_number(ticket_refusals::place_of(r));
     io::write_all(STDOUT_FILENO, b"\n");
 }
 

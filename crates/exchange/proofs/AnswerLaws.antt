@@ -13,7 +13,7 @@ use Rattle.model.specs.Judge.{smallLoop}
 use Rattle.model.specs.Limits.{newOuter, newInner, tidy}
 use Rattle.model.specs.Shape.{Sized}
 use Rattle.model.specs.Grammar.{mostSides, nestRoom}
-use Rattle.bounds.specs.Flat.{loopAt}
+use Rattle.sheet.specs.Flat.{loopAt}
 use Rattle.nest.specs.Laid.{layLoop, layCount}
 use Rattle.sides.proofs.FlatLaws.{limits-sized}
 use Rattle.sides.proofs.PutLaws.{untrue}

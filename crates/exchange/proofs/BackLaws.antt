@@ -12,7 +12,7 @@ use Rattle.lists.proofs.PartLaws.{drop-put, length-put}
 use Rattle.model.specs.Ticket as Model
 use Rattle.model.specs.Encode.{limitWords}
 use Rattle.model.specs.Shape.{Sized}
-use Rattle.bounds.specs.Flat.{limitAt, limitsAt, Positive}
+use Rattle.sheet.specs.Flat.{limitAt, limitsAt, Positive}
 use Rattle.nest.specs.Laid.{layLimits}
 
 length-words : (l : Model.Limit) (k : ℕ) → length (l .coefficients) ≡ k → length (limitWords l) ≡ 2 + k

@@ -20,8 +20,8 @@ use Rattle.model.specs.Limits.{newOuter, newInner, tidy, exchangeAt, loopsAfter
 use Rattle.model.specs.Ranges.{LimitRanges, LoopRanges}
 use Rattle.model.specs.Shape.{Runs}
 use Rattle.model.proofs.Steps.RunsLaws.{runs-after}
-use Rattle.bounds.specs.Flat.{loopAt}
-use Rattle.bounds.proofs.FlatLaws.{loop-runs}
+use Rattle.sheet.specs.Flat.{loopAt}
+use Rattle.sheet.proofs.FlatLaws.{loop-runs}
 use Rattle.limits.specs.Words.{LoopOk}
 use Rattle.exchange.specs.Pair.{PairIn, outerOf, innerOf, fewIn}
 

@@ -14,7 +14,7 @@ use Rattle.model.specs.Ticket as Model
 use Rattle.model.specs.Shape.{Sized}
 use Rattle.model.specs.Ranges.{LoopRanges}
 use Rattle.model.specs.Grammar.{mostSides, nestRoom}
-use Rattle.bounds.specs.Flat.{limitsAt, loopAt, NestOk}
+use Rattle.sheet.specs.Flat.{limitsAt, loopAt, NestOk}
 use Rattle.nest.specs.Laid.{layLimits, layLoop, layCount, layLoops, layCounts}
 use Rattle.nest.proofs.PutLaws.{getD-front}
 use Rattle.nest.proofs.LimitLaws.{lay-length, limits-front, positive-front}

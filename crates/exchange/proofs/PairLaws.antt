@@ -16,10 +16,10 @@ use Rattle.model.specs.Ticket as Model
 use Rattle.model.specs.Judge.{smallLimit, smallLoop}
 use Rattle.model.specs.Limits.{widened, outerCoefficient, outerPart, newOuter, newInner, tidy}
 use Rattle.model.specs.Grammar.{nestRoom, mostSides}
-use Rattle.bounds.specs.Flat.{limitsAt, loopAt}
+use Rattle.sheet.specs.Flat.{limitsAt, loopAt}
 use Rattle.nest.specs.Laid.{layLimits, layLoop, layCount}
 use Rattle.sides.specs.Filling.{Holds, SidePut}
-use Rattle.bounds.proofs.FlatLaws.{limits-length}
+use Rattle.sheet.proofs.FlatLaws.{limits-length}
 use Rattle.sides.proofs.PutLaws.{untrue}
 use Rattle.limits.specs.Words.{LoopOk}
 use Rattle.exchange.specs.declared.Span.{Span}

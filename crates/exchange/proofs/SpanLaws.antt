@@ -14,7 +14,7 @@ use Rattle.model.specs.Ticket as Model
 use Rattle.model.specs.Limits.{combined, widened, outerCoefficient, solvedPositive, solvedNegative}
 use Rattle.nest.specs.Nested.{limitOf, LimitIn}
 use Rattle.nest.specs.declared.Limit.{Limit}
-use Rattle.bounds.specs.Flat.{limitAt}
+use Rattle.sheet.specs.Flat.{limitAt}
 use Rattle.bounds.proofs.LimitLaws.{within-drop}
 use Rattle.limits.specs.Small.{SmallLimit}
 use Rattle.limits.specs.Makes.{LimitIs}

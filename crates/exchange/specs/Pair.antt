@@ -13,7 +13,7 @@ use Rattle.model.specs.Limits.{solvedPositive, solvedNegative, whenPositive, wh
 use Rattle.model.specs.Grammar.{mostLoops, mostLimits, mostSides, nestLimits, rowRoom, nestRoom}
 use Rattle.nest.specs.Nested.{limitOf}
 use Rattle.nest.specs.declared.Limit.{Limit}
-use Rattle.bounds.specs.Flat.{limitsAt, loopAt, Positive, NestOk}
+use Rattle.sheet.specs.Flat.{limitsAt, loopAt, Positive, NestOk}
 use Rattle.nest.specs.Laid.{layLoop, layCount}
 use Rattle.limits.specs.Small.{SmallLimit}
 use Rattle.sides.specs.Filling.{Holds, Filled}

@@ -11,7 +11,7 @@ ghost use Rattle.integers.specs.Difference.{size};
 ghost use Rattle.model.specs.Limits.{combined, widened, outerCoefficient, outerPart, newOuter, newInner};
 ghost use Rattle.model.specs.Grammar.{mostLoops, mostLimits, rowRoom, mostSides};
 ghost use Rattle.nest.specs.Nested.{limitOf};
-ghost use Rattle.bounds.specs.Flat.{loopAt};
+ghost use Rattle.sheet.specs.Flat.{loopAt};
 ghost use Rattle.limits.specs.Small.{SmallLimit};
 ghost use Rattle.limits.specs.Makes.{LimitIs};
 ghost use Rattle.sides.specs.Filling.{Filled, Holds, Adds};

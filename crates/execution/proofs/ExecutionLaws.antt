@@ -15,7 +15,8 @@ use Rattle.model.specs.Machine.{bodyAt}
 use Rattle.model.specs.Grammar.{mostAccesses, mostPoints}
 use Rattle.space.proofs.SurveyLaws.{survey-near}
 use Rattle.sheet.specs.Sheets.{Sheet, sizesIn, statementsFrom, nestOf, SheetIn}
-use Rattle.sheet.specs.Stages.{ListIn, PointsAre, NumberIn, NumbersAre}
+use Rattle.space.specs.Nests.{ListIn, PointsAre}
+use Rattle.elements.specs.Nests.{NestNumberIn, NumbersAre}
 use Rattle.sheet.proofs.SheetLaws.{sizes-count}
 use Rattle.store.specs.Runs.{RunIn}
 use Rattle.store.proofs.NestLaws.{statements-length}
@@ -43,7 +44,7 @@ module _ (P : Sheet) (s : SheetIn P) (g : Executable (nestOf P)) where
 -- ---- a part of the points
 
 module _ (P : Sheet) (points : List ℤ) (n room : ℕ) (h : PartIn P points n room) where
-  pub number-in : (size : ℕ) → P .accesses * n ≤ size → NumberIn P points n size
+  pub number-in : (size : ℕ) → P .accesses * n ≤ size → NestNumberIn P points n size
   number-in size l = record {
     sheet = h .sheet;
     formed = h .nest .formed;

@@ -20,7 +20,7 @@ use Rattle.model.proofs.Machine.ReorderLaws.{run-append}
 use Rattle.model.proofs.Points.ArrayLaws.{off-outside, arrays-inside, accepted-arrays}
 use Rattle.model.specs.Grammar.{mostPoints}
 use Rattle.sheet.specs.Sheets.{Sheet, nestOf}
-use Rattle.sheet.specs.Stages.{PointsAre}
+use Rattle.space.specs.Nests.{PointsAre}
 use Rattle.store.specs.Runs.{runAt}
 use Rattle.execution.specs.Execution.{ExecuteIn, PartIn}
 

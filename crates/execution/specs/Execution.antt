@@ -12,7 +12,7 @@ use Rattle.model.specs.Grammar.{total, mostPoints}
 use Rattle.model.specs.Points.{iterations}
 use Rattle.model.specs.Bounds.{sprawl, inArrays}
 use Rattle.model.specs.Shape.{WellFormed}
-use Rattle.elements.specs.Search.{RowsIn}
+use Rattle.space.specs.Stored.{RowsIn}
 use Rattle.sheet.specs.Sheets.{Sheet, nestOf, SheetIn}
 
 -- an accepted ticket's new nest

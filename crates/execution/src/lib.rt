@@ -6,7 +6,7 @@ ghost use Rattle.lists.specs.Parts.{rows};
 ghost use Rattle.model.specs.Grammar.{mostLoops};
 ghost use Rattle.model.specs.Store.{runNest};
 ghost use Rattle.sheet.specs.Sheets.{sheetOf, nestOf};
-ghost use Rattle.sheet.specs.Stages.{PointsAre};
+ghost use Rattle.space.specs.Nests.{PointsAre};
 ghost use Rattle.store.specs.Runs.{runAt};
 ghost use Rattle.execution.specs.Execution.{ExecuteIn, PartIn};
 use model::ACCESSES;
@@ -27,7 +27,7 @@ fn run_part(
     requires { ⌜ PartIn (sheetOf outline (now limits) (now words)) (now points) count (length (now store)) × (outline .accesses * count ≤ length (now numbers)) ⌝ }
     ensures { λ _. ⌜ now (store .exit) ≡ runAt (nestOf (sheetOf outline (now (limits .entry)) (now (words .entry)))) (rows (outline .depth) count (now (points .entry))) (now (store .entry)) ⌝ }
 {
-    sheet::number_accesses(outline, limits, words, points, count, numbers);
+    elements::number_accesses(outline, limits, words, points, count, numbers);
     store::run(outline, limits, words, points, count, numbers, store);
 }
 
@@ -82,7 +82,7 @@ fn run_many(
     ensures { λ _. ⌜ now (store .exit) ≡ runNest (nestOf (sheetOf outline (now (limits .entry)) (now (words .entry)))) (now (store .entry)) ⌝ }
 {
     let mut points = [0i64; LOOPS * POINTS];
-    sheet::list_points(outline, limits, words, &mut points);
+    space::list_points(outline, limits, words, &mut points);
     run_parts(outline, limits, words, &points, count, numbers, store);
 }
 
@@ -99,7 +99,7 @@ fn run_listed(
     requires { ⌜ ExecuteIn (sheetOf outline (now limits) (now words)) count (length (now store)) × (count * mostLoops ≤ length (now points)) × (outline .accesses * count ≤ length (now numbers)) ⌝ }
     ensures { λ _. ⌜ now (store .exit) ≡ runNest (nestOf (sheetOf outline (now (limits .entry)) (now (words .entry)))) (now (store .entry)) ⌝ }
 {
-    sheet::list_points(outline, limits, words, points);
+    space::list_points(outline, limits, words, points);
     run_part(outline, limits, words, points, count, numbers, store);
 }
 

@@ -1,5 +1,5 @@
--- The least value, which the lower limits of a loop ask for, and the greatest, which the upper ones do: of a term, of a sum, of a limit. What is said of
--- a side here is said of both.
+-- The least value, which the lower limits of a loop ask for, and the greatest, which the upper ones do: of a term, of a sum, of a limit.
+-- What is said of a side here is said of both.
 use mathlib.Core.Path.{_≡_, refl}
 use mathlib.Core.List.{List, [], _∷_}
 use Prim.Native.Nat.{_≤_}
@@ -48,7 +48,8 @@ unfolding leastSum greatestSum
 sum-short lower c cs = refl
 sum-short upper c cs = refl
 
-pub sum-cons : (d : Side) (c : ℤ) (cs : List ℤ) (r : Range) (rs : List Range) → extremeSum d (c ∷ cs) (r ∷ rs) ≡ extremeTerm d c r +ℤ extremeSum d cs rs
+pub sum-cons : (d : Side) (c : ℤ) (cs : List ℤ) (r : Range) (rs : List Range)
+    → extremeSum d (c ∷ cs) (r ∷ rs) ≡ extremeTerm d c r +ℤ extremeSum d cs rs
 unfolding leastSum greatestSum
 sum-cons lower c cs r rs = refl
 sum-cons upper c cs r rs = refl

@@ -14,7 +14,7 @@ use Rattle.integers.specs.Difference.{size}
 use Rattle.model.specs.Ticket.{Limit}
 use Rattle.model.specs.Quick as Model
 use Rattle.model.specs.Quick.{leastTerm, greatestTerm, cut, rangeOf, rangesFrom, ranges}
-use Rattle.bounds.specs.Flat.{NestOk, limitAt, limitsAt, loopAt, loopsFrom}
+use Rattle.sheet.specs.Flat.{NestOk, limitAt, limitsAt, loopAt, loopsFrom}
 use Rattle.bounds.proofs.Sides.{Side, lower, upper, rounded, tightest}
 use Rattle.extremes.specs.declared.Range.{Range}
 use Rattle.extremes.specs.Ranges.{rangeAs, rangesOf, NearRange, NearRanges}
@@ -44,7 +44,8 @@ sum-alike d (c ∷ cs) [] [] l h = refl
 sum-alike d (c ∷ cs) [] (q ∷ qs) l h = absurd (omega arith)
 sum-alike d (c ∷ cs) (r ∷ rs) [] l h = absurd (omega arith)
 sum-alike d (c ∷ cs) (r ∷ rs) (q ∷ qs) l h =
-    sum-cons d c cs r rs ∙ ap₂ _+ℤ_ (same (h 0 (omega arith))) (sum-alike d cs rs qs (omega arith) (λ i k. h (suc i) (omega arith))) ∙ sym (sum-cons d c cs q qs)
+    sum-cons d c cs r rs ∙ ap₂ _+ℤ_ (same (h 0 (omega arith))) (sum-alike d cs rs qs (omega arith) (λ i k. h (suc i) (omega arith)))
+    ∙ sym (sum-cons d c cs q qs)
   where
     same : (c ≡ pos 0) ⊎ (r ≡ q) → extremeTerm d c r ≡ extremeTerm d c q
     same (inl e) = rw (e, term-none d r, term-none d q)

@@ -11,7 +11,7 @@ use Rattle.integers.specs.Difference.{size}
 use Rattle.model.specs.Ticket.{Loop}
 use Rattle.model.specs.Quick as Model
 use Rattle.model.specs.Quick.{cut, rangeOf, rangesFrom, ranges}
-use Rattle.bounds.specs.Flat.{NestOk, loopAt, loopsFrom}
+use Rattle.sheet.specs.Flat.{NestOk, loopAt, loopsFrom}
 use Rattle.bounds.proofs.LimitLaws.{copied}
 use Rattle.space.proofs.DepthLaws.{nest-part}
 use Rattle.extremes.specs.declared.Range.{Range}

@@ -56,7 +56,8 @@ sum-more : (d : Side) (cs : List ℤ) (rs : List Model.Range) (i : ℕ) → i < 
     → extremeSum d (take (suc i) cs) rs ≡ extremeSum d (take i cs) rs +ℤ extremeTerm d (getD cs i (pos 0)) (getD rs i (rangeAs noRange))
 sum-more d [] rs i h k = absurd (omega arith)
 sum-more d (c ∷ cs) [] i h k = absurd (omega arith)
-sum-more d (c ∷ cs) (r ∷ rs) zero h k = sum-cons d c [] r rs ∙ rw (sum-none d rs, sum-none d (r ∷ rs)) (+ℤ-idr (extremeTerm d c r) ∙ sym (+ℤ-idl (extremeTerm d c r)))
+sum-more d (c ∷ cs) (r ∷ rs) zero h k = sum-cons d c [] r rs
+    ∙ rw (sum-none d rs, sum-none d (r ∷ rs)) (+ℤ-idr (extremeTerm d c r) ∙ sym (+ℤ-idl (extremeTerm d c r)))
 sum-more d (c ∷ cs) (r ∷ rs) (suc i) h k = let x = extremeTerm d (getD cs i (pos 0)) (getD rs i (rangeAs noRange)) in
     sum-cons d c (take (suc i) cs) r rs ∙ ap (extremeTerm d c r +ℤ_) (sum-more d cs rs i (omega arith) (omega arith))
     ∙ sym (+ℤ-assoc (extremeTerm d c r) (extremeSum d (take i cs) rs) x) ∙ ap (_+ℤ x) (sym (sum-cons d c (take i cs) r rs))
@@ -82,7 +83,8 @@ module _ (d : Side) (w : List ℤ) (at n : ℕ) (b : List Range) (p : SumIn w at
   module _ (i : ℕ) (e : ℤ) (q : SoFar d w at n b i e) where
     so-far-size : size e ≤ 6442057734
     so-far-size = let l = count-of n b (p .ranges) in let f = p .ranges .few in
-        subst (λ z. size z ≤ 6442057734) (sym (q .is)) (omega (arith, sum-size d (take i (drop at w)) (rangesOf n b) (small-words i) (p .ranges .near)))
+        subst (λ z. size z ≤ 6442057734) (sym (q .is))
+        (omega (arith, sum-size d (take i (drop at w)) (rangesOf n b) (small-words i) (p .ranges .near)))
 
     word-small : size (getD w (at + i) (pos 0)) ≤ 32767
     word-small = within-at 32767 w (p .small) (at + i)
@@ -99,7 +101,12 @@ module _ (d : Side) (w : List ℤ) (at n : ℕ) (b : List Range) (p : SumIn w at
 
       pub term-in : TermIn e (copy c) (copy (endOf d r)) (copy (endOf (other d) r))
       term-in = let s = so-far-size in let g = range-near n b (p .ranges) i h in
-          record { sum = omega arith; coefficient = rw word-is word-small; up = rw (end-is d) (end-size d r g); down = rw (end-is (other d)) (end-size (other d) r g) }
+          record {
+            sum = omega arith;
+            coefficient = rw word-is word-small;
+            up = rw (end-is d) (end-size d r g);
+            down = rw (end-is (other d)) (end-size (other d) r g);
+          }
 
       in-words : i < length (drop at w)
       in-words = let l = length-drop at w in let o = p .inside in omega arith

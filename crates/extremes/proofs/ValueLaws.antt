@@ -12,7 +12,7 @@ use Rattle.integers.specs.Difference.{size}
 use Rattle.integers.proofs.RingLaws.{<ℤ-≤ℤ}
 use Rattle.integers.proofs.RangeLaws.{back, size-fits, size-add, to-nat}
 use Rattle.integers.proofs.AffineLaws.{within-at}
-use Rattle.bounds.specs.Flat.{limitAt}
+use Rattle.sheet.specs.Flat.{limitAt}
 use Rattle.bounds.proofs.LimitLaws.{copied, rounded-is}
 use Rattle.bounds.proofs.Sides.{Side, rounded}
 use Rattle.extremes.specs.declared.Range.{Range}
@@ -56,9 +56,11 @@ module _ (s : List ℤ) (j k : ℕ) (b : List Range) (p : LimitIn s j k b) where
         → r ≡ rounded d (copy (copy c +ℤ copy e)) (copy m) → (copy r ≡ extremeOf d (rangesOf k b) (limitAt s k j)) × (size (copy r) ≤ 34359738368)
     unfolding limitAt
     quotient-is d q r g f =
-        let x = rounded-is d (limitAt s k j .constant +ℤ e) (pos (limitAt s k j .multiplier)) r value-size (f ∙ rw (value-is, divisor-is q)) in (x .0 ∙ rw g, x .1)
+        let x = rounded-is d (limitAt s k j .constant +ℤ e) (pos (limitAt s k j .multiplier)) r value-size (f ∙ rw (value-is, divisor-is q)) in
+        (x .0 ∙ rw g, x .1)
 
 -- ---- the limits of one side
 
 pub limit-in : (s : List ℤ) (j n k : ℕ) (b : List Range) → SideIn s j n k b → (i : ℕ) → i < n → LimitIn s (j + i) k b
-limit-in s j n k b p i h = let v = p .inside in record { words = p .words; small = p .small; inside = omega arith; positive = p .positive i h; outside = p .outside }
+limit-in s j n k b p i h = let v = p .inside in
+    record { words = p .words; small = p .small; inside = omega arith; positive = p .positive i h; outside = p .outside }

@@ -12,7 +12,7 @@ use Rattle.model.specs.Points.{largest, smallest}
 use Rattle.model.specs.Quick as Model
 use Rattle.model.specs.Quick.{leastSum, greatestSum, rangeOf, ranges}
 use Rattle.model.specs.Grammar.{nestLimits, nestRoom}
-use Rattle.bounds.specs.Flat.{limitsAt, loopAt, loopsFrom, Positive, NestOk}
+use Rattle.sheet.specs.Flat.{limitsAt, loopAt, loopsFrom, Positive, NestOk}
 use Rattle.extremes.specs.declared.Range.{Range}
 use Rattle.extremes.specs.Ranges.{rangesOf, RangesIn}
 

@@ -9,7 +9,7 @@ ghost use lib.ListN.{length, take, drop};
 ghost use Rattle.integers.specs.Difference.{size};
 ghost use Rattle.model.specs.Quick.{leastSum, greatestSum, rangeOf};
 ghost use Rattle.model.specs.Grammar.{nestLimits, nestRoom, mostLoops};
-ghost use Rattle.bounds.specs.Flat.{NestOk, limitAt, loopAt};
+ghost use Rattle.sheet.specs.Flat.{NestOk, limitAt, loopAt};
 ghost use Rattle.extremes.specs.Ranges.{rangesOf, termBy, TermIn, SumIn};
 ghost use Rattle.extremes.specs.Values.{leastOf, greatestOf, largestFrom, smallestFrom, rangeAt, Free, LimitIn, SideIn, LoopIn, RangesAre};
 

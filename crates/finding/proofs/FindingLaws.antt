@@ -12,12 +12,12 @@ use Rattle.model.specs.Bounds.{admitted}
 use Rattle.model.proofs.Verdict.VerdictLaws.{admitted-accepted}
 use Rattle.model.specs.Directions.{vectorCount}
 use Rattle.vectors.specs.Numbers.{marksFor}
-use Rattle.reading.specs.declared.Refusal.{Refusal}
-use Rattle.reading.specs.declared.Status.{Status}
-use Rattle.reading.specs.declared.Status.the-variants.{Fine, Refused}
-use Rattle.reading.proofs.ReaderLaws.{not-fine}
+use Rattle.ticket_refusals.specs.declared.Refusal.{Refusal}
+use Rattle.ticket_refusals.specs.declared.Status.{Status}
+use Rattle.ticket_refusals.specs.declared.Status.the-variants.{Fine, Refused}
+use Rattle.ticket_refusals.proofs.StatusLaws.{not-fine}
 use Rattle.sheet.specs.Sheets.{Sheet, nestOf}
-use Rattle.sheet.specs.Stages.{PointsAre}
+use Rattle.space.specs.Nests.{PointsAre}
 use Rattle.lines.specs.Lines.{Markable, LinesIn, LinesAre, Shows}
 use Rattle.lines.proofs.ClearLaws.{clear-marks}
 use Rattle.lines.proofs.MarkLaws.{lines-in}

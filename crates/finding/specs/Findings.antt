@@ -5,8 +5,8 @@ use mathlib.Core.List.{List}
 use Prim.Native.Nat.{ℕ}
 use lib.ListN.{length, getD}
 use Rattle.model.specs.Directions.{vectorCount}
-use Rattle.reading.specs.declared.Status.{Status}
-use Rattle.reading.specs.declared.Status.the-variants.{Fine}
+use Rattle.ticket_refusals.specs.declared.Status.{Status}
+use Rattle.ticket_refusals.specs.declared.Status.the-variants.{Fine}
 use Rattle.sheet.specs.Sheets.{Sheet}
 use Rattle.lines.specs.Lines.{LinesAre, DirectionsAre}
 use Rattle.admission.specs.Admission.{Admits, Waits}

@@ -11,8 +11,8 @@ ghost use Rattle.squeeze.specs.Squeezed.{Room};
 ghost use Rattle.finding.specs.Findings.{FindIn, Finds, Directs};
 use model::MARKS;
 use model::PAIR_MARKS;
-use reading::Status;
 use sheet::Outline;
+use ticket_refusals::Status;
 
 // ---- lines: the marks of those that there are
 

@@ -8,10 +8,10 @@ use Rattle.model.specs.Ticket as Model
 use Rattle.model.specs.Points.{iterations}
 use Rattle.model.specs.Bounds.{space, inArrays, admitted}
 use Rattle.model.specs.Judge.{admitOf}
-use Rattle.reading.specs.declared.Refusal.{Refusal}
-use Rattle.reading.specs.declared.Status.{Status}
-use Rattle.reading.specs.declared.Status.the-variants.{Fine, Refused}
-use Rattle.reading.specs.Refusals.{refusal}
+use Rattle.ticket_refusals.specs.declared.Refusal.{Refusal}
+use Rattle.ticket_refusals.specs.declared.Status.{Status}
+use Rattle.ticket_refusals.specs.declared.Status.the-variants.{Fine, Refused}
+use Rattle.ticket_refusals.specs.Refusals.{refusal}
 use Rattle.steps.specs.declared.Steps.{Steps}
 use Rattle.sheet.specs.Sheets.{Sheet, sheetOf}
 use Rattle.ticket.specs.declared.Decoded.{Decoded}

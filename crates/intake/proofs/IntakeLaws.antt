@@ -6,9 +6,9 @@ use native.Mathlib.Omega.{arith}
 use lib.IntN.{ℤ}
 use Rattle.model.specs.Answer.{_>>=_}
 use Rattle.model.specs.Bounds.{space}
-use Rattle.reading.specs.declared.Refusal.{Refusal}
-use Rattle.reading.specs.declared.Status.{Status}
-use Rattle.reading.specs.declared.Status.the-variants.{Fine, Refused}
+use Rattle.ticket_refusals.specs.declared.Refusal.{Refusal}
+use Rattle.ticket_refusals.specs.declared.Status.{Status}
+use Rattle.ticket_refusals.specs.declared.Status.the-variants.{Fine, Refused}
 use Rattle.sheet.specs.Sheets.{sheetOf}
 use Rattle.ticket.specs.declared.Decoded.{Decoded}
 use Rattle.ticket.specs.Ticket.{ticketOn, decoded, DecodedIn}

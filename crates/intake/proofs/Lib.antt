@@ -1,4 +1,3 @@
 -- Laws that the crate's contracts need.
 pub mod IntakeLaws
 pub mod AdmitLaws
-pub mod AnswerLaws

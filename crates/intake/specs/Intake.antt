@@ -7,7 +7,7 @@ use lib.ListN.{length}
 use Rattle.model.specs.Answer.{accepted, _>>=_}
 use Rattle.model.specs.Points.{iterations}
 use Rattle.model.specs.Bounds.{space}
-use Rattle.reading.specs.declared.Status.the-variants.{Fine}
+use Rattle.ticket_refusals.specs.declared.Status.the-variants.{Fine}
 use Rattle.steps.specs.declared.Steps.{Steps}
 use Rattle.sheet.specs.Sheets.{Sheet, sheetOf, nestOf}
 use Rattle.ticket.specs.Ticket.{ticketOf, TicketIn}

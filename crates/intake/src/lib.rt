@@ -1,10 +1,9 @@
-// The points of a decoded ticket, counted; or the first refusal of 1 to 8. Then what the entries answer that give a count.
+// The points of a decoded ticket, counted; or the first refusal of 1 to 8.
 ghost use Rattle.ticket.specs.Ticket.{DecodedIn};
 ghost use Rattle.intake.specs.Intake.{Counts};
 use admission::Counted;
-use reading::Refusal;
-use reading::Status;
 use ticket::Decoded;
+use ticket_refusals::Status;
 
 pub fn count_points(read: Decoded, limits: &[i16], words: &[i16]) -> Counted
     requires { ⌜ DecodedIn read (now limits) (now words) ⌝ }
@@ -17,10 +16,4 @@ pub fn count_points(read: Decoded, limits: &[i16], words: &[i16]) -> Counted
         Status::Refused(r) => return Counted::Refused(r),
     }
     admission::count_points(outline, limits, words)
-}
-
-// The answer of judge, write, list and run: a count of iterations or of bytes.
-pub enum Answer {
-    Accepted(usize),
-    Refused(Refusal),
 }

@@ -9,10 +9,10 @@ use Rattle.model.specs.Points.{iterations}
 use Rattle.model.specs.Judge.{Judged}
 use Rattle.model.specs.Entries.{judge, judgeOf}
 use Prim.Native.Nat.{ℕ}
-use Rattle.reading.specs.declared.Refusal.{Refusal}
-use Rattle.reading.specs.declared.Status.{Status}
-use Rattle.reading.specs.declared.Status.the-variants.{Fine, Refused}
-use Rattle.reading.specs.Refusals.{refusal}
+use Rattle.ticket_refusals.specs.declared.Refusal.{Refusal}
+use Rattle.ticket_refusals.specs.declared.Status.{Status}
+use Rattle.ticket_refusals.specs.declared.Status.the-variants.{Fine, Refused}
+use Rattle.ticket_refusals.specs.Refusals.{refusal}
 use Rattle.sheet.specs.Sheets.{sheetOf, nestOf}
 use Rattle.judgement.specs.Judgement.{judgedAs}
 use Rattle.verdict.specs.declared.Decided.{Decided}

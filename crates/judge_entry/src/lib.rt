@@ -1,11 +1,11 @@
 // The entry `judge`: whether the new order of a ticket is accepted, and how many iterations there are.
 ghost use mathlib.Core.Path.{_≡_};
 ghost use Rattle.model.specs.Entries as Entries;
-ghost use Rattle.intake.specs.Answers.{answerOf};
-use intake::Answer;
+ghost use Rattle.entry_answers.specs.Answers.{answerOf};
+use entry_answers::Answer;
 use model::NEST_ROOM;
 use model::WORDS;
-use reading::Status;
+use ticket_refusals::Status;
 
 // Where it accepts, the new order runs each iteration of the old exactly once and every array ends equal, whatever the arrays hold and whatever
 // the rules (model, Demands: demand-3); a refusal has its reason (judge-refuses).

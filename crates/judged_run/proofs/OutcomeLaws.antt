@@ -10,11 +10,11 @@ use lib.ListN.{length}
 use Rattle.model.specs.Answer.{Answer, require, _>>_, _>>=_}
 use Rattle.model.specs.Ticket.{Nest}
 use Rattle.model.specs.Store.{runNest}
-use Rattle.reading.specs.declared.Refusal.{Refusal}
-use Rattle.reading.specs.declared.Refusal.the-variants.{OpaqueRule, WrongStoreLength}
-use Rattle.reading.specs.Refusals.{refusal}
-use Rattle.intake.specs.declared.Answer.the-variants.{Accepted, Refused}
-use Rattle.intake.specs.Answers.{Hands}
+use Rattle.ticket_refusals.specs.declared.Refusal.{Refusal}
+use Rattle.ticket_refusals.specs.declared.Refusal.the-variants.{OpaqueRule, WrongStoreLength}
+use Rattle.ticket_refusals.specs.Refusals.{refusal}
+use Rattle.entry_answers.specs.declared.Answer.the-variants.{Accepted, Refused}
+use Rattle.entry_answers.specs.Answers.{Hands}
 use Rattle.judged_run.specs.Outcomes.{tested, outcome}
 
 module _ (t c : ℕ) (M : Nest) (w : List ℕ) where

@@ -11,7 +11,7 @@ use Rattle.model.specs.Points.{iterations}
 use Rattle.model.specs.Store.{runNest}
 use Rattle.model.specs.Entries.{Outcome}
 use Rattle.sheet.specs.Sheets.{Sheet, nestOf, SheetIn}
-use Rattle.sheet.specs.Stages.{opaqueAt}
+use Rattle.elements.specs.Nests.{opaqueAt}
 use Rattle.execution.specs.Execution.{Executable}
 
 -- 15 before 16, where `opaque` is the first opaque statement, from 1, or 0, and there are so many elements

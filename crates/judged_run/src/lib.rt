@@ -1,10 +1,10 @@
 // The run of an accepted ticket: refusals 15 and 16, then the new nest on the store.
 ghost use Rattle.sheet.specs.Sheets.{sheetOf, nestOf};
-ghost use Rattle.intake.specs.Answers.{Hands};
+ghost use Rattle.entry_answers.specs.Answers.{Hands};
 ghost use Rattle.judged_run.specs.Outcomes.{RunIn, tested, outcome};
-use intake::Answer;
-use reading::Refusal;
+use entry_answers::Answer;
 use sheet::Outline;
+use ticket_refusals::Refusal;
 
 // Refusals 15 and 16 by what was found on the ticket's own sheet before its steps were taken there: its first opaque statement, from 1, or 0, and
 // the number of its elements. Then the run on the sheet of its new nest.

@@ -17,21 +17,21 @@ use Rattle.model.specs.Ranges.{StepThere, StepsThere}
 use Rattle.model.specs.Steps.{vectorsAfterAll, somePointsBack}
 use Rattle.model.specs.Judge.{stages, judgeSteps, directionsOf}
 use Rattle.model.proofs.Verdict.SameVectorsLaws.{vectorsAfter-same, judgeSteps-same}
-use Rattle.reading.proofs.ReaderLaws.{not-fine}
-use Rattle.reading.specs.declared.Refusal.{Refusal}
-use Rattle.reading.specs.declared.Refusal.the-variants.{DependenceReversed}
-use Rattle.reading.specs.declared.Status.{Status}
-use Rattle.reading.specs.declared.Status.the-variants.{Fine, Refused}
+use Rattle.ticket_refusals.proofs.StatusLaws.{not-fine}
+use Rattle.ticket_refusals.specs.declared.Refusal.{Refusal}
+use Rattle.ticket_refusals.specs.declared.Refusal.the-variants.{DependenceReversed}
+use Rattle.ticket_refusals.specs.declared.Status.{Status}
+use Rattle.ticket_refusals.specs.declared.Status.the-variants.{Fine, Refused}
 use Rattle.steps.specs.Steps.{stepOf, stepsOf, NumberedFrom, StepsIn}
 use Rattle.steps.specs.declared.Numbered.{Numbered}
 use Rattle.steps.specs.declared.Steps.{Steps}
 use Rattle.sheet.specs.declared.Outline.{Outline}
-use Rattle.sheet.specs.Sheets.{Sheet, sheetOf, nestOf, SheetIn}
-use Rattle.sheet.proofs.StageLaws.{depth-is}
+use Rattle.sheet.specs.Sheets.{Sheet, sheetOf, nestOf, SheetIn, moved}
+use Rattle.space.proofs.NestLaws.{depth-is}
 use Rattle.directions.specs.Sets.{vectorsOf, After}
 use Rattle.directions.specs.declared.DirectionSet.{DirectionSet}
 use Rattle.ticket.specs.Ticket.{ticketOn}
-use Rattle.judgement.specs.Judgement.{unless, judgedAs, moved, Taken, JudgeIn, JudgesSteps}
+use Rattle.judgement.specs.Judgement.{unless, judgedAs, Taken, JudgeIn, JudgesSteps}
 use Rattle.judgement.specs.declared.Judged.{Judged}
 use Rattle.judgement.proofs.StepLaws.{judged-back, judged-step, level-goes-on}
 

@@ -22,7 +22,7 @@ use Rattle.model.proofs.Points.PointLaws.{iterations-length}
 use Rattle.model.proofs.Promise.TradeLaws.{pair-lengths}
 use Rattle.steps.specs.declared.Steps.{Steps}
 use Rattle.sheet.specs.Sheets.{Sheet, nestOf}
-use Rattle.sheet.proofs.StageLaws.{depth-is}
+use Rattle.space.proofs.NestLaws.{depth-is}
 use Rattle.ticket.specs.Ticket.{TicketIn}
 use Rattle.preimages.specs.Numbers.{number}
 use Rattle.directions.specs.Sets.{vectorsIn}

@@ -20,14 +20,14 @@ use Rattle.model.specs.Limits.{loopsAfter, accessAfter, nestAfter, nestAfterAll
 use Rattle.model.specs.Judge.{fewLimits, smallLoop, smallAccess, smallNumbers, stages, judgeStages, judgeSteps}
 use Rattle.model.proofs.Verdict.StageLaws.{after-stages}
 use Rattle.model.proofs.Verdict.SameVectorsLaws.{pointsBack-same, judgeSteps-same}
-use Rattle.reading.specs.Refusals.{refusal}
-use Rattle.reading.proofs.ReaderLaws.{not-fine}
-use Rattle.reading.specs.declared.Refusal.the-variants.{DependenceReversed, TooManyLimits, NumberOutOfRange}
-use Rattle.reading.specs.declared.Status.{Status}
-use Rattle.reading.specs.declared.Status.the-variants.{Fine, Refused}
-use Rattle.bounds.specs.Flat.{loopsFrom}
-use Rattle.elements.specs.Layout.{accessesFrom}
-use Rattle.sheet.specs.Sheets.{Sheet, extentsIn, ownersIn, wordsIn, nestOf, SheetIn}
+use Rattle.ticket_refusals.specs.Refusals.{refusal}
+use Rattle.ticket_refusals.proofs.StatusLaws.{not-fine}
+use Rattle.ticket_refusals.specs.declared.Refusal.the-variants.{DependenceReversed, TooManyLimits, NumberOutOfRange}
+use Rattle.ticket_refusals.specs.declared.Status.{Status}
+use Rattle.ticket_refusals.specs.declared.Status.the-variants.{Fine, Refused}
+use Rattle.sheet.specs.Flat.{loopsFrom}
+use Rattle.sheet.specs.Layout.{accessesFrom}
+use Rattle.sheet.specs.Sheets.{Sheet, extentsIn, ownersIn, wordsIn, nestOf, SheetIn, moved}
 use Rattle.sheet.proofs.SheetLaws.{words-count, owners-count}
 use Rattle.steps.specs.Steps.{stepOf}
 use Rattle.steps.specs.declared.Step.{Step}
@@ -37,7 +37,7 @@ use Rattle.restructure.specs.declared.Stepped.{Stepped}
 use Rattle.subscripts.specs.After.{AccessesAfter}
 use Rattle.subscripts.specs.Relaid.{Relaid}
 use Rattle.subscripts.proofs.SheetLaws.{nest-after, small-nest, sheet-after, accesses-moved, accesses-held}
-use Rattle.judgement.specs.Judgement.{unless, judgedAs, DirectionIn, stageStatus, StageTaken, moved, TakeIn, Taken}
+use Rattle.judgement.specs.Judgement.{unless, judgedAs, DirectionIn, stageStatus, StageTaken, TakeIn, Taken}
 
 -- ---- the step that a match found
 

@@ -14,18 +14,18 @@ use Rattle.model.specs.Judge.{judgeSteps, directionsOf, judgeTicket}
 use Rattle.model.proofs.Answers.PassLaws.{bind-pass, bind-stop}
 use Rattle.model.proofs.Verdict.JudgeLaws.{StepsPass, judgeSteps-accepted}
 use Rattle.model.proofs.Promise.WrittenLaws.{new-formed, new-ranges}
-use Rattle.reading.proofs.ReaderLaws.{not-fine}
-use Rattle.reading.specs.declared.Refusal.{Refusal}
-use Rattle.reading.specs.declared.Refusal.the-variants.{NewNestTooLarge}
-use Rattle.reading.specs.declared.Status.{Status}
-use Rattle.reading.specs.declared.Status.the-variants.{Fine, Refused}
+use Rattle.ticket_refusals.proofs.StatusLaws.{not-fine}
+use Rattle.ticket_refusals.specs.declared.Refusal.{Refusal}
+use Rattle.ticket_refusals.specs.declared.Refusal.the-variants.{NewNestTooLarge}
+use Rattle.ticket_refusals.specs.declared.Status.{Status}
+use Rattle.ticket_refusals.specs.declared.Status.the-variants.{Fine, Refused}
 use Rattle.space.specs.Surveys as Space
 use Rattle.space.specs.declared.Verdict.{Verdict}
 use Rattle.space.specs.declared.Verdict.the-variants.{Admitted, FarIndex, Crowded}
 use Rattle.steps.specs.Steps.{stepsOf}
 use Rattle.steps.specs.declared.Steps.{Steps}
 use Rattle.sheet.specs.Sheets.{Sheet, sheetOf, nestOf}
-use Rattle.sheet.specs.Stages.{Surveyed}
+use Rattle.space.specs.Nests.{NestSurveyed}
 use Rattle.directions.specs.declared.DirectionSet.{DirectionSet}
 use Rattle.ticket.specs.Ticket.{ticketOn}
 use Rattle.judgement.specs.Judgement.{judgedAs, SurveyedNew, JudgeIn, JudgesSteps, Judges}
@@ -33,7 +33,7 @@ use Rattle.judgement.specs.declared.Judged.{Judged}
 
 -- ---- refusal 13
 
-module _ (P : Sheet) (v : Verdict) (g : Surveyed P 100000 65536 v) where
+module _ (P : Sheet) (v : Verdict) (g : NestSurveyed P 100000 65536 v) where
   surveyed : Space.answerOf 13 13 v ≡ sprawl (nestOf P .loops)
   unfolding sprawl
   surveyed = g .same 13 13

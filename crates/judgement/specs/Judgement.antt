@@ -13,17 +13,17 @@ use Rattle.model.specs.Shape.{WellFormed}
 use Rattle.model.specs.Steps.{vectorsAfterAll}
 use Rattle.model.specs.Limits.{nestAfterAll}
 use Rattle.model.specs.Judge.{judgeStages, judgeSteps, directionsOf, judgeTicket}
-use Rattle.reading.specs.Refusals.{refusal}
-use Rattle.reading.specs.declared.Refusal.the-variants.{TooManyLimits, NumberOutOfRange}
-use Rattle.reading.specs.declared.Status.{Status}
-use Rattle.reading.specs.declared.Status.the-variants.{Fine, Refused}
+use Rattle.ticket_refusals.specs.Refusals.{refusal}
+use Rattle.ticket_refusals.specs.declared.Refusal.the-variants.{TooManyLimits, NumberOutOfRange}
+use Rattle.ticket_refusals.specs.declared.Status.{Status}
+use Rattle.ticket_refusals.specs.declared.Status.the-variants.{Fine, Refused}
 use Rattle.steps.specs.Steps.{stepOf, stepsOf, StepsIn}
 use Rattle.steps.specs.declared.Step.{Step}
 use Rattle.steps.specs.declared.Steps.{Steps}
 use Rattle.directions.specs.Sets.{vectorsOf}
 use Rattle.directions.specs.declared.DirectionSet.{DirectionSet}
 use Rattle.sheet.specs.declared.Outline.{Outline}
-use Rattle.sheet.specs.Sheets.{Sheet, sheetOf, nestOf, SheetIn}
+use Rattle.sheet.specs.Sheets.{Sheet, sheetOf, moved, nestOf, SheetIn}
 use Rattle.restructure.specs.declared.Stepped.{Stepped}
 use Rattle.stepping.specs.Taking.{Takes}
 use Rattle.ticket.specs.Ticket.{ticketOn}
@@ -55,23 +55,6 @@ pub record StageTaken (t : Step) (k : ℕ) (s : List ℤ) (c : List ℕ) (w : Li
   pub stepped : Stepped
   pub takes : Takes (stepOf t) s c w o a depth stepped s′ c′ w′
   pub status : r ≡ stageStatus (stepped .full) (stepped .small) k
-
--- P with these loops and subscripts
-abbrev pub moved : Sheet → ℕ → List ℤ → List ℕ → List ℤ → Sheet
-moved P d l c w = record {
-  depth = d;
-  limits = l;
-  counts = c;
-  arrays = P .arrays;
-  extents = P .extents;
-  statements = P .statements;
-  sizes = P .sizes;
-  rules = P .rules;
-  constants = P .constants;
-  accesses = P .accesses;
-  owners = P .owners;
-  words = w;
-}
 
 -- an outline whose loops have become others
 abbrev pub sheetAt : Outline → ℕ → List ℤ → List ℕ → List ℤ → Sheet

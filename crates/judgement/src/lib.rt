@@ -2,7 +2,7 @@
 // from 0.
 ghost use mathlib.Core.Path.{_≡_};
 ghost use Prim.Native.Nat.{_≤_};
-ghost use Rattle.reading.specs.declared.Status.the-variants.{Refused};
+ghost use Rattle.ticket_refusals.specs.declared.Status.the-variants.{Refused};
 ghost use Rattle.model.specs.Grammar.{depthAfter};
 ghost use Rattle.model.specs.Judge.{stages};
 ghost use Rattle.steps.specs.Steps.{stepOf};
@@ -13,12 +13,12 @@ ghost use Rattle.judgement.specs.Judgement.{DirectionIn, stageStatus, St
 use directions::DirectionSet;
 use model::ACCESS_ROOM;
 use model::ARRAY_ROOM;
-use reading::Refusal;
-use reading::Status;
 use sheet::Outline;
 use space::Verdict;
 use steps::Step;
 use steps::Steps;
+use ticket_refusals::Refusal;
+use ticket_refusals::Status;
 
 // The new nest and its directions where the status is Fine; its limits and the words of its accesses stand where the old ones stood.
 pub struct Judged {
@@ -205,7 +205,7 @@ fn survey_new(outline: Outline, limits: &[i16], words: &[i16]) -> Status
     if enclosure::stays_compact(outline, limits, words) {
         return Status::Fine;
     }
-    match sheet::survey(outline, limits, words, 100000, 65536) {
+    match space::survey(outline, limits, words, 100000, 65536) {
         Verdict::Admitted(_) => Status::Fine,
         Verdict::FarIndex(k) => Status::Refused(Refusal::NewNestTooLarge(k)),
         Verdict::Crowded(k) => Status::Refused(Refusal::NewNestTooLarge(k)),

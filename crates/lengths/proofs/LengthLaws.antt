@@ -11,8 +11,8 @@ use Rattle.lists.specs.Membership.{All}
 use Rattle.model.specs.Encode.{counted, limitWords, loopWords, arrayWords, accessWords, statementWords, nestWords, encode}
 use Rattle.model.specs.Store.{sum}
 use Rattle.model.proofs.Grammar.RoundTripLaws.{encode-length}
-use Rattle.bounds.specs.Flat.{limitAt, limitsAt, loopAt, loopsFrom, NestOk}
-use Rattle.elements.specs.Layout.{arraysOf, accessAt, accessesFrom, AccessesOk}
+use Rattle.sheet.specs.Flat.{limitAt, limitsAt, loopAt, loopsFrom, NestOk}
+use Rattle.sheet.specs.Layout.{arraysOf, accessAt, accessesFrom, AccessesOk}
 use Rattle.writing.specs.Loops.{LimitsIn, LoopIn}
 use Rattle.writing.proofs.WritingLaws.{spans}
 use Rattle.writing.proofs.SectionLaws.{side-spans, loops-spans, lower-in, upper-in}

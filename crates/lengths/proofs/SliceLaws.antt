@@ -10,7 +10,7 @@ use lib.Seq.{drop-cons, length-take-le}
 use Rattle.model.specs.Ticket.{Subscript}
 use Rattle.model.specs.Encode.{counted, arrayWords, accessWords}
 use Rattle.model.specs.Grammar.{accessRoom}
-use Rattle.elements.specs.Layout.{extentsAt, arraysFrom, arraysOf, formAt, formsFrom, accessAt, accessesFrom}
+use Rattle.sheet.specs.Layout.{extentsAt, arraysFrom, arraysOf, formAt, formsFrom, accessAt, accessesFrom}
 use Rattle.writing.proofs.WritingLaws.{spans}
 use Rattle.lengths.proofs.SumLaws.{array-ends}
 

@@ -9,8 +9,8 @@ use Rattle.lists.specs.Membership.{All}
 use Rattle.model.specs.Ticket.{Statement, Nest}
 use Rattle.model.specs.Store.{sum}
 use Rattle.model.specs.Grammar.{mostStatements}
-use Rattle.bounds.specs.Flat.{loopsFrom, NestOk}
-use Rattle.elements.specs.Layout.{arraysOf, accessAt, accessesFrom, AccessesOk}
+use Rattle.sheet.specs.Flat.{loopsFrom, NestOk}
+use Rattle.sheet.specs.Layout.{arraysOf, accessAt, accessesFrom, AccessesOk}
 use Rattle.lengths.specs.Lengths.{ArraysIn}
 
 -- the statement of m accesses from access k on

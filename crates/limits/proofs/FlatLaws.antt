@@ -20,7 +20,7 @@ use Rattle.integers.proofs.RangeLaws.{size-natAbs}
 use Rattle.model.specs.Ticket.{Limit}
 use Rattle.model.specs.Encode.{limitWords}
 use Rattle.model.specs.Judge.{small, smallLimit}
-use Rattle.bounds.specs.Flat.{limitAt}
+use Rattle.sheet.specs.Flat.{limitAt}
 use Rattle.bounds.proofs.LimitLaws.{within-drop}
 use Rattle.rows.proofs.SmallLaws.{number-small, row-small}
 use Rattle.limits.specs.Small.{SmallLimit}

@@ -23,7 +23,7 @@ use Rattle.model.specs.Encode.{limitWords}
 use Rattle.model.specs.Judge.{small, smallLimit}
 use Rattle.nest.specs.Nested.{limitOf}
 use Rattle.nest.specs.declared.Limit.{Limit}
-use Rattle.bounds.specs.Flat.{limitAt}
+use Rattle.sheet.specs.Flat.{limitAt}
 use Rattle.rows.specs.Rows.{RowIs, Tried}
 use Rattle.rows.proofs.SmallLaws.{number-small}
 use Rattle.rows.proofs.RowLaws.{number-read, number-written, tried-no, tried-yes}

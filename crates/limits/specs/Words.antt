@@ -6,7 +6,7 @@ use lib.ListN.{length, getD}
 use mathlib.Core.List.{List}
 use Rattle.integers.specs.Affine.{Within}
 use Rattle.model.specs.Grammar.{mostLoops, mostLimits}
-use Rattle.bounds.specs.Flat.{Positive}
+use Rattle.sheet.specs.Flat.{Positive}
 
 -- limit j, of a loop with n loops outside
 pub record LimitRoom (s : List ℤ) (j n : ℕ) : Type 0 where

@@ -11,7 +11,7 @@ ghost use Rattle.model.specs.Judge.{smallLimit};
 ghost use Rattle.model.specs.Limits.{negated, skewLimit, skewCoefficients, sectionLower, sectionUpper, elementLimit, splitCoefficients};
 ghost use Rattle.model.specs.Grammar.{mostLoops};
 ghost use Rattle.nest.specs.Nested.{limitOf};
-ghost use Rattle.bounds.specs.Flat.{limitAt};
+ghost use Rattle.sheet.specs.Flat.{limitAt};
 ghost use Rattle.rows.specs.Rows.{RowIs, Tried};
 ghost use Rattle.limits.specs.Small.{SmallLimit};
 ghost use Rattle.limits.specs.Makes.{mixed, LimitIs};

@@ -36,10 +36,12 @@ use Rattle.vectors.specs.Numbers.{place}
 use Rattle.dependence.specs.Flat.{Flat, flat, statementOf, pointAt, Use, use·of, usesFrom, uses, noUse, useAt, Describes, Ready, NumbersBelow, Searched}
 use Rattle.dependence.proofs.UseLaws.{uses-of}
 use Rattle.listing_text.specs.Text.{marked, shown, text}
-use Rattle.sheet.specs.Sheets.{Sheet, sizesIn, statementsFrom, nestOf, SheetIn}
-use Rattle.sheet.specs.Stages.{PointsAre, NumberIn, NumbersAre, noAccess, accessOf}
+use Rattle.sheet.specs.Sheets.{Sheet, sizesIn, statementsFrom, nestOf, SheetIn, noAccess, accessOf}
+use Rattle.space.specs.Nests.{PointsAre}
+use Rattle.elements.specs.Nests.{NestNumberIn, NumbersAre}
 use Rattle.sheet.proofs.SheetLaws.{access-count, sizes-count}
-use Rattle.sheet.proofs.StageLaws.{depth-is, access-valid}
+use Rattle.space.proofs.NestLaws.{depth-is}
+use Rattle.elements.proofs.NestLaws.{access-valid}
 use Rattle.lines.specs.declared.Uses.{Uses}
 use Rattle.lines.specs.Uses.{UsesAre}
 use Rattle.lines.specs.Lines.{Markable, LinesIn, LinesAre}
@@ -118,7 +120,7 @@ module _ (P : Sheet) (points : List ℤ) (n : ℕ) (marks : List Bool) (h : Line
   sheet-in = h .stray .sheet
 
   -- all points of the nest are numbered
-  pub number-in : NumberIn P points n room
+  pub number-in : NestNumberIn P points n room
   number-in = record {
     sheet = sheet-in;
     formed = h .formed;

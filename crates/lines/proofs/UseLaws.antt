@@ -16,7 +16,7 @@ use Rattle.lists.specs.Parts.{put}
 use Rattle.lists.proofs.PartLaws.{put-nil, put-put, set-put, take-put-end, length-put}
 use Rattle.model.specs.Store.{sum}
 use Rattle.model.specs.Grammar.{mostAccesses}
-use Rattle.elements.specs.Layout.{accessAt, accessesFrom}
+use Rattle.sheet.specs.Layout.{accessAt, accessesFrom}
 use Rattle.elements.proofs.LayoutLaws.{sum-drop}
 use Rattle.dependence.specs.Flat.{Use, use·of, usesFrom}
 use Rattle.sheet.specs.Sheets.{Sheet, sizesIn, wordsIn, ownersIn, extentsIn, statementsFrom, nestOf, SheetIn}

@@ -17,7 +17,7 @@ use Rattle.vectors.specs.Numbers.{marksFor}
 use Rattle.listing_text.specs.Text.{shown, Marks}
 use Rattle.directions.specs.Sets.{vectorsIn}
 use Rattle.sheet.specs.Sheets.{Sheet, nestOf, SheetIn}
-use Rattle.sheet.specs.Stages.{StrayIn}
+use Rattle.elements.specs.Nests.{NestStrayIn}
 
 -- a nest whose subscripts stay within their extents, and marks that are all clear: pairMarks for each pair of statements
 pub record Markable (P : Sheet) (marks : List Bool) : Type 0 where
@@ -29,7 +29,7 @@ pub record Markable (P : Sheet) (marks : List Bool) : Type 0 where
 
 -- the same, and its n points
 pub record LinesIn (P : Sheet) (points : List ℤ) (n : ℕ) (marks : List Bool) : Type 0 where
-  pub stray : StrayIn P points n
+  pub stray : NestStrayIn P points n
   pub formed : WellFormed (nestOf P)
   pub inside : inArrays (nestOf P .arrays) (iterations (nestOf P .loops)) 1 (nestOf P .statements) ≡ accepted tt
   pub clear : (j : ℕ) → getD marks j false ≡ false

@@ -8,7 +8,7 @@ ghost use Rattle.model.specs.Grammar.{ticketLoops, mostPoints};
 ghost use Rattle.model.specs.Directions.{vectorCount};
 ghost use Rattle.listing_text.specs.Text.{Marks};
 ghost use Rattle.sheet.specs.Sheets.{sheetOf, SheetIn};
-ghost use Rattle.sheet.specs.Stages.{ListIn};
+ghost use Rattle.space.specs.Nests.{ListIn};
 ghost use Rattle.lines.specs.Uses.{firstWritten, EnterIn, UsesAre};
 ghost use Rattle.lines.specs.Lines.{Markable, LinesIn, LinesAre, Shows};
 use model::ACCESSES;
@@ -73,12 +73,12 @@ fn mark_by(
     requires { ⌜ LinesIn (sheetOf outline (now limits) (now words)) (now points) count (now marks) × (outline .accesses * count ≤ length (now numbers)) ⌝ }
     ensures { λ _. ⌜ LinesAre (sheetOf outline (now (limits .entry)) (now (words .entry))) (now (marks .exit)) × (length (now (marks .exit)) ≡ length (now (marks .entry))) ⌝ }
 {
-    sheet::number_accesses(outline, limits, words, points, count, numbers);
+    elements::number_accesses(outline, limits, words, points, count, numbers);
     let uses = uses_of(outline, limits, words);
     let statements = uses.statements;
     let writes = uses.writes;
     let accesses = outline.accesses;
-    let elements = sheet::elements_in(outline, limits, words);
+    let elements = elements::elements_in(outline, limits, words);
     dependence::dependences(
         points,
         outline.depth,
@@ -130,7 +130,7 @@ pub fn mark_many(outline: Outline, limits: &[i16], words: &[i16], marks: &mut [b
     ensures { λ _. ⌜ LinesAre (sheetOf outline (now (limits .entry)) (now (words .entry))) (now (marks .exit)) × (length (now (marks .exit)) ≡ length (now (marks .entry))) ⌝ }
 {
     let mut points = [0i64; TICKET_LOOPS * POINTS];
-    let count = sheet::list_points(outline, limits, words, &mut points);
+    let count = space::list_points(outline, limits, words, &mut points);
     let needed = outline.accesses * count;
     if needed <= FEW_NUMBERS {
         let mut few = [0u16; FEW_NUMBERS];

@@ -17,12 +17,12 @@ use Rattle.model.specs.Bounds.{admitted}
 use Rattle.model.specs.Judge.{admit, admitOf}
 use Rattle.model.specs.Listing.{decimal, headText, lineText, linesOf, listing}
 use Rattle.model.specs.Entries.{Outcome, handOut, list, listOf}
-use Rattle.reading.specs.declared.Refusal.{Refusal}
-use Rattle.reading.specs.declared.Refusal.the-variants.{BufferTooShort}
-use Rattle.reading.specs.declared.Status.{Status}
-use Rattle.reading.specs.declared.Status.the-variants as Status
-use Rattle.reading.specs.declared.Status.the-variants.{Fine}
-use Rattle.reading.specs.Refusals.{refusal}
+use Rattle.ticket_refusals.specs.declared.Refusal.{Refusal}
+use Rattle.ticket_refusals.specs.declared.Refusal.the-variants.{BufferTooShort}
+use Rattle.ticket_refusals.specs.declared.Status.{Status}
+use Rattle.ticket_refusals.specs.declared.Status.the-variants as Status
+use Rattle.ticket_refusals.specs.declared.Status.the-variants.{Fine}
+use Rattle.ticket_refusals.specs.Refusals.{refusal}
 use Rattle.steps.specs.declared.Steps.{Steps}
 use Rattle.ticket.specs.declared.Decoded.{Decoded}
 use Rattle.ticket.specs.Ticket.{ticketOn, ticketOf, Decodes}
@@ -33,12 +33,12 @@ use Rattle.admission.specs.Admission.{passed}
 use Rattle.admission.specs.declared.Counted.{Counted}
 use Rattle.admission.specs.declared.Counted.the-variants as Counted
 use Rattle.admission.proofs.AdmissionLaws.{few-points}
-use Rattle.intake.specs.declared.Answer.{Answer}
-use Rattle.intake.specs.declared.Answer.the-variants.{Accepted, Refused}
+use Rattle.entry_answers.specs.declared.Answer.{Answer}
+use Rattle.entry_answers.specs.declared.Answer.the-variants.{Accepted, Refused}
 use Rattle.intake.specs.Intake.{Counts}
-use Rattle.intake.specs.Answers.{Hands}
+use Rattle.entry_answers.specs.Answers.{Hands}
 use Rattle.intake.proofs.AdmitLaws.{not-counted, ticket-there}
-use Rattle.intake.proofs.AnswerLaws.{refused-before, too-short, written, handed-fits}
+use Rattle.entry_answers.proofs.AnswerLaws.{refused-before, too-short, written, handed-fits}
 use Rattle.list_entry.specs.Listable.{Listable, FoundIn, listNest}
 
 -- ---- a text that is not empty: no bytes are written where the buffer is short, and only there

@@ -10,7 +10,7 @@ use Rattle.model.specs.Points.{iterations}
 use Rattle.model.specs.Bounds.{admitted}
 use Rattle.model.specs.Listing.{listing}
 use Rattle.model.specs.Entries.{Outcome, handOut}
-use Rattle.reading.specs.declared.Status.{Status}
+use Rattle.ticket_refusals.specs.declared.Status.{Status}
 use Rattle.sheet.specs.Sheets.{Sheet, nestOf}
 use Rattle.admission.specs.Admission.{Waits}
 use Rattle.lines.specs.Lines.{LinesAre}

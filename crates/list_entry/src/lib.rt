@@ -5,19 +5,19 @@ ghost use Rattle.model.specs.Listing.{listing};
 ghost use Rattle.sheet.specs.Sheets.{sheetOf, nestOf};
 ghost use Rattle.admission.specs.Admission.{Waits};
 ghost use Rattle.ticket.specs.Ticket.{DecodedIn, ticketOf};
-ghost use Rattle.intake.specs.Answers.{Hands};
+ghost use Rattle.entry_answers.specs.Answers.{Hands};
 ghost use Rattle.finding.specs.Findings.{FindIn};
 ghost use Rattle.list_entry.specs.Listable.{Listable, FoundIn, listNest};
 use admission::Counted;
-use intake::Answer;
+use entry_answers::Answer;
 use model::MARKS;
 use model::NEST_ROOM;
 use model::PAIR_MARKS;
 use model::WORDS;
-use reading::Refusal;
-use reading::Status;
 use sheet::Outline;
 use ticket::Decoded;
+use ticket_refusals::Refusal;
+use ticket_refusals::Status;
 
 // Writes the listing of a nest from the marks of its lines. Its text is never empty, so that no bytes written means a short buffer.
 fn write_marked(

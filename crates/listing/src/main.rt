@@ -1,8 +1,8 @@
 // Reads a ticket from standard input and prints its listing, or `refused` with number and place.
-use intake::Answer;
+use entry_answers::Answer;
 use libc::STDIN_FILENO;
 use libc::STDOUT_FILENO;
-use reading::Refusal;
+use ticket_refusals::Refusal;
 
 fn print_number(n: usize) {
     io::write_all(STDOUT_FILENO, b" ");
@@ -11,8 +11,8 @@ fn print_number(n: usize) {
 
 fn print_refusal(r: Refusal) {
     io::write_all(STDOUT_FILENO, b"refused");
-    print_number(reading::number_of(r));
-    print_number(reading::place_of(r));
+    print_number(ticket_refusals::number_of(r));
+    print_number(ticket_refusals::place_of(r));
     io::write_all(STDOUT_FILENO, b"\n");
 }
 

@@ -15,7 +15,7 @@ use Rattle.integers.specs.Affine.{Within}
 use Rattle.integers.specs.Difference.{size}
 use Rattle.integers.proofs.AffineLaws.{within-at}
 use Rattle.integers.proofs.RangeLaws.{word-fits}
-use Rattle.bounds.specs.Flat.{limitAt, limitsAt, loopAt, Positive}
+use Rattle.sheet.specs.Flat.{limitAt, limitsAt, loopAt, Positive}
 use Rattle.limits.proofs.LimitLaws.{same-limit}
 use Rattle.loop_changes.specs.Flips.{TradeIn, Traded, FlipIn, flipped, Flipped}
 use Rattle.loop_changes.proofs.LoopLaws.{same-loop}

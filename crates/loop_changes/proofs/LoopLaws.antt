@@ -16,7 +16,7 @@ use Rattle.lists.specs.Tests.{all}
 use Rattle.model.specs.Ticket as Model
 use Rattle.model.specs.Judge.{smallLimit, smallLoop}
 use Rattle.model.specs.Grammar.{mostSides, nestRoom}
-use Rattle.bounds.specs.Flat.{limitsAt, loopAt, Positive}
+use Rattle.sheet.specs.Flat.{limitsAt, loopAt, Positive}
 use Rattle.limits.specs.Change.{changeOf}
 use Rattle.limits.specs.Words.{LoopOk}
 use Rattle.loop_changes.specs.Sides.{SideIn, SideMade, changedSide}

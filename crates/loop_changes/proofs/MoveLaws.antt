@@ -14,7 +14,7 @@ use Rattle.integers.specs.Affine.{Within}
 use Rattle.model.specs.Ticket as Model
 use Rattle.model.specs.Limits.{onLimits}
 use Rattle.model.specs.Judge.{smallLoop}
-use Rattle.bounds.specs.Flat.{loopAt}
+use Rattle.sheet.specs.Flat.{loopAt}
 use Rattle.limits.specs.Change.{changeOf}
 use Rattle.limits.specs.Words.{LoopOk}
 use Rattle.loop_changes.specs.Loops.{onSides, LoopIn, LoopMade, LoopsIn, LoopsMade}

@@ -10,7 +10,7 @@ use lib.IntN.{ℤ}
 use Rattle.lists.specs.Tests.{all}
 use Rattle.lists.proofs.TestLaws.{and-both, and-intro, not-T-false, false-not-T}
 use Rattle.model.specs.Ticket.{Limit, Loop}
-use Rattle.bounds.specs.Flat.{limitAt, limitsAt, loopAt, loopsFrom}
+use Rattle.sheet.specs.Flat.{limitAt, limitsAt, loopAt, loopsFrom}
 
 -- ---- the values of g at the n places from j on
 

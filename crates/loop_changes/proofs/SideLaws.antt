@@ -22,7 +22,7 @@ use Rattle.model.specs.Encode.{limitWords}
 use Rattle.model.specs.Judge.{smallLimit}
 use Rattle.nest.specs.Nested.{limitOf}
 use Rattle.nest.specs.declared.Limit.{Limit}
-use Rattle.bounds.specs.Flat.{limitAt, Positive}
+use Rattle.sheet.specs.Flat.{limitAt, Positive}
 use Rattle.rows.specs.Rows.{Tried}
 use Rattle.limits.specs.Small.{SmallLimit}
 use Rattle.limits.specs.Makes.{LimitIs}

@@ -7,7 +7,7 @@ use lib.ListN.{length, getD}
 use Rattle.integers.specs.Affine.{Within}
 use Rattle.model.specs.Ticket.{Loop}
 use Rattle.model.specs.Grammar.{mostLoops, mostSides, nestRoom}
-use Rattle.bounds.specs.Flat.{loopAt}
+use Rattle.sheet.specs.Flat.{loopAt}
 use Rattle.limits.specs.Words.{LoopOk}
 use Rattle.loop_changes.specs.Sides.{Beside}
 use Rattle.loop_changes.specs.Loops.{LoopIs}

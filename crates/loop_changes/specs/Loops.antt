@@ -11,7 +11,7 @@ use Rattle.model.specs.Ticket.{Loop}
 use Rattle.model.specs.Limits.{onLimits}
 use Rattle.model.specs.Judge.{smallLoop}
 use Rattle.model.specs.Grammar.{mostLoops, mostSides, nestRoom}
-use Rattle.bounds.specs.Flat.{loopAt, loopsFrom, Positive}
+use Rattle.sheet.specs.Flat.{loopAt, loopsFrom, Positive}
 use Rattle.limits.specs.Change.{changeOf, outerAfter, Allowed}
 use Rattle.loop_changes.specs.Sides.{Beside}
 use Rattle.limits.specs.declared.Change.{Change}

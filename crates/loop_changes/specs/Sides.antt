@@ -11,7 +11,7 @@ use Rattle.integers.specs.Affine.{Within}
 use Rattle.model.specs.Ticket.{Limit}
 use Rattle.model.specs.Judge.{smallLimit}
 use Rattle.model.specs.Grammar.{mostLoops}
-use Rattle.bounds.specs.Flat.{limitsAt, Positive}
+use Rattle.sheet.specs.Flat.{limitsAt, Positive}
 use Rattle.limits.specs.Change.{changeOf, outerAfter, Allowed}
 use Rattle.limits.specs.declared.Change.{Change}
 

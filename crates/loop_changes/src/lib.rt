@@ -2,7 +2,7 @@
 // beyond ±32767; what the slices hold then does not matter.
 ghost use Prim.Native.Nat.{_≤_};
 ghost use Rattle.model.specs.Grammar.{mostLimits};
-ghost use Rattle.bounds.specs.Flat.{loopAt};
+ghost use Rattle.sheet.specs.Flat.{loopAt};
 ghost use Rattle.loop_changes.specs.Sides.{SideIn, SideMade, changedSide};
 ghost use Rattle.loop_changes.specs.Loops.{LoopIn, LoopMade, onSides, LoopsIn, LoopsMade};
 ghost use Rattle.loop_changes.specs.Flips.{TradeIn, Traded, FlipIn, Flipped};

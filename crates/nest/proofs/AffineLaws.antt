@@ -7,9 +7,10 @@ use lib.ListN.{take}
 use Rattle.model.specs.Answer.{accepted, refused}
 use Rattle.model.specs.Ticket as Model
 use Rattle.model.specs.Grammar.{natural, number, times, limit, subscript, done}
-use Rattle.reading.specs.Refusals.{answer, firstOf}
-use Rattle.reading.specs.declared.Status.{Status}
-use Rattle.reading.specs.declared.Status.the-variants as Status
+use Rattle.ticket_refusals.specs.Refusals.{firstOf}
+use Rattle.reading.specs.Reads.{answer}
+use Rattle.ticket_refusals.specs.declared.Status.{Status}
+use Rattle.ticket_refusals.specs.declared.Status.the-variants as Status
 use Rattle.reading.proofs.ReaderLaws.{after-value, after-refusal, both-read, made-twice}
 use Rattle.nest.specs.Nested.{affineOf, limitOf}
 use Rattle.nest.specs.declared.Affine.{Affine}

@@ -19,7 +19,7 @@ use Rattle.model.specs.Ticket.{Limit}
 use Rattle.model.specs.Encode.{limitWords}
 use Rattle.model.specs.Shape.{Sized}
 use Rattle.model.specs.Ranges.{Small, LimitRanges}
-use Rattle.bounds.specs.Flat.{limitAt, limitsAt, Positive}
+use Rattle.sheet.specs.Flat.{limitAt, limitsAt, Positive}
 use Rattle.nest.specs.Laid.{layLimits}
 use Rattle.nest.proofs.PutLaws.{within-put, getD-front}
 

@@ -14,7 +14,7 @@ use Rattle.model.specs.Ticket.{Loop}
 use Rattle.model.specs.Shape.{Sized, Shaped}
 use Rattle.model.specs.Ranges.{LoopRanges}
 use Rattle.model.specs.Grammar.{nestRoom}
-use Rattle.bounds.specs.Flat.{limitsAt, Positive}
+use Rattle.sheet.specs.Flat.{limitsAt, Positive}
 use Rattle.nest.specs.Laid.{layLimits, layLoop, layCount, layLoops, layCounts}
 use Rattle.nest.proofs.PutLaws.{getD-front}
 use Rattle.nest.proofs.LimitLaws.{lay-length, lay-front, limits-front, limits-laid, positive-laid, positive-front, lay-within}

@@ -10,7 +10,7 @@ use Rattle.lists.specs.Membership.{Mem}
 use Rattle.integers.specs.Affine.{Within}
 use Rattle.model.specs.Ticket.{Limit, Loop}
 use Rattle.model.specs.Ranges.{LoopRanges}
-use Rattle.bounds.specs.Flat.{limitsAt, loopAt, loopsFrom, Positive, NestOk}
+use Rattle.sheet.specs.Flat.{limitsAt, loopAt, loopsFrom, Positive, NestOk}
 use Rattle.nest.specs.Laid.{layLoops, layCounts}
 use Rattle.nest.proofs.LoopLaws.{Laid, LaidAll, Fit, loops-length, loops-within, loops-laid}
 

@@ -18,9 +18,10 @@ use Rattle.model.specs.Shape.{Sized, Shaped}
 use Rattle.model.specs.Ranges.{LoopRanges, CountRange}
 use Rattle.model.proofs.Answers.AnswerLaws.{leads-accepted}
 use Rattle.model.proofs.Grammar.LoopReading.{LoopRead, loop-meets}
-use Rattle.bounds.specs.Flat.{loopsFrom, NestOk}
-use Rattle.reading.specs.Refusals.{answer, firstOf, Reached}
-use Rattle.reading.specs.declared.Status.{Status}
+use Rattle.sheet.specs.Flat.{loopsFrom, NestOk}
+use Rattle.ticket_refusals.specs.Refusals.{firstOf}
+use Rattle.reading.specs.Reads.{answer, Reached}
+use Rattle.ticket_refusals.specs.declared.Status.{Status}
 use Rattle.reading.proofs.ReaderLaws.{after-value, after-refusal, both-read, before, before-none, repeated, repeated-more, repeated-no, repeated-done}
 use Rattle.nest.specs.Laid.{layLimits, layLoop, layCount, layLoops, layCounts}
 use Rattle.nest.specs.Nested.{SideIn, Room, ReadsSide, ReadsLoop}

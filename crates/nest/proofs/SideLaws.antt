@@ -16,7 +16,7 @@ use Rattle.model.specs.Shape.{Sized}
 use Rattle.model.specs.Ranges.{LimitRanges}
 use Rattle.model.proofs.Answers.AnswerLaws.{leads-accepted}
 use Rattle.model.proofs.Grammar.LoopReading.{LimitRead, limit-meets}
-use Rattle.reading.specs.Refusals.{Reached}
+use Rattle.reading.specs.Reads.{Reached}
 use Rattle.reading.proofs.ReaderLaws.{after-value, after-refusal, before, times-start, times-more, times-no, times-done}
 use Rattle.nest.specs.Laid.{layLimits}
 use Rattle.nest.specs.Nested.{limitOf, LimitIn, LayLimitIn, SideIn}

@@ -11,9 +11,9 @@ use Rattle.model.specs.Ticket as Model
 use Rattle.model.specs.Grammar.{limit, side, loop, loops, subscript, mostLoops, ticketLoops, ticketLimits, mostSides, rowRoom, nestRoom}
 use Rattle.model.specs.Shape.{Sized}
 use Rattle.model.specs.Ranges.{LimitRanges, SubscriptRanges}
-use Rattle.bounds.specs.Flat.{loopsFrom, NestOk}
-use Rattle.reading.specs.Refusals.{Reached, Reads}
-use Rattle.reading.specs.declared.Status.the-variants.{Fine}
+use Rattle.sheet.specs.Flat.{loopsFrom, NestOk}
+use Rattle.reading.specs.Reads.{Reached, Reads}
+use Rattle.ticket_refusals.specs.declared.Status.the-variants.{Fine}
 use Rattle.nest.specs.declared.Affine.{Affine}
 use Rattle.nest.specs.declared.AffineRead.{AffineRead}
 use Rattle.nest.specs.declared.Limit.{Limit}

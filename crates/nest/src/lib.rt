@@ -5,8 +5,8 @@ ghost use lib.ListN.{length};
 ghost use Rattle.lists.specs.Parts.{put};
 ghost use Rattle.model.specs.Encode.{limitWords};
 ghost use Rattle.model.specs.Grammar.{number, mostLoops, rowRoom};
-ghost use Rattle.reading.specs.Refusals.{Reached, Reads};
-ghost use Rattle.reading.specs.declared.Status.the-variants.{Refused};
+ghost use Rattle.reading.specs.Reads.{Reached, Reads};
+ghost use Rattle.ticket_refusals.specs.declared.Status.the-variants.{Refused};
 ghost use Rattle.nest.specs.Laid.{affineWords};
 ghost use Rattle.nest.specs.Nested.{affineOf, LayAffineIn, ReadsAffine, limitOf, LimitIn, LayLimitIn, SideIn, Room, ReadsLimit, ReadsSide, ReadsLoop, ReadsNest};
 use model::LOOPS;
@@ -15,8 +15,8 @@ use model::TICKET_LIMITS;
 use model::TICKET_LOOPS;
 use reading::Natural;
 use reading::Number;
-use reading::Refusal;
-use reading::Status;
+use ticket_refusals::Refusal;
+use ticket_refusals::Status;
 
 // constant + coefficients · indices.
 pub struct Affine {
@@ -96,7 +96,7 @@ pub fn read_affine(s: &[u8], at: usize, n: usize) -> AffineRead
     let others = reading::read_row(s, first.next, n);
     let a = first.status;
     let b = others.status;
-    let status = reading::first_of(a, b);
+    let status = ticket_refusals::first_refusal(a, b);
     let coefficients = others.row;
     AffineRead {
         status: status,
@@ -226,7 +226,7 @@ fn read_loop(s: &[u8], at: usize, k: usize, words: &mut [i16], counts: &mut [usi
     counts[k * 2 + 1] = high.count;
     let a = low.status;
     let b = high.status;
-    let status = reading::first_of(a, b);
+    let status = ticket_refusals::first_refusal(a, b);
     LoopRead {
         status: status,
         next: high.next,

@@ -3,11 +3,11 @@ use mathlib.Core.Path.{_≡_, refl, sym, _∙_, ap}
 use Prim.Native.Nat.{ℕ, _+_, _*_, _%_}
 use Rattle.model.specs.Answer.{Answer, number, place, count}
 use Rattle.model.specs.Quick.{Independence}
-use Rattle.reading.specs.declared.Refusal.{Refusal}
-use Rattle.reading.specs.Refusals.{numberOf, placeOf}
-use Rattle.intake.specs.declared.Answer as Counted
-use Rattle.intake.specs.declared.Answer.the-variants.{Accepted, Refused}
-use Rattle.intake.specs.Answers as Counts
+use Rattle.ticket_refusals.specs.declared.Refusal.{Refusal}
+use Rattle.ticket_refusals.specs.Refusals.{numberOf, placeOf}
+use Rattle.entry_answers.specs.declared.Answer as Counted
+use Rattle.entry_answers.specs.declared.Answer.the-variants.{Accepted, Refused}
+use Rattle.entry_answers.specs.Answers as Counts
 use Rattle.quick_entry.specs.declared.Tested as Tested
 use Rattle.quick_entry.specs.declared.Tested.the-variants as tested
 use Rattle.quick_entry.specs.Answers as Tests

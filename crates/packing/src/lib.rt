@@ -1,12 +1,12 @@
 // An answer in one number: document 01's number, the place and the count.
 ghost use mathlib.Core.Path.{_≡_};
-ghost use Rattle.reading.specs.Refusals.{numberOf, placeOf};
-ghost use Rattle.intake.specs.Answers as Answers;
+ghost use Rattle.ticket_refusals.specs.Refusals.{numberOf, placeOf};
+ghost use Rattle.entry_answers.specs.Answers as Answers;
 ghost use Rattle.quick_entry.specs.Answers as Tests;
 ghost use Rattle.packing.specs.Packed.{fields, packed, counted};
-use intake::Answer;
+use entry_answers::Answer;
 use quick_entry::Tested;
-use reading::Refusal;
+use ticket_refusals::Refusal;
 
 fn pack(number: usize, place: usize, count: usize) -> u64
     ensures { λ r. ⌜ r ≡ fields number place count ⌝ }
@@ -20,7 +20,11 @@ fn pack(number: usize, place: usize, count: usize) -> u64
 fn pack_refusal(r: Refusal) -> u64
     ensures { λ q. ⌜ q ≡ fields (numberOf r) (placeOf r) 0 ⌝ }
 {
-    pack(reading::number_of(r), reading::place_of(r), 0)
+    pack(
+        ticket_refusals::number_of(r),
+        ticket_refusals::place_of(r),
+        0,
+    )
 }
 
 pub fn pack_answer(a: Answer) -> u64

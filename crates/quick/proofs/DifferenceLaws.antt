@@ -22,7 +22,7 @@ use Rattle.model.specs.Quick.{leastTerm, greatestTerm, difference, divides, nev
 use Rattle.model.specs.Ticket.{Subscript}
 use Rattle.bounds.proofs.LimitLaws.{copied}
 use Rattle.bounds.proofs.Sides.{Side, lower, upper}
-use Rattle.elements.specs.Layout.{formAt}
+use Rattle.sheet.specs.Layout.{formAt}
 use Rattle.extremes.specs.declared.Range.{Range}
 use Rattle.extremes.specs.Ranges.{rangesOf, termBy}
 use Rattle.quick.specs.Differences.{differenceAt, leastDifference, greatestDifference, PairIn, DifferenceIn}
@@ -32,7 +32,8 @@ use Rattle.extremes.proofs.SumLaws.{count-of}
 
 -- ---- sums of two lists, and of negatives
 
-sum-append : (d : Side) (cs ds : List ℤ) (rs ss : List Model.Range) → length cs ≡ length rs → extremeSum d (cs ++ ds) (rs ++ ss) ≡ extremeSum d cs rs +ℤ extremeSum d ds ss
+sum-append : (d : Side) (cs ds : List ℤ) (rs ss : List Model.Range) → length cs ≡ length rs
+    → extremeSum d (cs ++ ds) (rs ++ ss) ≡ extremeSum d cs rs +ℤ extremeSum d ds ss
 sum-append d [] ds [] ss e = rw (sum-none d []) (lin (extremeSum d ds ss ∷ []) (λ x. x ≐ # 0 ⊕ x) tt)
 sum-append d [] ds (r ∷ rs) ss e = absurd (omega arith)
 sum-append d (c ∷ cs) ds [] ss e = absurd (omega arith)
@@ -72,7 +73,8 @@ sum-neg d (c ∷ cs) (r ∷ rs) = sum-cons d (negℤ c) (map negℤ cs) r rs ∙
 of-difference : (d : Side) (f g : Subscript) (rs : List Model.Range) → length (f .coefficients) ≡ length rs
     → extremeSum d (difference f g .coefficients) (rs ++ rs) ≡ extremeSum d (f .coefficients) rs -ℤ extremeSum (other d) (g .coefficients) rs
 unfolding difference
-of-difference d f g rs e = sum-append d (f .coefficients) (map negℤ (g .coefficients)) rs rs e ∙ ap (extremeSum d (f .coefficients) rs +ℤ_) (sum-neg d (g .coefficients) rs)
+of-difference d f g rs e = sum-append d (f .coefficients) (map negℤ (g .coefficients)) rs rs e
+    ∙ ap (extremeSum d (f .coefficients) rs +ℤ_) (sum-neg d (g .coefficients) rs)
     ∙ lin (extremeSum d (f .coefficients) rs ∷ extremeSum (other d) (g .coefficients) rs ∷ []) (λ x y. x ⊕ ⊝ y ≐ x ⊖ y) tt
 
 -- ---- the machine's differences
@@ -133,7 +135,8 @@ module _ (w : List ℤ) (u v n : ℕ) (b : List Range) (p : DifferenceIn w u v n
       → y ≡ extremeSum (other d) (take n (drop (v * 8 + 1) w)) (rangesOf n b) → r ≡ c +ℤ (x -ℤ y)
       → r ≡ differenceAt w n u v .constant +ℤ extremeSum d (differenceAt w n u v .coefficients) (rangesOf n b ++ rangesOf n b)
   unfolding differenceAt formAt
-  difference-is d c x y r hc hx hy e = e ∙ rw (hc, hx, hy) (ap (differenceAt w n u v .constant +ℤ_) (sym (of-difference d (formAt w n u) (formAt w n v) (rangesOf n b) as-many)))
+  difference-is d c x y r hc hx hy e = e ∙ rw (hc, hx, hy)
+      (ap (differenceAt w n u v .constant +ℤ_) (sym (of-difference d (formAt w n u) (formAt w n v) (rangesOf n b) as-many)))
 
 -- ---- zero outside
 

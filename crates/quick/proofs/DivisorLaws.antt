@@ -21,7 +21,7 @@ use Rattle.integers.proofs.Polynomial.{_⊖_, ⊝, #}
 use Rattle.integers.proofs.Linear.{lin, _≐_}
 use Rattle.model.specs.Quick.{divides, difference}
 use Rattle.bounds.proofs.LimitLaws.{copied}
-use Rattle.elements.specs.Layout.{formAt}
+use Rattle.sheet.specs.Layout.{formAt}
 use Rattle.quick.specs.Differences.{gcdOnto, differenceAt, WordsIn}
 use Rattle.extremes.proofs.TermLaws.{copy}
 

@@ -3,3 +3,4 @@ pub mod Witness
 pub mod DivisorLaws
 pub mod DifferenceLaws
 pub mod SearchLaws
+pub mod NestLaws

@@ -16,9 +16,9 @@ use Rattle.lists.specs.Tests.{any}
 use Rattle.model.specs.Quick as Model
 use Rattle.model.specs.Quick.{ranges, neverZero, someApart, isApart}
 use Rattle.model.specs.Grammar.{mostExtents}
-use Rattle.bounds.specs.Flat.{loopsFrom}
+use Rattle.sheet.specs.Flat.{loopsFrom}
 use Rattle.bounds.proofs.LimitLaws.{copied}
-use Rattle.elements.specs.Layout.{formsFrom, accessAt}
+use Rattle.sheet.specs.Layout.{formsFrom, accessAt}
 use Rattle.extremes.specs.declared.Range.{Range}
 use Rattle.extremes.specs.Ranges.{rangeAs, rangesOf, isEmpty, NearRange, RangesIn}
 use Rattle.extremes.specs.Values.{RangesAre}

@@ -7,7 +7,7 @@ use lib.ListN.{getD, replicate, length-replicate}
 use Rattle.integers.specs.Affine.{Within}
 use Rattle.model.specs.Grammar.{mostSides, nestRoom}
 use Rattle.space.proofs.Witness.{ones-ok}
-use Rattle.elements.specs.Layout.{AccessesOk}
+use Rattle.sheet.specs.Layout.{AccessesOk}
 use Rattle.quick.specs.Differences.{TestIn}
 
 within-replicate : (n m : ℕ) → 1 ≤ m → Within m (replicate n (pos 1))

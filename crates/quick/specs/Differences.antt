@@ -9,8 +9,8 @@ use Rattle.model.specs.Ticket.{Subscript}
 use Rattle.model.specs.Quick as Model
 use Rattle.model.specs.Quick.{leastSum, greatestSum, difference}
 use Rattle.model.specs.Grammar.{mostLoops}
-use Rattle.bounds.specs.Flat.{NestOk}
-use Rattle.elements.specs.Layout.{formAt, AccessesOk}
+use Rattle.sheet.specs.Flat.{NestOk}
+use Rattle.sheet.specs.Layout.{formAt, AccessesOk}
 use Rattle.extremes.specs.declared.Range.{Range}
 use Rattle.extremes.specs.Ranges.{RangesIn}
 

@@ -1,5 +1,5 @@
 // The quick test of two accesses: subscript by subscript the greatest common divisor and the range of the
-// difference. A nest is lent as flat slices (crate bounds), and so are accesses (crate elements).
+// difference. A nest and its accesses are lent as flat slices (crate sheet).
 ghost use mathlib.Core.Path.{_≡_};
 ghost use mathlib.Core.Bool.{_||_};
 ghost use mathlib.Core.List.{_++_};
@@ -11,14 +11,18 @@ ghost use Rattle.integers.specs.Difference.{size};
 ghost use Rattle.integers.specs.Gcd.{gcdOf};
 ghost use Rattle.lists.specs.Tests.{any};
 ghost use Rattle.model.specs.Quick.{neverZero, someApart, isApart};
-ghost use Rattle.bounds.specs.Flat.{loopsFrom};
-ghost use Rattle.elements.specs.Layout.{formsFrom, accessAt};
+ghost use Rattle.sheet.specs.Flat.{loopsFrom};
+ghost use Rattle.sheet.specs.Layout.{formsFrom, accessAt};
+ghost use Rattle.sheet.specs.Sheets.{sheetOf, nestOf, accessOf};
 ghost use Rattle.extremes.specs.Ranges.{rangeAs, rangesOf, isEmpty, NearRange, RangesIn};
 ghost use Rattle.quick.specs.Differences.{gcdOnto, differenceAt, leastDifference, greatestDifference, WordsIn, PairIn, DifferenceIn, FormsIn, TestIn};
+ghost use Rattle.quick.specs.Nests.{NestTestIn};
 use bounds::Whole;
 use extremes::Range;
+use model::ACCESS_ROOM;
 use model::ARRAY_ROOM;
 use model::LOOPS;
+use sheet::Outline;
 
 // Whether the least exceeds the greatest.
 fn is_empty(r: Range) -> bool
@@ -169,7 +173,7 @@ fn some_apart(words: &[i16], u: usize, v: usize, d: usize, n: usize, ranges: [Ra
 }
 
 // Whether accesses first and second, of all, never meet by the quick test: 'apart', or else 'perhaps'.
-pub fn is_apart(
+fn test_accesses(
     nest: &[i16],
     counts: &[usize],
     depth: usize,
@@ -191,4 +195,32 @@ pub fn is_apart(
     }
     let d = arrays[owners[first] * ARRAY_ROOM];
     some_apart(words, first * 3, second * 3, d, depth, r)
+}
+
+// Whether two accesses, counted from 0, never meet by the quick test.
+pub fn is_apart(
+    outline: Outline,
+    limits: &[i16],
+    words: &[i16],
+    first: usize,
+    second: usize,
+) -> bool
+    requires { ⌜ NestTestIn (sheetOf outline (now limits) (now words)) first second ⌝ }
+    ensures { λ r. ⌜ r ≡ isApart (nestOf (sheetOf outline (now (limits .entry)) (now (words .entry))) .loops) (accessOf (nestOf (sheetOf outline (now (limits .entry)) (now (words .entry)))) first) (accessOf (nestOf (sheetOf outline (now (limits .entry)) (now (words .entry)))) second) ⌝ }
+{
+    let counts = outline.counts;
+    let owners = outline.owners;
+    let extents = outline.extents;
+    let depth = outline.depth;
+    let accesses = outline.accesses;
+    test_accesses(
+        limits,
+        &counts,
+        depth,
+        &words[..accesses * ACCESS_ROOM],
+        &owners[..accesses],
+        &extents[..outline.arrays * ARRAY_ROOM],
+        first,
+        second,
+    )
 }

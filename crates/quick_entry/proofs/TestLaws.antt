@@ -13,21 +13,21 @@ use Rattle.model.specs.Bounds.{admitted}
 use Rattle.model.specs.Quick.{apart, perhaps, isApart, quickTest}
 use Rattle.model.specs.Judge.{admitOf}
 use Rattle.model.specs.Entries.{allAccesses, accessNumber, quickOf}
-use Rattle.reading.specs.declared.Refusal.{Refusal}
-use Rattle.reading.specs.declared.Refusal.the-variants.{WordOutOfRange}
-use Rattle.reading.specs.Refusals.{refusal}
+use Rattle.ticket_refusals.specs.declared.Refusal.{Refusal}
+use Rattle.ticket_refusals.specs.declared.Refusal.the-variants.{WordOutOfRange}
+use Rattle.ticket_refusals.specs.Refusals.{refusal}
 use Rattle.steps.specs.declared.Steps.{Steps}
 use Rattle.ticket.specs.declared.Decoded.{Decoded}
 use Rattle.ticket.specs.Ticket.{ticketOn, ticketOf, Decodes}
-use Rattle.sheet.specs.Sheets.{Sheet, sheetOf, nestOf, SheetIn}
-use Rattle.reading.specs.declared.Status.{Status}
-use Rattle.reading.specs.declared.Status.the-variants.{Fine, Refused}
+use Rattle.sheet.specs.Sheets.{Sheet, sheetOf, nestOf, SheetIn, noAccess, accessOf}
+use Rattle.ticket_refusals.specs.declared.Status.{Status}
+use Rattle.ticket_refusals.specs.declared.Status.the-variants.{Fine, Refused}
 use Rattle.admission.specs.Admission.{passed, Admits}
 use Rattle.admission.specs.declared.Counted.{Counted}
 use Rattle.admission.specs.declared.Counted.the-variants as Counted
 use Rattle.intake.specs.Intake.{Counts}
 use Rattle.intake.proofs.AdmitLaws.{not-counted, ticket-there}
-use Rattle.sheet.specs.Stages.{noAccess, accessOf, TestIn}
+use Rattle.quick.specs.Nests.{NestTestIn}
 use Rattle.sheet.proofs.SheetLaws.{access-count}
 use Rattle.quick_entry.specs.declared.Tested.{Tested}
 use Rattle.quick_entry.specs.Answers.{answerOf, tested, testNest}
@@ -96,7 +96,7 @@ module _ (P : Sheet) (h : SheetIn P) (u : ℕ) (s : Bool) (e : s ≡ (leb 1 u &&
     no-second w = sym (first-passes ∙ ap (_>>= (λ y. accepted (quickTest (nestOf P .loops) (accessOf (nestOf P) (u - 1)) y))) (no-access P h v t f w))
 
     module _ (w : not t ≡ false) where
-      pub test-in : TestIn P (u - 1) (v - 1)
+      pub test-in : NestTestIn P (u - 1) (v - 1)
       test-in = record { sheet = h; first = access-there P h u s e z .1; second = access-there P h v t f w .1 }
 
       module _ (r : Bool) (g : r ≡ isApart (nestOf P .loops) (accessOf (nestOf P) (u - 1)) (accessOf (nestOf P) (v - 1))) where

@@ -5,7 +5,7 @@ use Rattle.model.specs.Ticket.{Nest}
 use Rattle.model.specs.Bounds.{admitted}
 use Rattle.model.specs.Quick.{Independence, apart, perhaps, quickTest}
 use Rattle.model.specs.Entries.{allAccesses, accessNumber}
-use Rattle.reading.specs.Refusals.{refusal}
+use Rattle.ticket_refusals.specs.Refusals.{refusal}
 use Rattle.quick_entry.specs.declared.Tested.{Tested}
 use Rattle.quick_entry.specs.declared.Tested.the-variants.{Apart, Perhaps, Refused}
 

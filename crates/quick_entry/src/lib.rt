@@ -10,10 +10,10 @@ ghost use Rattle.quick_entry.specs.Answers.{answerOf, tested, testNest};
 use admission::Counted;
 use model::NEST_ROOM;
 use model::WORDS;
-use reading::Refusal;
-use reading::Status;
 use sheet::Outline;
 use ticket::Decoded;
+use ticket_refusals::Refusal;
+use ticket_refusals::Status;
 
 pub enum Tested {
     Apart,
@@ -42,7 +42,7 @@ fn test(outline: Outline, limits: &[i16], words: &[i16], first: usize, second: u
     if !is_access(second, accesses) {
         return Tested::Refused(Refusal::WordOutOfRange(0));
     }
-    if sheet::is_apart(outline, limits, words, first - 1, second - 1) {
+    if quick::is_apart(outline, limits, words, first - 1, second - 1) {
         return Tested::Apart;
     }
     Tested::Perhaps

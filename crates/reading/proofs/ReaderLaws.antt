@@ -12,10 +12,11 @@ use Rattle.lists.proofs.MembershipLaws.{all-nil, all-cons, all-append}
 use Rattle.model.specs.Answer as Answer
 use Rattle.model.specs.Answer.{Answer, accepted, refused}
 use Rattle.model.specs.Grammar.{Read, Reader, _>>=_, done, times}
-use Rattle.reading.specs.Refusals.{refusal, answer, firstOf, Reached, Reads}
-use Rattle.reading.specs.declared.Refusal.{Refusal}
-use Rattle.reading.specs.declared.Status.{Status}
-use Rattle.reading.specs.declared.Status.the-variants as Status
+use Rattle.ticket_refusals.specs.Refusals.{refusal, firstOf}
+use Rattle.reading.specs.Reads.{answer, Reached, Reads}
+use Rattle.ticket_refusals.specs.declared.Refusal.{Refusal}
+use Rattle.ticket_refusals.specs.declared.Status.{Status}
+use Rattle.ticket_refusals.specs.declared.Status.the-variants as Status
 
 -- a code's answer g that is x stands for what x stands for
 pub seen : {G : Type 0} {A : Type 0} (out : G → Answer A) {g x : G} {m : Answer A} → g ≡ x → out g ≡ m → m ≡ out x
@@ -37,15 +38,6 @@ module _ {A : Type 0} {m : Answer (Read A)} {b : List ℕ} {status : Status} {va
 pub refused-here : {A : Type 0} {m : Answer (Read A)} {b : List ℕ} {status : Status} (value : A) {next at : ℕ} {r : Refusal}
     → status ≡ Status.Refused r → next ≡ at → m ≡ refusal r → Reached b at → Reads m b status value next
 refused-here value {next} e p h q = record { same = ap (λ t. answer t value next) e ∙ sym h; reached = subst (Reached _) (sym p) q }
-
--- a refusal is not fine
-pub not-fine : {A : Type 0} (s : Status) {r : Refusal} → s ≡ Status.Refused r → s ≡ Status.Fine → A
-not-fine s e f = let z : _≡_ {A = ℕ} 0 1 = cc in absurd (omega arith)
-
--- of two, the first refusal decides
-pub first-fine : (s t : Status) → firstOf s t ≡ Status.Fine → (s ≡ Status.Fine) × (t ≡ Status.Fine)
-first-fine Status.Fine t e = (refl, e)
-first-fine (Status.Refused r) t e = not-fine (Status.Refused r) refl e
 
 -- ---- one after another
 

@@ -15,9 +15,10 @@ use Rattle.model.specs.Answer as Answer
 use Rattle.model.specs.Answer.{Answer, accepted, refused, require}
 use Rattle.model.specs.Words.{signed, firstWord, wordAt}
 use Rattle.model.specs.Grammar.{Read, _>>=_, _>>_, done, word, must, mustAt, between, count, within, natural, number, loopNumber}
-use Rattle.reading.specs.Refusals.{refusal, Reached}
+use Rattle.ticket_refusals.specs.Refusals.{refusal}
+use Rattle.reading.specs.Reads.{Reached}
 use Rattle.reading.specs.Words.{Ranged, ReadNatural}
-use Rattle.reading.specs.declared.Refusal.{Refusal}
+use Rattle.ticket_refusals.specs.declared.Refusal.{Refusal}
 use Rattle.reading.specs.declared.Natural.{Natural}
 use Rattle.reading.specs.declared.Natural.the-variants as Natural
 

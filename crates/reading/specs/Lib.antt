@@ -1,3 +1,3 @@
 -- What the answers of this crate's functions mean in the model.
-pub mod Refusals
+pub mod Reads
 pub mod Words

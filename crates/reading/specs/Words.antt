@@ -7,8 +7,9 @@ use lib.IntN.{ℤ, pos, natAbs}
 use Rattle.model.specs.Answer.{Answer, accepted, refused}
 use Rattle.model.specs.Words.{signed, wordAt}
 use Rattle.model.specs.Grammar.{Read, between, number}
-use Rattle.reading.specs.Refusals.{refusal, Reached}
-use Rattle.reading.specs.declared.Refusal.{Refusal}
+use Rattle.ticket_refusals.specs.Refusals.{refusal}
+use Rattle.reading.specs.Reads.{Reached}
+use Rattle.ticket_refusals.specs.declared.Refusal.{Refusal}
 use Rattle.reading.specs.declared.Bits.{Bits}
 use Rattle.reading.specs.declared.Bits.the-variants as Bits
 use Rattle.reading.specs.declared.Natural.{Natural}

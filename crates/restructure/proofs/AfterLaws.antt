@@ -18,7 +18,7 @@ use Rattle.model.specs.Ticket.{Limit, Loop, Step}
 use Rattle.model.specs.Grammar.{depthAfter, mostSides, nestRoom}
 use Rattle.model.specs.Limits.{onLimits, loopsAfter}
 use Rattle.model.specs.Judge.{fewLimits, smallLimit, smallLoop}
-use Rattle.bounds.specs.Flat.{limitAt, limitsAt, loopAt, loopsFrom, NestOk}
+use Rattle.sheet.specs.Flat.{limitAt, limitsAt, loopAt, loopsFrom, NestOk}
 use Rattle.limits.specs.Change.{changeOf}
 use Rattle.limits.specs.declared.Change.{Change}
 use Rattle.limits.proofs.FlatLaws.{limit-near, small-passes}

@@ -19,7 +19,7 @@ use Rattle.model.specs.Ticket.{Limit}
 use Rattle.model.specs.Encode.{limitWords}
 use Rattle.model.specs.Limits.{constantLimit, elementLimit}
 use Rattle.model.specs.Judge.{smallLimit}
-use Rattle.bounds.specs.Flat.{limitAt, limitsAt, loopAt, Positive}
+use Rattle.sheet.specs.Flat.{limitAt, limitsAt, loopAt, Positive}
 use Rattle.rows.specs.Rows.{Tried}
 use Rattle.limits.specs.Change.{changeOf, outerAfter, Allowed}
 use Rattle.limits.specs.declared.Change.the-variants.{Element}

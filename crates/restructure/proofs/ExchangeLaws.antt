@@ -13,7 +13,7 @@ use Rattle.model.specs.Ticket.{Loop, exchange}
 use Rattle.model.specs.Grammar.{depthAfter, mostSides, nestRoom}
 use Rattle.model.specs.Limits.{onLimits, loopsAfter, deeper, exchangeAt, newOuter, newInner, tidy}
 use Rattle.model.specs.Judge.{smallLoop}
-use Rattle.bounds.specs.Flat.{loopAt, loopsFrom, NestOk}
+use Rattle.sheet.specs.Flat.{loopAt, loopsFrom, NestOk}
 use Rattle.limits.specs.Change.{changeOf, outerAfter, Allowed}
 use Rattle.limits.specs.declared.Change.the-variants.{Swap}
 use Rattle.loop_changes.specs.Loops.{LoopsIn, LoopsMade}

@@ -9,7 +9,7 @@ use lib.ListN.{length, getD}
 use Rattle.integers.specs.Affine.{Within}
 use Rattle.model.specs.Ticket.{Loop}
 use Rattle.model.specs.Grammar.{mostSides, nestRoom}
-use Rattle.bounds.specs.Flat.{loopAt, loopsFrom, NestOk}
+use Rattle.sheet.specs.Flat.{loopAt, loopsFrom, NestOk}
 use Rattle.limits.specs.Words.{LoopOk}
 use Rattle.loop_changes.proofs.LoopLaws.{loop-same, ok-same}
 

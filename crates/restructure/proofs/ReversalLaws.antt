@@ -12,7 +12,7 @@ use Rattle.lists.proofs.PlaceLaws.{under-same, under-under}
 use Rattle.model.specs.Ticket.{Loop, reversal, skew}
 use Rattle.model.specs.Grammar.{depthAfter}
 use Rattle.model.specs.Limits.{onLimits, loopsAfter, deeper, reverseAt, skewInner, skewAt}
-use Rattle.bounds.specs.Flat.{loopAt, loopsFrom, NestOk}
+use Rattle.sheet.specs.Flat.{loopAt, loopsFrom, NestOk}
 use Rattle.limits.specs.Change.{changeOf, outerAfter, Allowed}
 use Rattle.limits.specs.declared.Change.{Change}
 use Rattle.limits.specs.declared.Slant.{Slant}

@@ -15,7 +15,7 @@ use Rattle.model.specs.Ticket.{Loop, section}
 use Rattle.model.specs.Grammar.{depthAfter, mostSides, nestRoom}
 use Rattle.model.specs.Limits.{onLimits, loopsAfter, deeper, sectionAt, elementLimit}
 use Rattle.model.specs.Judge.{smallLoop}
-use Rattle.bounds.specs.Flat.{loopAt, loopsFrom}
+use Rattle.sheet.specs.Flat.{loopAt, loopsFrom}
 use Rattle.limits.specs.Change.{changeOf, outerAfter, Allowed}
 use Rattle.limits.specs.declared.Cut.{Cut}
 use Rattle.limits.specs.declared.Change.the-variants.{Low, Up, Split}

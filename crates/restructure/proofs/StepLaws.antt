@@ -14,7 +14,7 @@ use Rattle.model.specs.Ticket.{Loop, Step}
 use Rattle.model.specs.Grammar.{depthAfter, mostSides, nestRoom}
 use Rattle.model.specs.Limits.{onLimits, loopsAfter}
 use Rattle.model.specs.Judge.{smallLoop}
-use Rattle.bounds.specs.Flat.{loopAt, loopsFrom, NestOk}
+use Rattle.sheet.specs.Flat.{loopAt, loopsFrom, NestOk}
 use Rattle.limits.specs.Change.{changeOf}
 use Rattle.limits.specs.declared.Change.{Change}
 use Rattle.limits.specs.Words.{LoopOk}

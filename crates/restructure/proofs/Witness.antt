@@ -10,7 +10,7 @@ use Rattle.integers.proofs.AffineLaws.{within-all}
 use Rattle.integers.proofs.RingLaws.{zarith}
 use Rattle.integers.specs.Difference.{size}
 use Rattle.model.specs.Grammar.{mostSides, nestLimits, nestRoom}
-use Rattle.bounds.specs.Flat.{NestOk}
+use Rattle.sheet.specs.Flat.{NestOk}
 use Rattle.restructure.specs.After.{ReversalIn, SkewIn, SectionIn, ExchangeIn}
 
 -- shut, so that nothing computes nestRoom words

@@ -11,7 +11,7 @@ use Rattle.model.specs.Ticket.{Step}
 use Rattle.model.specs.Grammar.{depthAfter, mostLoops, mostSides, nestRoom}
 use Rattle.model.specs.Limits.{loopsAfter}
 use Rattle.model.specs.Judge.{fewLimits, smallLoop}
-use Rattle.bounds.specs.Flat.{loopsFrom, NestOk}
+use Rattle.sheet.specs.Flat.{loopsFrom, NestOk}
 use Rattle.restructure.specs.declared.Stepped.{Stepped}
 
 pub record ReversalIn (s : List ℤ) (c : List ℕ) (depth a : ℕ) : Type 0 where

@@ -9,7 +9,7 @@ use Rattle.integers.specs.Affine.{Within}
 use Rattle.model.specs.Ticket.{Limit, Loop}
 use Rattle.model.specs.Limits.{elementLimit, constantLimit}
 use Rattle.model.specs.Grammar.{mostLoops, mostLimits, mostSides, nestRoom}
-use Rattle.bounds.specs.Flat.{Positive}
+use Rattle.sheet.specs.Flat.{Positive}
 
 -- a side of E: the constant v, then each old limit with w × S moved across
 unfoldable pub elementSide : ℕ → ℕ → ℕ → List Limit → List Limit

@@ -5,7 +5,7 @@ ghost use Rattle.model.specs.Ticket.{reversal, skew, section, exchange};
 ghost use Rattle.model.specs.Limits.{constantLimit};
 ghost use Rattle.model.specs.Grammar.{mostLoops};
 ghost use Rattle.nest.specs.Nested.{limitOf, LimitIn};
-ghost use Rattle.bounds.specs.Flat.{limitsAt, loopAt};
+ghost use Rattle.sheet.specs.Flat.{limitsAt, loopAt};
 ghost use Rattle.loop_changes.specs.Sides.{SideMade};
 ghost use Rattle.loop_changes.specs.Loops.{LoopMade};
 ghost use Rattle.restructure.specs.After.{ReversalIn, SkewIn, SectionIn, ExchangeIn, After};

@@ -19,15 +19,15 @@ use Rattle.model.specs.Entries.{Outcome, transparent, runnable, ran, runOf, run
 use Rattle.model.proofs.Answers.PassLaws.{bind-pass, bind-stop}
 use Rattle.model.proofs.Grammar.GrammarLaws.{decode-ranges, decode-formed}
 use Rattle.model.proofs.Verdict.VerdictLaws.{admit-accepted, judgeTicket-accepted, judged-accepted}
-use Rattle.reading.specs.declared.Refusal.{Refusal}
-use Rattle.reading.specs.declared.Status.{Status}
-use Rattle.reading.specs.declared.Status.the-variants as Status
-use Rattle.reading.specs.Refusals.{refusal}
+use Rattle.ticket_refusals.specs.declared.Refusal.{Refusal}
+use Rattle.ticket_refusals.specs.declared.Status.{Status}
+use Rattle.ticket_refusals.specs.declared.Status.the-variants as Status
+use Rattle.ticket_refusals.specs.Refusals.{refusal}
 use Rattle.sheet.specs.Sheets.{sheetOf, nestOf}
-use Rattle.sheet.specs.Stages.{opaqueAt}
-use Rattle.intake.specs.declared.Answer.{Answer}
-use Rattle.intake.specs.declared.Answer.the-variants.{Refused}
-use Rattle.intake.specs.Answers.{Hands}
+use Rattle.elements.specs.Nests.{opaqueAt}
+use Rattle.entry_answers.specs.declared.Answer.{Answer}
+use Rattle.entry_answers.specs.declared.Answer.the-variants.{Refused}
+use Rattle.entry_answers.specs.Answers.{Hands}
 use Rattle.judgement.specs.Judgement.{judgedAs}
 use Rattle.verdict.specs.declared.Decided.{Decided}
 use Rattle.verdict.specs.Verdicts.{Known, Decides}

@@ -1,10 +1,10 @@
 // The entry `run`: the nest of a ticket in its new order, on a store.
 ghost use Rattle.model.specs.Entries as Entries;
-ghost use Rattle.intake.specs.Answers.{Hands};
-use intake::Answer;
+ghost use Rattle.entry_answers.specs.Answers.{Hands};
+use entry_answers::Answer;
 use model::NEST_ROOM;
 use model::WORDS;
-use reading::Status;
+use ticket_refusals::Status;
 
 // Judges 1 to 13, then 15 and 16. An accepted run leaves the store that the old order leaves (model, Demands: demand-3, run-store).
 pub fn run(ticket: &[u8], store: &mut [u32]) -> Answer

@@ -1,5 +1,4 @@
 -- Laws that the crate's contracts need.
+pub mod FlatLaws
 pub mod SheetLaws
-pub mod ArrayLaws
-pub mod StageLaws
-pub mod ClearLaws
+pub mod Plain

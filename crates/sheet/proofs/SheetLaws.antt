@@ -17,10 +17,9 @@ use Rattle.model.specs.Store.{sum}
 use Rattle.model.specs.Entries.{allAccesses}
 use Rattle.model.specs.Shape.{Runs, Fits, WellFormed}
 use Rattle.model.specs.Grammar.{accessRoom}
-use Rattle.bounds.proofs.FlatLaws.{nest-runs}
-use Rattle.elements.specs.Layout.{accessAt, accessesFrom, bodiesFrom}
-use Rattle.sheet.specs.Sheets.{Sheet, extentsIn, sizesIn, ownersIn, wordsIn, statementsFrom, nestOf, SheetIn}
-use Rattle.sheet.specs.Stages.{noAccess, accessOf}
+use Rattle.sheet.proofs.FlatLaws.{nest-runs}
+use Rattle.sheet.specs.Layout.{accessAt, accessesFrom, bodiesFrom}
+use Rattle.sheet.specs.Sheets.{Sheet, extentsIn, sizesIn, ownersIn, wordsIn, statementsFrom, nestOf, SheetIn, noAccess, accessOf}
 
 -- ---- statements and their accesses
 

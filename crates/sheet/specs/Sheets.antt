@@ -1,16 +1,17 @@
--- The nest that a sheet stands for. Its slices are laid out as `bounds` (specs/Flat) and `elements` (specs/Layout) say; a statement has a size
--- (the number of its accesses, the written one first), a rule and a constant.
+-- The nest that a sheet stands for. Its slices are laid out as Flat and Layout say; a statement has a size (the number of its accesses, the
+-- written one first), a rule and a constant.
 use mathlib.Core.Path.{_≡_}
 use mathlib.Core.List.{List, [], _∷_}
 use Prim.Native.Nat.{ℕ, suc, _+_, _*_, _-_, _≤_}
 use lib.IntN.{ℤ}
 use lib.ListN.{length, take, getD}
 use Rattle.lists.specs.Membership.{All}
-use Rattle.model.specs.Ticket.{Statement, Nest}
+use Rattle.model.specs.Ticket.{Access, Statement, Nest}
 use Rattle.model.specs.Grammar.{total, mostAccesses, accessRoom, mostWords, mostStatements, mostArrays, arrayRoom, mostExtents, mostElements}
 use Rattle.model.specs.Store.{sum}
-use Rattle.bounds.specs.Flat.{loopsFrom, NestOk}
-use Rattle.elements.specs.Layout.{arraysOf, accessAt, accessesFrom, AccessesOk}
+use Rattle.model.specs.Entries.{allAccesses}
+use Rattle.sheet.specs.Flat.{loopsFrom, NestOk}
+use Rattle.sheet.specs.Layout.{arraysOf, accessAt, accessesFrom, AccessesOk}
 use Rattle.sheet.specs.declared.Outline.{Outline}
 
 -- an outline with the two large slices that are lent beside it
@@ -41,6 +42,23 @@ sheetOf O s w = record {
   constants = O .constants;
   accesses = O .accesses;
   owners = O .owners;
+  words = w;
+}
+
+-- P with these loops and subscripts
+abbrev pub moved : Sheet → ℕ → List ℤ → List ℕ → List ℤ → Sheet
+moved P d l c w = record {
+  depth = d;
+  limits = l;
+  counts = c;
+  arrays = P .arrays;
+  extents = P .extents;
+  statements = P .statements;
+  sizes = P .sizes;
+  rules = P .rules;
+  constants = P .constants;
+  accesses = P .accesses;
+  owners = P .owners;
   words = w;
 }
 
@@ -96,3 +114,12 @@ pub record SheetIn (P : Sheet) : Type 0 where
   pub words-length : length (P .words) ≡ mostWords
   pub rules-length : length (P .rules) ≡ mostStatements
   pub constants-length : length (P .constants) ≡ mostStatements
+
+-- ---- its accesses
+
+abbrev pub noAccess : Access
+noAccess = record { array = 0; subscripts = [] }
+
+-- access k of all, from 0
+abbrev pub accessOf : Nest → ℕ → Access
+accessOf N k = getD (allAccesses N) k noAccess

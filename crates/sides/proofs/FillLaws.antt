@@ -22,9 +22,9 @@ use Rattle.model.specs.Limits.{sameLimit}
 use Rattle.model.proofs.Steps.TidyLaws.{sameLimit-decides}
 use Rattle.nest.specs.Nested.{limitOf}
 use Rattle.nest.specs.declared.Limit.{Limit}
-use Rattle.bounds.specs.Flat.{limitAt, limitsAt}
+use Rattle.sheet.specs.Flat.{limitAt, limitsAt}
 use Rattle.sides.specs.Filling.{Holds, Natural, Filled, Adds, WideIn}
-use Rattle.bounds.proofs.FlatLaws.{limits-length}
+use Rattle.sheet.proofs.FlatLaws.{limits-length}
 use Rattle.sides.proofs.FlatLaws.{limits-more, limits-put}
 
 -- ---- one limit

@@ -19,8 +19,8 @@ use Rattle.lists.proofs.TestLaws.{T-true, true-T, any-join, some-any}
 use Rattle.model.specs.Ticket.{Limit}
 use Rattle.model.specs.Encode.{limitWords}
 use Rattle.model.specs.Shape.{Sized}
-use Rattle.bounds.specs.Flat.{limitAt, limitsAt}
-use Rattle.bounds.proofs.FlatLaws.{limits-all}
+use Rattle.sheet.specs.Flat.{limitAt, limitsAt}
+use Rattle.sheet.proofs.FlatLaws.{limits-all}
 use Rattle.nest.specs.Laid.{layLimits}
 use Rattle.nest.proofs.LimitLaws.{limits-front, limits-laid}
 

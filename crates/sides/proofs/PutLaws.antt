@@ -19,7 +19,7 @@ use Rattle.model.specs.Ticket as Model
 use Rattle.model.specs.Encode.{limitWords}
 use Rattle.nest.specs.Nested.{limitOf}
 use Rattle.nest.specs.declared.Limit.{Limit}
-use Rattle.bounds.specs.Flat.{limitAt}
+use Rattle.sheet.specs.Flat.{limitAt}
 use Rattle.rows.proofs.RowLaws.{six-read, row-part}
 use Rattle.limits.specs.Makes.{LimitIs}
 use Rattle.integers.specs.Difference.{up}

@@ -19,7 +19,7 @@ use Rattle.lists.proofs.TestLaws.{T-true, true-T, false-not-T, not-T-false, sam
 use Rattle.model.specs.Limits.{sameLimit}
 use Rattle.nest.specs.Nested.{limitOf}
 use Rattle.nest.specs.declared.Limit.{Limit}
-use Rattle.bounds.specs.Flat.{limitAt}
+use Rattle.sheet.specs.Flat.{limitAt}
 use Rattle.sides.specs.Filling.{Natural}
 
 -- ---- numbers: the machine's test, on the bits

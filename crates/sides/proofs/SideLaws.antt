@@ -13,7 +13,7 @@ use Rattle.lists.proofs.TestLaws.{false-not-T, not-T-false, all-holds, all-join
 use Rattle.model.specs.Ticket as Model
 use Rattle.model.specs.Encode.{limitWords}
 use Rattle.model.specs.Judge.{smallLimit}
-use Rattle.bounds.specs.Flat.{limitAt, limitsAt}
+use Rattle.sheet.specs.Flat.{limitAt, limitsAt}
 use Rattle.nest.specs.Laid.{layLimits}
 use Rattle.nest.proofs.LimitLaws.{lay-more, lay-length}
 use Rattle.nest.specs.Nested.{limitOf}
@@ -22,7 +22,7 @@ use Rattle.rows.specs.Rows.{Tried}
 use Rattle.limits.specs.Words.{LimitRoom}
 use Rattle.sides.specs.Filling.{HeldIn, PutIn, SidePut}
 use Rattle.sides.proofs.PutLaws.{untrue}
-use Rattle.bounds.proofs.FlatLaws.{limits-length}
+use Rattle.sheet.proofs.FlatLaws.{limits-length}
 use Rattle.sides.proofs.FlatLaws.{limits-sized, limits-more, limits-mem}
 
 module _ (o : List ℤ) (j : ℕ) (f : List ℤ) (count n : ℕ) (p : PutIn (length o) j f count n) where

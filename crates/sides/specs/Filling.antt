@@ -14,7 +14,7 @@ use Rattle.model.specs.Limits.{sameLimit}
 use Rattle.model.specs.Grammar.{mostLoops, mostLimits, rowRoom}
 use Rattle.nest.specs.Nested.{LimitIn}
 use Rattle.nest.specs.declared.Limit.{Limit}
-use Rattle.bounds.specs.Flat.{limitsAt}
+use Rattle.sheet.specs.Flat.{limitsAt}
 use Rattle.nest.specs.Laid.{layLimits}
 
 -- the first `count` limits of f are what the limits ls leave, or count says that there are more than 16

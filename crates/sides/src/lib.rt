@@ -10,7 +10,7 @@ ghost use Rattle.model.specs.Encode.{limitWords};
 ghost use Rattle.model.specs.Limits.{sameLimit};
 ghost use Rattle.model.specs.Grammar.{mostLoops, mostLimits, rowRoom};
 ghost use Rattle.nest.specs.Nested.{limitOf};
-ghost use Rattle.bounds.specs.Flat.{limitAt, limitsAt};
+ghost use Rattle.sheet.specs.Flat.{limitAt, limitsAt};
 ghost use Rattle.limits.specs.Makes.{LimitIs};
 ghost use Rattle.sides.specs.Filling.{Adds, WideIn, SameIn, PushIn, HeldIn, PutIn, SidePut};
 use model::LIMITS;

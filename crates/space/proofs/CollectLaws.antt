@@ -13,7 +13,7 @@ use Rattle.lists.proofs.PartLaws.{put-nil, length-put, put-put}
 use Rattle.integers.specs.Difference.{size}
 use Rattle.model.specs.Ticket.{Loop}
 use Rattle.model.specs.Points.{span, ints}
-use Rattle.bounds.specs.Flat.{NestOk, loopAt, loopsFrom}
+use Rattle.sheet.specs.Flat.{NestOk, loopAt, loopsFrom}
 use Rattle.bounds.specs.Ranges.{RangeIn, Ranged}
 use Rattle.space.specs.Tallies.{through, Near}
 use Rattle.space.specs.Stored.{joined, CollectIn, Collected}

@@ -16,7 +16,7 @@ use Rattle.model.specs.Ticket.{Loop}
 use Rattle.model.specs.Points.{points, partialPoints, iterations}
 use Rattle.model.specs.Bounds.{survey}
 use Rattle.space.specs.declared.Tally.{Tally}
-use Rattle.bounds.specs.Flat.{NestOk, loopsFrom}
+use Rattle.sheet.specs.Flat.{NestOk, loopsFrom}
 use Rattle.space.specs.Tallies.{capped, seen, TallyIn, Tallied}
 use Rattle.space.specs.declared.Verdict.{Verdict}
 use Rattle.space.specs.declared.Verdict.the-variants.{Admitted, FarIndex, Crowded}

@@ -10,3 +10,4 @@ pub mod DepthLaws
 pub mod CollectLaws
 pub mod StoreLaws
 pub mod ListLaws
+pub mod NestLaws

@@ -18,7 +18,7 @@ use Rattle.model.specs.Ticket.{Loop}
 use Rattle.model.specs.Points.{indices, points, partialPoints, iterations}
 use Rattle.model.specs.Bounds.{survey, space}
 use Rattle.model.specs.Grammar.{mostPoints}
-use Rattle.bounds.specs.Flat.{loopsFrom}
+use Rattle.sheet.specs.Flat.{loopsFrom}
 use Rattle.space.specs.Tallies.{through, Near}
 use Rattle.space.specs.Stored.{joined, CollectIn, Collected, PointsIn, Listed}
 use Rattle.space.proofs.ThroughLaws.{through-none, loops-length}

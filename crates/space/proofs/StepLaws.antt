@@ -16,7 +16,7 @@ use Rattle.integers.specs.Affine.{Within}
 use Rattle.integers.proofs.RangeLaws.{back, from-nat, size-add, size-fits}
 use Rattle.model.specs.Ticket.{Loop}
 use Rattle.model.specs.Points.{span}
-use Rattle.bounds.specs.Flat.{loopAt, loopsFrom}
+use Rattle.sheet.specs.Flat.{loopAt, loopsFrom}
 use Rattle.bounds.specs.Ranges.{Narrow, Ranged}
 use Rattle.space.specs.Tallies.{Near}
 use Rattle.bounds.proofs.LimitLaws.{copied}

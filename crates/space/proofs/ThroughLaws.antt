@@ -11,7 +11,7 @@ use Rattle.lists.proofs.MembershipLaws.{map-same}
 use Rattle.lists.proofs.FlatMapLaws.{flatMap-snoc, flatMap-same, flatMap-single, map-flatMap}
 use Rattle.model.specs.Ticket.{Loop}
 use Rattle.model.specs.Points.{span, ints, indices, points, partialPoints}
-use Rattle.bounds.specs.Flat.{loopAt, loopsFrom}
+use Rattle.sheet.specs.Flat.{loopAt, loopsFrom}
 use Rattle.bounds.specs.Ranges.{Ranged}
 use Rattle.space.specs.Tallies.{through}
 

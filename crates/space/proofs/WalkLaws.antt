@@ -10,7 +10,7 @@ use Rattle.integers.specs.Difference.{size}
 use Rattle.model.specs.Ticket.{Loop}
 use Rattle.model.specs.Points.{span, ints}
 use Rattle.space.specs.declared.Tally.{Tally}
-use Rattle.bounds.specs.Flat.{NestOk, loopAt, loopsFrom}
+use Rattle.sheet.specs.Flat.{NestOk, loopAt, loopsFrom}
 use Rattle.bounds.specs.Ranges.{RangeIn, Ranged}
 use Rattle.space.specs.Tallies.{through, seen, Near, IncludeIn, TallyIn, Tallied}
 use Rattle.bounds.proofs.RangeLaws.{range-in}

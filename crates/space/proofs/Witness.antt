@@ -14,7 +14,7 @@ use Rattle.model.specs.Answer.{require, _>>_, _>>=_}
 use Rattle.model.specs.Points.{largest, smallest, value, firstIndex, lastIndex, span, ints, indices, points, partialPoints}
 use Rattle.model.specs.Bounds.{lastOf, beyond, survey, space}
 use Rattle.model.specs.Grammar.{nestLimits, nestRoom, mostSides, mostPoints}
-use Rattle.bounds.specs.Flat.{limitAt, limitsAt, loopAt, loopsFrom, Positive, NestOk}
+use Rattle.sheet.specs.Flat.{limitAt, limitsAt, loopAt, loopsFrom, Positive, NestOk}
 use Rattle.space.specs.Surveys.{SurveyIn}
 use Rattle.space.specs.Stored.{PointsIn}
 use Rattle.space.proofs.DepthLaws.{nest-part}

@@ -2,3 +2,4 @@
 pub mod Tallies
 pub mod Surveys
 pub mod Stored
+pub mod Nests

@@ -4,11 +4,12 @@ use mathlib.Core.List.{List, [], flatMap}
 use Prim.Native.Nat.{ℕ, _+_, _*_, _≤_}
 use lib.IntN.{ℤ}
 use lib.ListN.{length}
+use Rattle.lists.specs.Membership.{All}
 use Rattle.lists.specs.Parts.{rows, put}
 use Rattle.integers.specs.Affine.{Within}
 use Rattle.model.specs.Points.{iterations}
-use Rattle.model.specs.Grammar.{mostPoints}
-use Rattle.bounds.specs.Flat.{NestOk, loopsFrom}
+use Rattle.model.specs.Grammar.{mostLoops, mostPoints}
+use Rattle.sheet.specs.Flat.{NestOk, loopsFrom}
 use Rattle.space.specs.Tallies.{through, Near}
 
 -- the indices of all points, one point after the other
@@ -42,3 +43,10 @@ pub record Listed (s : List ℤ) (c : List ℕ) (depth : ℕ) (o e : List ℤ) (
   pub points : rows depth r e ≡ iterations (loopsFrom s c 0 depth)
   -- what stands after the points stays
   pub wrote : e ≡ put o 0 (joined (iterations (loopsFrom s c 0 depth)))
+
+-- points that stand in a slice row by row, within ±100,000
+pub record RowsIn (points : List ℤ) (depth count : ℕ) : Type 0 where
+  pub few : depth ≤ mostLoops
+  pub bound : count ≤ mostPoints
+  pub room : count * depth ≤ length points
+  pub near : All (Within 100000) (rows depth count points)

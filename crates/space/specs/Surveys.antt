@@ -8,7 +8,7 @@ use Rattle.model.specs.Answer.{Answer, accepted, refused}
 use Rattle.model.specs.Points.{iterations}
 use Rattle.model.specs.Bounds.{survey}
 use Rattle.space.specs.declared.Verdict.{Verdict}
-use Rattle.bounds.specs.Flat.{NestOk, loopsFrom}
+use Rattle.sheet.specs.Flat.{NestOk, loopsFrom}
 use Rattle.space.specs.Tallies.{Bounded}
 use Rattle.space.specs.declared.Verdict.the-variants as verdict
 

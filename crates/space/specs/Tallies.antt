@@ -15,7 +15,7 @@ use Rattle.model.specs.Ticket.{Loop}
 use Rattle.model.specs.Points.{indices, points}
 use Rattle.model.specs.Bounds.{lastOf, beyond}
 use Rattle.space.specs.declared.Tally.{Tally}
-use Rattle.bounds.specs.Flat.{NestOk, loopsFrom}
+use Rattle.sheet.specs.Flat.{NestOk, loopsFrom}
 use Rattle.bounds.specs.Ranges.{RangeIn}
 
 -- the points of the loops N that go on from the indices outside, whole

@@ -1,4 +1,4 @@
-// The iteration points of a loop nest: how many there are, whether one is far, and all of them in order. A nest is lent as flat slices (crate bounds),
+// The iteration points of a loop nest: how many there are, whether one is far, and all of them in order. A nest is lent as flat slices (crate sheet),
 // the indices outside a loop as a slice.
 ghost use mathlib.Core.Path.{_≡_};
 ghost use mathlib.Core.List.{[], _∷_, _++_};
@@ -6,12 +6,15 @@ ghost use Prim.Native.Nat.{suc, _+_, _≤_, _<_};
 ghost use lib.IntN.{pos, _+ℤ_};
 ghost use lib.ListN.{length, take};
 ghost use Rattle.lists.specs.Parts.{put};
-ghost use Rattle.bounds.specs.Flat.{loopAt};
+ghost use Rattle.sheet.specs.Flat.{loopAt};
+ghost use Rattle.sheet.specs.Sheets.{sheetOf, SheetIn};
 ghost use Rattle.bounds.specs.Ranges.{Narrow};
-ghost use Rattle.space.specs.Tallies.{through, capped, outside, seen, IncludeIn, TallyIn, Tallied};
+ghost use Rattle.space.specs.Tallies.{through, capped, outside, seen, Bounded, IncludeIn, TallyIn, Tallied};
 ghost use Rattle.space.specs.Surveys.{SurveyIn, Surveyed};
 ghost use Rattle.space.specs.Stored.{CollectIn, Collected, PointsIn, Listed};
+ghost use Rattle.space.specs.Nests.{NestSurveyed, ListIn, PointsAre};
 use bounds::Ends;
+use sheet::Outline;
 
 // What a survey of one depth has seen: a far index, and how many points, or one more than are allowed.
 pub struct Tally {
@@ -102,7 +105,7 @@ pub enum Verdict {
 }
 
 // Depth by depth: a partial point whose last index is beyond ±bound, then more than `most` of them.
-pub fn survey(nest: &[i16], counts: &[usize], depth: usize, bound: usize, most: usize) -> Verdict
+fn survey_levels(nest: &[i16], counts: &[usize], depth: usize, bound: usize, most: usize) -> Verdict
     requires { ⌜ SurveyIn (now nest) (now counts) depth bound most ⌝ }
     ensures { λ r. ⌜ Surveyed (now (nest .entry)) (now (counts .entry)) depth bound most r ⌝ }
 {
@@ -198,11 +201,31 @@ fn collect(
 }
 
 // All points of a nest that keeps its bounds, row by row in order; returns how many.
-pub fn list_points(nest: &[i16], counts: &[usize], depth: usize, out: &mut [i64]) -> usize
+fn store_points(nest: &[i16], counts: &[usize], depth: usize, out: &mut [i64]) -> usize
     requires { ⌜ PointsIn (now nest) (now counts) depth (length (now out)) ⌝ }
     ensures { λ r. ⌜ Listed (now (nest .entry)) (now (counts .entry)) depth (now (out .entry)) (now (out .exit)) r ⌝ }
 {
     let mut point = [0; 6];
     let end = collect(nest, counts, 0, depth, &mut point, out, 0);
     end / depth
+}
+
+// Depth by depth, a partial point whose last index is beyond ±bound, then more than `most` of them.
+pub fn survey(outline: Outline, limits: &[i16], words: &[i16], bound: usize, most: usize) -> Verdict
+    requires { ⌜ SheetIn (sheetOf outline (now limits) (now words)) × Bounded bound most ⌝ }
+    ensures { λ r. ⌜ NestSurveyed (sheetOf outline (now (limits .entry)) (now (words .entry))) bound most r ⌝ }
+{
+    let counts = outline.counts;
+    let depth = outline.depth;
+    survey_levels(limits, &counts, depth, bound, most)
+}
+
+// All points, row by row in order; returns how many.
+pub fn list_points(outline: Outline, limits: &[i16], words: &[i16], points: &mut [i64]) -> usize
+    requires { ⌜ ListIn (sheetOf outline (now limits) (now words)) (length (now points)) ⌝ }
+    ensures { λ r. ⌜ PointsAre (sheetOf outline (now (limits .entry)) (now (words .entry))) (now (points .exit)) r × (length (now (points .exit)) ≡ length (now (points .entry))) ⌝ }
+{
+    let counts = outline.counts;
+    let depth = outline.depth;
+    store_points(limits, &counts, depth, points)
 }

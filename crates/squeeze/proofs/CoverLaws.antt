@@ -31,7 +31,7 @@ use Rattle.model.proofs.Quick.QuickRangeLaws.{InRanges, in-ranges}
 use Rattle.model.proofs.Listing.LineLaws.{Fitting, sourceAccesses, sinkAccesses}
 use Rattle.model.proofs.Listing.ListingLaws.{Dependence, linesOf-exact}
 use Rattle.model.proofs.Verdict.VerdictLaws.{admitted-accepted}
-use Rattle.elements.specs.Layout.{formsFrom, accessAt}
+use Rattle.sheet.specs.Layout.{formsFrom, accessAt}
 use Rattle.extremes.specs.declared.Range as Code
 use Rattle.extremes.specs.Ranges.{rangesOf}
 use Rattle.vectors.specs.Numbers.{number, kindNumber, placeOf, place}
@@ -39,8 +39,7 @@ use Rattle.dependence.specs.Flat.{kindOf, Use, uses, noUse, useAt}
 use Rattle.dependence.proofs.UseLaws.{side, of-uses}
 use Rattle.dependence.proofs.KindLaws.{sourceWrites, sinkWrites, kind-is, kind-small, source-side, sink-side}
 use Rattle.listing_text.specs.Text.{marked}
-use Rattle.sheet.specs.Sheets.{Sheet, extentsIn, ownersIn, wordsIn, nestOf, SheetIn}
-use Rattle.sheet.specs.Stages.{accessOf}
+use Rattle.sheet.specs.Sheets.{Sheet, extentsIn, ownersIn, wordsIn, nestOf, SheetIn, accessOf}
 use Rattle.sheet.proofs.SheetLaws.{access-is, owners-count}
 use Rattle.lines.proofs.MarkLaws.{statement-count, use-access, use-count}
 use Rattle.squeeze.specs.Covered.{kindAt}

@@ -16,7 +16,7 @@ use Rattle.extremes.specs.declared.Range.{Range}
 use Rattle.dependence.specs.Flat.{Use, uses, noUse}
 use Rattle.dependence.proofs.UseLaws.{uses-of}
 use Rattle.sheet.specs.Sheets.{Sheet, extentsIn, ownersIn, wordsIn, nestOf}
-use Rattle.sheet.specs.Stages.{ListIn, PointsAre}
+use Rattle.space.specs.Nests.{ListIn, PointsAre}
 use Rattle.sheet.proofs.SheetLaws.{owners-count}
 use Rattle.admission.specs.Admission.{answerOf, Counts, EnumerateIn}
 use Rattle.admission.proofs.AdmissionLaws.{list-in}

@@ -23,12 +23,12 @@ use Rattle.model.proofs.Points.ArrayLaws.{off-outside, arrays-inside, accepted-
 use Rattle.model.proofs.Points.PointLaws.{iterations-inside}
 use Rattle.model.proofs.Listing.LineLaws.{Fitting, sourceAccesses, sinkAccesses}
 use Rattle.model.proofs.Listing.ListingLaws.{Dependence, linesOf-exact}
-use Rattle.bounds.specs.Flat.{limitAt, limitsAt, loopAt, loopsFrom, NestOk}
-use Rattle.elements.specs.Layout.{accessAt, accessesFrom}
-use Rattle.bounds.proofs.FlatLaws.{limits-all, nest-runs}
+use Rattle.sheet.specs.Flat.{limitAt, limitsAt, loopAt, loopsFrom, NestOk}
+use Rattle.sheet.specs.Layout.{accessAt, accessesFrom}
+use Rattle.sheet.proofs.FlatLaws.{limits-all, nest-runs}
 use Rattle.corner.specs.Corners.{Narrower}
 use Rattle.sheet.specs.Sheets.{Sheet, extentsIn, sizesIn, ownersIn, wordsIn, statementsFrom, nestOf, SheetIn}
-use Rattle.sheet.proofs.StageLaws.{depth-is}
+use Rattle.space.proofs.NestLaws.{depth-is}
 use Rattle.squeeze.specs.Squeezed.{limited}
 
 -- ---- a nest on flat slices

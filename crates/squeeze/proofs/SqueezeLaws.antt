@@ -18,7 +18,7 @@ use Rattle.model.specs.Machine.{accesses}
 use Rattle.model.specs.Shape.{WellFormed}
 use Rattle.model.specs.Directions.{Line, occurs, allLines, lines}
 use Rattle.model.specs.Listing.{linesOf}
-use Rattle.bounds.specs.Flat.{NestOk}
+use Rattle.sheet.specs.Flat.{NestOk}
 use Rattle.extremes.specs.declared.Range.{Range}
 use Rattle.extremes.specs.Ranges.{RangesIn}
 use Rattle.extremes.specs.Values.{RangesAre}
@@ -26,7 +26,7 @@ use Rattle.listing_text.specs.Text.{marked, shown}
 use Rattle.corner.specs.Corners.{Narrower}
 use Rattle.sheet.specs.declared.Outline.{Outline}
 use Rattle.sheet.specs.Sheets.{Sheet, sheetOf, nestOf, SheetIn}
-use Rattle.sheet.proofs.StageLaws.{depth-is}
+use Rattle.space.proofs.NestLaws.{depth-is}
 use Rattle.lines.specs.Lines.{Markable, LinesAre}
 use Rattle.lines.proofs.MarkLaws.{select-same, statement-count}
 use Rattle.squeeze.specs.Squeezed.{limited, Recounted, SheetCovered, RangesOn, CoverIn, SqueezeIn}

@@ -8,7 +8,7 @@ use lib.IntN.{ℤ}
 use lib.ListN.{length, getD}
 use Rattle.model.specs.Grammar.{mostStatements, arrayRoom}
 use Rattle.model.specs.Directions.{kindCount}
-use Rattle.elements.specs.Layout.{AccessesOk}
+use Rattle.sheet.specs.Layout.{AccessesOk}
 use Rattle.extremes.specs.declared.Range.{Range}
 use Rattle.extremes.specs.Ranges.{RangesIn}
 use Rattle.banerjee.specs.Covers.{Covers}

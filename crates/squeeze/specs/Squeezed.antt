@@ -13,27 +13,14 @@ use Rattle.extremes.specs.declared.Range.{Range}
 use Rattle.extremes.specs.Ranges.{rangesOf, RangesIn}
 use Rattle.dependence.specs.Flat.{Use, uses}
 use Rattle.sheet.specs.declared.Outline.{Outline}
-use Rattle.sheet.specs.Sheets.{Sheet, sheetOf, extentsIn, ownersIn, wordsIn, nestOf, SheetIn}
+use Rattle.sheet.specs.Sheets.{Sheet, sheetOf, moved, extentsIn, ownersIn, wordsIn, nestOf, SheetIn}
 use Rattle.lines.specs.Lines.{Markable, LinesAre}
 use Rattle.admission.specs.Admission.{Spacious}
 use Rattle.squeeze.specs.Covered.{Pairs, pairs, CoveredTo}
 
 -- the sheet with other limits
 abbrev pub limited : Sheet → List ℤ → List ℕ → Sheet
-limited P s c = record {
-  depth = P .depth;
-  limits = s;
-  counts = c;
-  arrays = P .arrays;
-  extents = P .extents;
-  statements = P .statements;
-  sizes = P .sizes;
-  rules = P .rules;
-  constants = P .constants;
-  accesses = P .accesses;
-  owners = P .owners;
-  words = P .words;
-}
+limited P s c = moved P (P .depth) s c (P .words)
 
 -- the outline with other counts
 abbrev pub Recounted : Outline → List ℕ → Outline → Type 0

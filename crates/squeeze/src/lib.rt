@@ -181,7 +181,7 @@ fn mark_few(outline: Outline, limits: &[i16], words: &[i16], marks: &mut [bool])
         return false;
     }
     let mut points = [0i64; 768];
-    let listed = sheet::list_points(outline, limits, words, &mut points);
+    let listed = space::list_points(outline, limits, words, &mut points);
     lines::mark_few(outline, limits, words, &points, listed, marks);
     true
 }

@@ -9,7 +9,7 @@ use Rattle.lists.specs.Tests.{all}
 use Rattle.model.specs.Ranges.{StepThere}
 use Rattle.model.specs.Limits.{loopsAfter}
 use Rattle.model.specs.Judge.{smallLoop, smallAccess}
-use Rattle.bounds.specs.Flat.{loopsFrom}
+use Rattle.sheet.specs.Flat.{loopsFrom}
 use Rattle.steps.specs.Steps.{stepOf}
 use Rattle.steps.specs.declared.Step.{Step}
 use Rattle.restructure.specs.After.{After}

@@ -11,8 +11,8 @@ use Rattle.model.specs.Grammar.{depthAfter, mostSides, nestRoom}
 use Rattle.model.specs.Ranges.{StepThere}
 use Rattle.model.specs.Limits.{loopsAfter}
 use Rattle.model.specs.Judge.{fewLimits, smallLoop, smallAccess}
-use Rattle.bounds.specs.Flat.{loopsFrom, NestOk}
-use Rattle.elements.specs.Layout.{AccessesOk}
+use Rattle.sheet.specs.Flat.{loopsFrom, NestOk}
+use Rattle.sheet.specs.Layout.{AccessesOk}
 use Rattle.steps.specs.Steps.{stepOf}
 use Rattle.steps.specs.declared.Step.{Step}
 use Rattle.restructure.specs.declared.Stepped.{Stepped}

@@ -12,7 +12,8 @@ use Rattle.model.specs.Ticket as Model
 use Rattle.model.specs.Grammar as Grammar
 use Rattle.model.specs.Grammar.{Read, Reader, _>>=_, _>>_, mostLoops}
 use Rattle.model.specs.Ranges.{InRange}
-use Rattle.reading.specs.Refusals.{refusal, Reached, Reads}
+use Rattle.ticket_refusals.specs.Refusals.{refusal}
+use Rattle.reading.specs.Reads.{Reached, Reads}
 use Rattle.reading.specs.Words.{numberAnswer}
 use Rattle.reading.specs.declared.Number.{Number}
 use Rattle.reading.specs.declared.Number.the-variants as Number

@@ -4,16 +4,16 @@ ghost use Prim.Native.Nat.{_+_, _≤_};
 ghost use Rattle.model.specs.Words.{signed};
 ghost use Rattle.model.specs.Grammar as Grammar;
 ghost use Rattle.model.specs.Grammar.{mostLoops};
-ghost use Rattle.reading.specs.Refusals.{Reached};
+ghost use Rattle.reading.specs.Reads.{Reached};
 ghost use Rattle.steps.specs.Steps.{ReadsStep, isFactor, ReadsFactor, ReadsSteps, StepsIn, nextLoop, sectionable, oneStep, stepOf};
-ghost use Rattle.reading.specs.declared.Status.the-variants.{Refused};
+ghost use Rattle.ticket_refusals.specs.declared.Status.the-variants.{Refused};
 ghost use lib.ListN.{length};
 use model::LOOPS;
 use reading::Bits;
 use reading::Natural;
 use reading::Number;
-use reading::Refusal;
-use reading::Status;
+use ticket_refusals::Refusal;
+use ticket_refusals::Status;
 
 // Loops are counted from 0.
 pub struct Exchange {

@@ -8,7 +8,7 @@ use native.Mathlib.Nat.{eq-or-lt-of-le}
 use lib.ListN.{length, getD, set}
 use lib.Seq.{getD-set-same, getD-set-other}
 use Rattle.model.specs.Store.{base}
-use Rattle.elements.specs.Layout.{arraysOf}
+use Rattle.sheet.specs.Layout.{arraysOf}
 use Rattle.elements.specs.Places.{BaseIn, TotalIn}
 use Rattle.store.specs.Flat.{BasesAre}
 

@@ -16,11 +16,11 @@ use Rattle.model.specs.Machine.{element, bodyAt, accesses, body, instances, run
 use Rattle.model.specs.Store.{placeOf, sum, make, storeWords, performOn}
 use Rattle.model.proofs.Machine.ReorderLaws.{run-append}
 use Rattle.model.specs.Grammar.{mostArrays}
-use Rattle.elements.specs.Layout.{arraysOf, accessAt, accessesFrom}
+use Rattle.sheet.specs.Layout.{arraysOf, accessAt, accessesFrom}
 use Rattle.elements.specs.Places.{TotalIn}
 use Rattle.sheet.specs.Sheets.{Sheet, nestOf, statementsFrom, extentsIn, sizesIn, ownersIn, wordsIn, SheetIn}
 use Rattle.sheet.proofs.SheetLaws.{access-is}
-use Rattle.sheet.proofs.ArrayLaws.{arrays-in}
+use Rattle.elements.proofs.NestArrayLaws.{arrays-in}
 use Rattle.store.specs.Flat.{numberAt, fetched, performed, bodyFrom, pointsFrom, BasesAre, PointIn, BodyIn}
 use Rattle.store.specs.Runs.{runAt, RunIn}
 

@@ -9,32 +9,20 @@ use Rattle.lists.specs.Parts.{rows}
 use Rattle.lists.proofs.MembershipLaws.{all-nil, all-cons}
 use Rattle.integers.specs.Affine.{Within, affine, dot}
 use Rattle.model.specs.Ticket.{Access}
-use Rattle.model.specs.Grammar.{elements, total, extents, mostStatements, mostAccesses, mostSides, nestRoom, mostExtents, mostWords, arrayRoom}
+use Rattle.model.specs.Grammar.{elements, total, extents, mostStatements, mostSides, nestRoom, arrayRoom}
 use Rattle.model.specs.Bounds.{subscriptAt}
 use Rattle.model.specs.Machine.{element}
 use Rattle.model.specs.Store.{base, placeFrom, placeOf, sum}
 use Rattle.space.proofs.DepthLaws.{nest-part}
 use Rattle.space.proofs.Witness.{ones-ok}
-use Rattle.elements.specs.Layout.{extentsAt, arraysFrom, arraysOf, formAt, formsFrom, accessAt, AccessesOk}
+use Rattle.sheet.specs.Layout.{extentsAt, arraysFrom, arraysOf, formAt, formsFrom, accessAt, AccessesOk}
+use Rattle.sheet.proofs.Plain.{plain}
 use Rattle.sheet.specs.Sheets.{Sheet, nestOf, extentsIn, ownersIn, wordsIn, SheetIn}
 use Rattle.sheet.proofs.SheetLaws.{access-is}
 use Rattle.store.specs.Runs.{RunIn}
 
 abbrev pub counter : Sheet
-counter = record {
-  depth = 1;
-  limits = replicate nestRoom (pos 1);
-  counts = replicate mostSides 1;
-  arrays = 1;
-  extents = replicate mostExtents 1;
-  statements = 1;
-  sizes = replicate mostStatements 2;
-  rules = replicate mostStatements 1;
-  constants = replicate mostStatements 1;
-  accesses = 2;
-  owners = replicate mostAccesses 0;
-  words = replicate mostWords (pos 0);
-}
+counter = plain 2 1
 
 within : (n : ℕ) → Within 32767 (replicate n (pos 0))
 within zero = tt

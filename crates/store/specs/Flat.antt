@@ -6,7 +6,7 @@ use Prim.Native.Nat.{ℕ, zero, suc, _+_, _*_, _-_, _^_, _≤_, _<_}
 use lib.ListN.{length, getD, set}
 use Rattle.model.specs.Store.{base, sum, make}
 use Rattle.model.specs.Grammar.{mostStatements, mostAccesses}
-use Rattle.elements.specs.Layout.{arraysOf}
+use Rattle.sheet.specs.Layout.{arraysOf}
 
 -- ---- the run
 

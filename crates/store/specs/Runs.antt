@@ -9,7 +9,7 @@ use Rattle.model.specs.Grammar.{total, mostPoints}
 use Rattle.model.specs.Machine.{instances, run}
 use Rattle.model.specs.Store.{performOn}
 use Rattle.sheet.specs.Sheets.{Sheet, nestOf, SheetIn}
-use Rattle.sheet.specs.Stages.{NumbersAre}
+use Rattle.elements.specs.Nests.{NumbersAre}
 
 -- a nest at these points, one after the other; at its iterations it is `runNest`
 unfoldable pub runAt : Nest → List (List ℤ) → List ℕ → List ℕ

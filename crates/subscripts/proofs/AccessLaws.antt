@@ -14,7 +14,7 @@ use Rattle.model.specs.Ticket as Model
 use Rattle.model.specs.Grammar.{depthAfter, accessRoom}
 use Rattle.model.specs.Limits.{subscriptAfter, accessAfter}
 use Rattle.model.specs.Judge.{smallAccess}
-use Rattle.elements.specs.Layout.{formsFrom, accessAt, accessesFrom, AccessesOk}
+use Rattle.sheet.specs.Layout.{formsFrom, accessAt, accessesFrom, AccessesOk}
 use Rattle.elements.proofs.LayoutLaws.{array-in, array-ends}
 use Rattle.sheet.proofs.SheetLaws.{accesses-append}
 use Rattle.steps.specs.Steps.{stepOf}

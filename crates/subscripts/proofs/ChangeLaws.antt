@@ -21,7 +21,7 @@ use Rattle.model.specs.Ticket as Model
 use Rattle.model.specs.Grammar.{depthAfter}
 use Rattle.model.specs.Limits.{coefficientsAfter, subscriptAfter}
 use Rattle.model.specs.Judge.{small}
-use Rattle.elements.specs.Layout.{formAt, formsFrom}
+use Rattle.sheet.specs.Layout.{formAt, formsFrom}
 use Rattle.steps.specs.Steps.{stepOf}
 use Rattle.steps.specs.declared.Step.{Step}
 use Rattle.steps.specs.declared.Step.the-variants.{Swap, Reverse, Lean, Strip}

@@ -11,7 +11,7 @@ use lib.Seq.{take-take, getD-take, getD-drop, drop-drop}
 use Rattle.lists.specs.Parts.{put}
 use Rattle.lists.proofs.PartLaws.{drop-take, put-written, getD-put-before}
 use Rattle.model.specs.Ticket.{Subscript}
-use Rattle.elements.specs.Layout.{formAt, formsFrom}
+use Rattle.sheet.specs.Layout.{formAt, formsFrom}
 
 -- ---- lists that agree
 

@@ -20,10 +20,9 @@ use Rattle.model.specs.Grammar.{total, depthAfter, mostWords}
 use Rattle.model.specs.Ranges.{StepThere}
 use Rattle.model.specs.Limits.{loopsAfter, accessAfter, statementAfter, nestAfter}
 use Rattle.model.specs.Judge.{smallLoop, smallAccess, smallNumbers}
-use Rattle.bounds.specs.Flat.{loopsFrom, NestOk}
-use Rattle.elements.specs.Layout.{arraysOf, accessAt, accessesFrom, AccessesOk}
-use Rattle.sheet.specs.Sheets.{Sheet, extentsIn, sizesIn, ownersIn, wordsIn, statementsFrom, nestOf, SheetIn}
-use Rattle.sheet.specs.Stages.{noAccess}
+use Rattle.sheet.specs.Flat.{loopsFrom, NestOk}
+use Rattle.sheet.specs.Layout.{arraysOf, accessAt, accessesFrom, AccessesOk}
+use Rattle.sheet.specs.Sheets.{Sheet, extentsIn, sizesIn, ownersIn, wordsIn, statementsFrom, nestOf, SheetIn, noAccess}
 use Rattle.sheet.proofs.SheetLaws.{access-at, all-accesses, owners-count}
 use Rattle.steps.specs.Steps.{stepOf}
 use Rattle.steps.specs.declared.Step.{Step}

@@ -13,7 +13,7 @@ use Rattle.model.specs.Grammar.{depthAfter, mostLoops}
 use Rattle.model.specs.Ranges.{StepThere}
 use Rattle.model.specs.Limits.{subscriptAfter, accessAfter}
 use Rattle.model.specs.Judge.{small, smallAccess}
-use Rattle.elements.specs.Layout.{formsFrom, accessesFrom, AccessesOk}
+use Rattle.sheet.specs.Layout.{formsFrom, accessesFrom, AccessesOk}
 use Rattle.steps.specs.Steps.{stepOf}
 use Rattle.steps.specs.declared.Step.{Step}
 

@@ -3,7 +3,7 @@ use mathlib.Core.Path.{_≡_}
 use mathlib.Core.List.{map}
 use Rattle.model.specs.Ticket as Model
 use Rattle.model.specs.Limits.{accessAfter}
-use Rattle.elements.specs.Layout.{accessesFrom}
+use Rattle.sheet.specs.Layout.{accessesFrom}
 use Rattle.sheet.specs.Sheets.{Sheet, extentsIn, ownersIn, wordsIn}
 
 -- Q has the arrays and statements of P, and names the same arrays

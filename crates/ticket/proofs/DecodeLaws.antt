@@ -12,12 +12,13 @@ use Rattle.model.specs.Grammar as Grammar
 use Rattle.model.specs.Ranges.{Small}
 use Rattle.model.proofs.Grammar.GrammarLaws.{decode-ranges, decode-formed}
 use Rattle.model.specs.Grammar.{mostWords, nestRoom, mostAccesses, mostStatements}
-use Rattle.bounds.specs.Flat.{loopsFrom, NestOk}
-use Rattle.reading.specs.Refusals.{answer, firstOf}
-use Rattle.reading.specs.declared.Refusal.{Refusal}
-use Rattle.reading.specs.declared.Refusal.the-variants.{TrailingBytes}
-use Rattle.reading.specs.declared.Status.{Status}
-use Rattle.reading.specs.declared.Status.the-variants as Status
+use Rattle.sheet.specs.Flat.{loopsFrom, NestOk}
+use Rattle.ticket_refusals.specs.Refusals.{firstOf}
+use Rattle.reading.specs.Reads.{answer}
+use Rattle.ticket_refusals.specs.declared.Refusal.{Refusal}
+use Rattle.ticket_refusals.specs.declared.Refusal.the-variants.{TrailingBytes}
+use Rattle.ticket_refusals.specs.declared.Status.{Status}
+use Rattle.ticket_refusals.specs.declared.Status.the-variants as Status
 use Rattle.nest.specs.Nested as Nest
 use Rattle.nest.specs.Nested.{ReadsNest}
 use Rattle.nest.specs.declared.NestRead.{NestRead}
@@ -28,7 +29,7 @@ use Rattle.arrays.proofs.RowLaws.{all-replicate}
 use Rattle.arrays.proofs.ArrayBack.{used-length, few-dimensions, used-arrays, small-extents}
 use Rattle.body.specs.Statements.{ArraysIn, ReadsBody}
 use Rattle.body.specs.declared.BodyRead.{BodyRead}
-use Rattle.reading.proofs.ReaderLaws.{first-fine}
+use Rattle.ticket_refusals.proofs.StatusLaws.{first-fine}
 use Rattle.steps.specs.Steps.{stepsOf, ReadsSteps}
 use Rattle.steps.specs.declared.StepsRead.{StepsRead}
 use Rattle.sheet.specs.Sheets.{Sheet, sheetOf, nestOf, SheetIn}

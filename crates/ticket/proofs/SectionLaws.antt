@@ -10,9 +10,10 @@ use Rattle.model.specs.Answer as Answer
 use Rattle.model.specs.Answer.{Answer, accepted, refused, require}
 use Rattle.model.specs.Ticket as Model
 use Rattle.model.specs.Grammar.{Read, _>>=_, _>>_, done, mustAt, loops, arrays, statements, steps, nest, end, ticket, decode}
-use Rattle.reading.specs.Refusals.{answer, firstOf}
-use Rattle.reading.specs.declared.Status.{Status}
-use Rattle.reading.specs.declared.Status.the-variants as Status
+use Rattle.ticket_refusals.specs.Refusals.{firstOf}
+use Rattle.reading.specs.Reads.{answer}
+use Rattle.ticket_refusals.specs.declared.Status.{Status}
+use Rattle.ticket_refusals.specs.declared.Status.the-variants as Status
 use Rattle.reading.proofs.ReaderLaws.{after-value, after-refusal}
 use Rattle.ticket.specs.Ticket.{sections, endOf, decoded}
 

@@ -18,8 +18,8 @@ use Rattle.model.specs.Bounds.{accessesOf}
 use Rattle.model.specs.Ranges.{Small, ArrayRanges, AccessRanges, StatementRanges, NestRanges}
 use Rattle.model.specs.Shape.{Fits, WellFormed}
 use Rattle.model.specs.Store.{sum}
-use Rattle.bounds.specs.Flat.{loopsFrom, NestOk}
-use Rattle.elements.specs.Layout.{arraysOf, accessAt, AccessesOk}
+use Rattle.sheet.specs.Flat.{loopsFrom, NestOk}
+use Rattle.sheet.specs.Layout.{arraysOf, accessAt, AccessesOk}
 use Rattle.sheet.specs.Sheets.{Sheet, extentsIn, ownersIn, wordsIn, sizesIn, nestOf, statementsFrom, SheetIn}
 use Rattle.nest.proofs.LimitLaws.{small-within}
 use Rattle.arrays.specs.Laid.{layRows, shapeWords}

@@ -11,7 +11,7 @@ use Rattle.lists.proofs.MembershipLaws.{length-one}
 use Rattle.model.specs.Ticket.{Access, Statement}
 use Rattle.model.specs.Bounds.{accessesOf}
 use Rattle.model.specs.Store.{sum}
-use Rattle.elements.specs.Layout.{accessAt, accessesFrom}
+use Rattle.sheet.specs.Layout.{accessAt, accessesFrom}
 use Rattle.sheet.specs.Sheets.{Sheet, extentsIn, ownersIn, wordsIn, statementsFrom}
 use Rattle.body.specs.Laid.{accessesIn}
 use Rattle.arrays.proofs.RowLaws.{part-head, part-tail}

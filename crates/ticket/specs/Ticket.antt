@@ -14,10 +14,10 @@ use Rattle.model.specs.Grammar as Grammar
 use Rattle.model.specs.Ranges.{Small, TicketRanges}
 use Rattle.model.specs.Shape.{WellFormed}
 use Rattle.model.specs.Grammar.{Reader, _>>=_, ticketLoops, ticketLimits, nestRoom, mostWords}
-use Rattle.reading.specs.Refusals.{refusal}
-use Rattle.reading.specs.declared.Refusal.the-variants.{TrailingBytes}
-use Rattle.reading.specs.declared.Status.{Status}
-use Rattle.reading.specs.declared.Status.the-variants as Status
+use Rattle.ticket_refusals.specs.Refusals.{refusal}
+use Rattle.ticket_refusals.specs.declared.Refusal.the-variants.{TrailingBytes}
+use Rattle.ticket_refusals.specs.declared.Status.{Status}
+use Rattle.ticket_refusals.specs.declared.Status.the-variants as Status
 use Rattle.sheet.specs.Sheets.{Sheet, sheetOf, nestOf, SheetIn}
 use Rattle.steps.specs.Steps.{stepsOf, StepsIn}
 use Rattle.steps.specs.declared.Steps.{Steps}

@@ -1,7 +1,7 @@
 // From any byte slice to a ticket on a sheet, or the first refusal.
 ghost use mathlib.Core.Path.{_≡_};
 ghost use lib.ListN.{length};
-ghost use Rattle.reading.specs.Refusals.{Reached};
+ghost use Rattle.reading.specs.Reads.{Reached};
 ghost use Rattle.model.specs.Grammar as Grammar;
 ghost use Rattle.ticket.specs.Ticket.{endOf, Lent, Decodes};
 use model::ACCESSES;
@@ -9,10 +9,10 @@ use model::ARRAY_ROOM;
 use model::EXTENTS;
 use model::SIDES;
 use model::STATEMENTS;
-use reading::Refusal;
-use reading::Status;
 use sheet::Outline;
 use steps::Steps;
+use ticket_refusals::Refusal;
+use ticket_refusals::Status;
 
 // The ticket where the status is Fine; its limits and the words of its accesses stand in the slices that were lent.
 pub struct Decoded {
@@ -70,7 +70,10 @@ pub fn decode(bytes: &[u8], limits: &mut [i16], words: &mut [i16]) -> Decoded
     let b = second.status;
     let c = third.status;
     let d = fourth.status;
-    let sections = reading::first_of(a, reading::first_of(b, reading::first_of(c, d)));
+    let sections = ticket_refusals::first_refusal(
+        a,
+        ticket_refusals::first_refusal(b, ticket_refusals::first_refusal(c, d)),
+    );
     let status = end_of(sections, fourth.next, bytes);
     let steps = fourth.steps;
     let outline = Outline {

@@ -10,16 +10,16 @@ use Rattle.model.specs.Grammar.{total}
 use Rattle.model.specs.Judge.{admitOf, judgeTicket, judgedOf}
 use Rattle.model.specs.Entries.{transparent}
 use Rattle.model.proofs.Verdict.VerdictLaws.{refused-judged}
-use Rattle.reading.proofs.ReaderLaws.{not-fine}
-use Rattle.reading.specs.declared.Refusal.{Refusal}
-use Rattle.reading.specs.declared.Status.{Status}
-use Rattle.reading.specs.declared.Status.the-variants.{Fine, Refused}
-use Rattle.reading.specs.Refusals.{refusal}
+use Rattle.ticket_refusals.proofs.StatusLaws.{not-fine}
+use Rattle.ticket_refusals.specs.declared.Refusal.{Refusal}
+use Rattle.ticket_refusals.specs.declared.Status.{Status}
+use Rattle.ticket_refusals.specs.declared.Status.the-variants.{Fine, Refused}
+use Rattle.ticket_refusals.specs.Refusals.{refusal}
 use Rattle.steps.specs.declared.Steps.{Steps}
 use Rattle.ticket.specs.declared.Decoded.{Decoded}
 use Rattle.ticket.specs.Ticket.{ticketOn, ticketOf, Decodes}
 use Rattle.sheet.specs.Sheets.{Sheet, sheetOf, nestOf}
-use Rattle.sheet.specs.Stages.{opaqueAt}
+use Rattle.elements.specs.Nests.{opaqueAt}
 use Rattle.admission.specs.declared.Counted.{Counted}
 use Rattle.admission.specs.declared.Counted.the-variants.{Points}
 use Rattle.intake.specs.Intake.{Laid, Counts}

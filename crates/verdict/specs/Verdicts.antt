@@ -11,11 +11,11 @@ use Rattle.model.specs.Points.{iterations}
 use Rattle.model.specs.Steps.{vectorsAfterAll}
 use Rattle.model.specs.Judge.{directionsOf, judgedOf}
 use Rattle.model.specs.Entries.{transparent}
-use Rattle.reading.specs.declared.Status.the-variants.{Fine}
+use Rattle.ticket_refusals.specs.declared.Status.the-variants.{Fine}
 use Rattle.steps.specs.declared.Steps.{Steps}
 use Rattle.directions.specs.Sets.{vectorsOf}
 use Rattle.sheet.specs.Sheets.{Sheet, sheetOf, nestOf}
-use Rattle.sheet.specs.Stages.{opaqueAt}
+use Rattle.elements.specs.Nests.{opaqueAt}
 use Rattle.ticket.specs.Ticket.{ticketOn}
 use Rattle.judgement.specs.Judgement.{judgedAs, New}
 use Rattle.verdict.specs.declared.Decided.{Decided}

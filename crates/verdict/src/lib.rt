@@ -1,6 +1,6 @@
 // A decoded ticket judged: refusals 1 to 13, then all that the entries ask of it.
 ghost use mathlib.Core.Path.{_≡_};
-ghost use Rattle.reading.specs.declared.Status.the-variants.{Refused};
+ghost use Rattle.ticket_refusals.specs.declared.Status.the-variants.{Refused};
 ghost use Rattle.ticket.specs.Ticket.{ticketOf, DecodedIn};
 ghost use Rattle.sheet.specs.Sheets.{sheetOf};
 ghost use Rattle.intake.specs.Intake.{Laid};
@@ -8,11 +8,11 @@ ghost use Rattle.verdict.specs.Verdicts.{Decides, DecidesOn};
 use admission::Counted;
 use directions::DirectionSet;
 use model::VECTORS;
-use reading::Refusal;
-use reading::Status;
 use sheet::Outline;
 use steps::Steps;
 use ticket::Decoded;
+use ticket_refusals::Refusal;
+use ticket_refusals::Status;
 
 // Where the status is Fine. Of the ticket's own nest: how many iterations it has, its first opaque statement, from 1, or 0, and how many elements.
 // Of the new nest: its outline and its directions; its limits and the words of its accesses stand in the slices that were lent.
@@ -56,8 +56,8 @@ fn decide_counted(
         Status::Fine => {}
         Status::Refused(r) => return refused(r, outline),
     }
-    let opaque = sheet::first_opaque(outline, limits, words);
-    let elements = sheet::elements_in(outline, limits, words);
+    let opaque = elements::first_opaque(outline, limits, words);
+    let elements = elements::elements_in(outline, limits, words);
     let set = DirectionSet {
         marks: marks,
         depth: outline.depth,

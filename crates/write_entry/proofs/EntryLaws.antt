@@ -10,20 +10,20 @@ use Rattle.model.specs.Judge.{Judged}
 use Rattle.model.specs.Grammar.{decode}
 use Rattle.model.specs.Encode.{encode}
 use Rattle.model.specs.Entries.{Outcome, handOut, write, writeOf}
-use Rattle.reading.specs.declared.Refusal.{Refusal}
-use Rattle.reading.specs.declared.Refusal.the-variants.{BufferTooShort}
-use Rattle.reading.specs.declared.Status.{Status}
-use Rattle.reading.specs.declared.Status.the-variants as Status
-use Rattle.reading.specs.Refusals.{refusal}
+use Rattle.ticket_refusals.specs.declared.Refusal.{Refusal}
+use Rattle.ticket_refusals.specs.declared.Refusal.the-variants.{BufferTooShort}
+use Rattle.ticket_refusals.specs.declared.Status.{Status}
+use Rattle.ticket_refusals.specs.declared.Status.the-variants as Status
+use Rattle.ticket_refusals.specs.Refusals.{refusal}
 use Rattle.sheet.specs.Sheets.{sheetOf, nestOf}
 use Rattle.encoding.specs.Encodable.{SheetEncodable}
 use Rattle.encoding.specs.Encoding.{Encodes}
 use Rattle.encoding.specs.declared.Encoded.{Encoded}
 use Rattle.encoding.specs.declared.Encoded.the-variants.{Complete, TooShort}
 use Rattle.judgement.specs.Judgement.{judgedAs}
-use Rattle.intake.specs.declared.Answer.the-variants.{Accepted, Refused}
-use Rattle.intake.specs.Answers.{Hands}
-use Rattle.intake.proofs.AnswerLaws.{refused-before, too-short, written}
+use Rattle.entry_answers.specs.declared.Answer.the-variants.{Accepted, Refused}
+use Rattle.entry_answers.specs.Answers.{Hands}
+use Rattle.entry_answers.proofs.AnswerLaws.{refused-before, too-short, written}
 use Rattle.verdict.specs.declared.Decided.{Decided}
 use Rattle.verdict.specs.Verdicts.{Decides}
 

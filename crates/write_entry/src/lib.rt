@@ -1,12 +1,12 @@
 // The entry `write`: the new nest of an accepted ticket as bytes.
 ghost use Rattle.model.specs.Entries as Entries;
-ghost use Rattle.intake.specs.Answers.{Hands};
+ghost use Rattle.entry_answers.specs.Answers.{Hands};
 use encoding::Encoded;
-use intake::Answer;
+use entry_answers::Answer;
 use model::NEST_ROOM;
 use model::WORDS;
-use reading::Refusal;
-use reading::Status;
+use ticket_refusals::Refusal;
+use ticket_refusals::Status;
 
 // Judges 1 to 13, then 14. What is written is the new nest of demand 3 (model, Demands: demand-3, written-nest).
 pub fn write(ticket: &[u8], out: &mut [u8]) -> Answer

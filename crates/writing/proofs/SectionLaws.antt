@@ -9,7 +9,7 @@ use lib.ListN.{length, getD, take, drop}
 use lib.Seq.{drop-cons}
 use Rattle.integers.proofs.RingLaws.{zarith}
 use Rattle.model.specs.Encode.{counted, limitWords, loopWords}
-use Rattle.bounds.specs.Flat.{limitAt, limitsAt, loopAt, loopsFrom}
+use Rattle.sheet.specs.Flat.{limitAt, limitsAt, loopAt, loopsFrom}
 use Rattle.writing.specs.Writing.{Writable, Written}
 use Rattle.writing.specs.Loops.{LimitsIn, LoopIn}
 use Rattle.writing.proofs.WritingLaws.{spans, writable-left, writable-right, written-both}

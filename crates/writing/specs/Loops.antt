@@ -5,7 +5,7 @@ use Prim.Native.Nat.{ℕ, _+_, _≤_, _<_}
 use lib.IntN.{ℤ}
 use lib.ListN.{length}
 use Rattle.model.specs.Grammar.{mostLoops, nestRoom}
-use Rattle.bounds.specs.Flat.{Positive, NestOk}
+use Rattle.sheet.specs.Flat.{Positive, NestOk}
 
 -- n limits from limit j on, of a loop with `outer` loops outside
 pub record LimitsIn (s : List ℤ) (outer j n : ℕ) : Type 0 where

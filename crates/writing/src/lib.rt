@@ -7,7 +7,7 @@ ghost use lib.ListN.{length, getD, take, drop};
 ghost use Rattle.lists.specs.Parts.{put};
 ghost use Rattle.model.specs.Words.{bits};
 ghost use Rattle.model.specs.Encode.{counted, limitWords, loopWords};
-ghost use Rattle.bounds.specs.Flat.{limitsAt, loopAt, loopsFrom, NestOk};
+ghost use Rattle.sheet.specs.Flat.{limitsAt, loopAt, loopsFrom, NestOk};
 ghost use Rattle.writing.specs.Writing.{Writable, Written};
 ghost use Rattle.writing.specs.Loops.{LimitsIn, LoopIn};
 use model::ROW_ROOM;

@@ -2,7 +2,8 @@
 use mathlib.Core.Path.{refl, sym, _∙_, ap, subst}
 use native.Mathlib.Omega.{arith}
 use Prim.Native.Nat.{_+_, _≤_}
-use Rattle.reading.proofs.ReaderLaws.{read-value, read-refusal, refused-here, not-fine}
+use Rattle.ticket_refusals.proofs.StatusLaws.{not-fine}
+use Rattle.reading.proofs.ReaderLaws.{read-value, read-refusal, refused-here}
 use Rattle.model.specs.Grammar as Grammar
 use Rattle.arrays.specs.Arrays.{shapeOf}
 use Rattle.arrays.proofs.ArrayLaws.{array-fits, array-full, array-no}

@@ -8,7 +8,7 @@ use lib.ListN.{length, take, length-set}
 use Rattle.model.specs.Answer.{accepted, refused}
 use Rattle.model.specs.Grammar as Grammar
 use Rattle.model.specs.Grammar.{count, natural, times, shape}
-use Rattle.reading.specs.Refusals.{Reached}
+use Rattle.reading.specs.Reads.{Reached}
 use Rattle.reading.specs.Words.{naturalAnswer, OnNatural}
 use Rattle.reading.proofs.ReaderLaws.{seen, known-of, refused-here, after-value, after-refusal, before, times-start, times-no, row-more, row-done}
 use Rattle.arrays.specs.Arrays.{shapeOf}

@@ -4,7 +4,8 @@ use mathlib.Core.List.{[]}
 use native.Mathlib.Omega.{arith}
 use lib.ListN.{length-set}
 use Rattle.reading.specs.Words.{naturalAnswer, OnNatural}
-use Rattle.reading.proofs.ReaderLaws.{seen, known-of, read-value, read-refusal, not-fine}
+use Rattle.ticket_refusals.proofs.StatusLaws.{not-fine}
+use Rattle.reading.proofs.ReaderLaws.{seen, known-of, read-value, read-refusal}
 use Rattle.body.proofs.AccessLaws.{array-count, array-dimensions, no-array, no-subscripts, one-access, filling-starts, next-in, filling-more, filling-no, filling-done, filling-laid}
 use borrow.Author.Needs.{needs}
 use Prim.Native.Nat.{_+_, _-_}

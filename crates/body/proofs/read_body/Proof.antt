@@ -3,11 +3,12 @@ use mathlib.Core.Path.{refl, sym, _∙_}
 use mathlib.Core.List.{[]}
 use native.Mathlib.Omega.{arith}
 use Rattle.reading.specs.Words.{naturalAnswer, OnNatural}
-use Rattle.reading.proofs.ReaderLaws.{seen, known-of, read-value, read-refusal, not-fine}
+use Rattle.ticket_refusals.proofs.StatusLaws.{not-fine}
+use Rattle.reading.proofs.ReaderLaws.{seen, known-of, read-value, read-refusal}
 use Rattle.body.proofs.BodyLaws.{no-count, filling-starts, filling-more, filling-no, filling-done}
 use borrow.Author.Needs.{needs}
 use Prim.Native.Nat.{_-_}
-use Rattle.elements.specs.Layout.{arraysOf}
+use Rattle.sheet.specs.Layout.{arraysOf}
 use Rattle.body.proofs.BodyLaws.{Filling}
 use Rattle.body.proofs.read_body.Statement.{statement}
 use Rattle.body.proofs.read_body.Tie as tie

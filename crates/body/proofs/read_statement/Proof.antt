@@ -2,7 +2,8 @@
 use mathlib.Core.List.{[]}
 use native.Mathlib.Omega.{arith}
 use Rattle.reading.specs.Words.{naturalAnswer, OnNatural}
-use Rattle.reading.proofs.ReaderLaws.{seen, known-of, refused-here, not-fine}
+use Rattle.ticket_refusals.proofs.StatusLaws.{not-fine}
+use Rattle.reading.proofs.ReaderLaws.{seen, known-of, refused-here}
 use Rattle.body.proofs.StatementLaws.{no-rule, no-constant, statement-reads}
 use borrow.Author.Needs.{needs}
 use Rattle.body.proofs.read_statement.Statement.{statement}
@@ -78,8 +79,8 @@ read-accesses-requires : tie.Need-read-accesses-requires
 read-accesses-requires c κs = let p = c .before .before .before .before .before .before .before .before .before .before .before .before .before .before .before .before .before .before .before .before .before .pre .0 in
     (record { reached = c .before .before .before .before .before .before .read-access .ensures .reads .reached; shallow = p .shallow; arrays = p .arrays; words = omega arith; owners = omega arith }, omega (arith, c .before .before .before .before .before .before .before .before .before .before .before .before .before .before .before .before .before .before .before .before .before .pre .1))
 
-first-of-requires : tie.Need-first-of-requires
-first-of-requires c κs = search needs
+first-refusal-requires : tie.Need-first-refusal-requires
+first-refusal-requires c κs = search needs
 
 add-t25 : tie.Need-add-t25
 add-t25 c = search needs
@@ -94,7 +95,7 @@ returns-3 : tie.Need-returns-3
 returns-3 c = let e = seen (naturalAnswer _) (c .before .before .before .before .before .before .before .before .before .before .before .before .before .before .before .before .before .before .before .before .before .v .given .1) (c .before .before .before .before .before .before .before .before .before .before .before .before .before .before .before .before .before .before .before .before .before .before .before .read-natural .ensures .same) in
     let f = seen (naturalAnswer _) (c .before .before .before .before .before .before .before .before .before .before .before .before .before .before .before .before .v2 .given .1) (c .before .before .before .before .before .before .before .before .before .before .before .before .before .before .before .before .before .before .read-natural2 .ensures .same) in
     let p = c .before .before .before .before .before .before .before .before .before .before .before .before .before .before .before .before .before .before .before .before .before .before .before .before .before .before .before .pre .0 in
-    statement-reads _ _ _ _ _ _ _ _ _ _ _ _ _ _ _ _ _ _ (c .before .before .before .before .before .before .before .before .before .before .before .before .before .before .before .before .before .before .before .most-constant .ensures .0) e f (c .before .before .before .before .before .before .before .before .least-reads .ensures) (omega (arith, p .owners, c .before .before .before .before .before .before .before .before .before .before .before .before .before .before .before .before .before .before .before .before .before .before .before .before .before .before .before .pre .1)) (c .before .before .before .before .before .before .before .before .before .before .before .before .read-access .ensures) (c .before .before .before .before .before .read-accesses .ensures) (c .before .first-of .ensures)
+    statement-reads _ _ _ _ _ _ _ _ _ _ _ _ _ _ _ _ _ _ (c .before .before .before .before .before .before .before .before .before .before .before .before .before .before .before .before .before .before .before .most-constant .ensures .0) e f (c .before .before .before .before .before .before .before .before .least-reads .ensures) (omega (arith, p .owners, c .before .before .before .before .before .before .before .before .before .before .before .before .before .before .before .before .before .before .before .before .before .before .before .before .before .before .before .pre .1)) (c .before .before .before .before .before .before .before .before .before .before .before .before .read-access .ensures) (c .before .before .before .before .before .read-accesses .ensures) (c .before .first-refusal .ensures)
 
 pub read-statement-spec : {M : Type 1} → statement M
 read-statement-spec =
@@ -117,7 +118,7 @@ read-statement-spec =
     least-reads-requires
     add-read-accesses
     read-accesses-requires
-    first-of-requires
+    first-refusal-requires
     add-t25
     same-length
     same-length-2

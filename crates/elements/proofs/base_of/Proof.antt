@@ -3,7 +3,7 @@ use mathlib.Core.Path.{_≡_, sym, _∙_, ap, ap₂}
 use Prim.Native.Nat.{_+_, _-_, _≤_}
 use native.Mathlib.Omega.{arith}
 use Rattle.model.specs.Store.{base}
-use Rattle.elements.specs.Layout.{arraysOf}
+use Rattle.sheet.specs.Layout.{arraysOf}
 use Rattle.elements.proofs.ElementLaws.{earlier-array, no-base, next-base, array-fits}
 use Rattle.elements.proofs.base_of.Statement.{statement}
 use Rattle.elements.proofs.base_of.Tie as tie

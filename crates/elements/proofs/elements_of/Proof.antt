@@ -4,7 +4,7 @@ use Prim.Native.Nat.{ℕ, _*_, _≤_}
 use native.Mathlib.Omega.{arith}
 use lib.ListN.{getD, drop}
 use Rattle.model.specs.Grammar.{elements}
-use Rattle.elements.specs.Layout.{extentsAt}
+use Rattle.sheet.specs.Layout.{extentsAt}
 use Rattle.elements.proofs.LayoutLaws.{array-ends}
 use Rattle.elements.proofs.ElementLaws.{no-extent, one-extent, one-small}
 use Rattle.elements.proofs.elements_of.Statement.{statement}

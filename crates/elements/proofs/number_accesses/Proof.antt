@@ -1,54 +1,52 @@
--- `number_accesses`: the places of the first k accesses are written.
-use mathlib.Core.Path.{_≡_, refl, _∙_, ap}
-use Prim.Native.Nat.{ℕ, _-_, _≤_}
-use native.Mathlib.Omega.{arith}
-use lib.ListN.{length}
-use Rattle.lists.specs.Parts.{rows}
-use Rattle.elements.specs.Places.{placesOf, numbered}
-use Rattle.elements.proofs.NumberLaws.{same-out, next-in, next-out}
+-- `number_accesses`: `elements` on the parts of the sheet that are in use.
+use mathlib.Core.Path.{refl, sym}
+use Rattle.sheet.proofs.SheetLaws.{words-count, owners-count, extents-count}
+use Rattle.elements.proofs.NestLaws.{number-in, number-out}
+use borrow.Author.Needs.{needs}
 use Rattle.elements.proofs.number_accesses.Statement.{statement}
 use Rattle.elements.proofs.number_accesses.Tie as tie
 
-abbrev Inv-loop : tie.InvT-loop
-Inv-loop words owners arrays points depth count out₀ k₀ out k = (k ≤ length owners) × (out ≡ numbered count (placesOf words owners arrays depth (rows depth count points)) k out₀)
+mul-number-all : tie.Need-mul-number-all
+mul-number-all c = search needs
 
-abbrev μ-loop : tie.MeasureT-loop
-μ-loop words owners arrays points depth count out₀ k₀ out k = length owners - k
+slice-aggregate-number-all : tie.Need-slice-aggregate-number-all
+slice-aggregate-number-all c = let s = c .before .before .before .before in sym (words-count _ (s .pre .sheet))
 
-loop-holds : tie.Need-loop-holds Inv-loop μ-loop
-unfolding numbered
-loop-holds c = (omega arith, refl)
+array-share-prefix-owners : tie.Need-array-share-prefix-owners
+array-share-prefix-owners c = search needs
 
-number-access-requires : tie.Need-number-access-requires Inv-loop μ-loop
-number-access-requires c κs = let s = c .before .before .before .before .before .before in let l = c .before .before .loop in next-in (s .args .words .now) (s .args .owners .now) (s .args .arrays .now) (s .args .points .now) (s .args .depth) (s .args .count) (s .args .out .now) (s .pre) (l .k) (c .before .loop-test .taken) (l .out) (l .inv .1)
+slice-aggregate-number-all-2 : tie.Need-slice-aggregate-number-all-2
+slice-aggregate-number-all-2 c = let s = c .before .before .before .before .before in sym (owners-count _ (s .pre .sheet))
 
-add-k : tie.Need-add-k Inv-loop μ-loop
-add-k c = let s = c .before .before .before .before .before .before .before .before .before in let m = s .pre .accesses .many in let v = c .before .before .before .before .loop-test .taken in omega arith
+mul-extents : tie.Need-mul-extents
+mul-extents c = search needs
 
-loop-less : tie.Need-loop-less Inv-loop μ-loop
-loop-less c = let v = c .before .before .before .before .loop-test .taken in omega arith
+array-share-prefix-extents : tie.Need-array-share-prefix-extents
+array-share-prefix-extents c = search needs
 
-loop-again : tie.Need-loop-again Inv-loop μ-loop
-loop-again c = let s = c .before .before .before .before .before .before .before .before .before in let l = c .before .before .before .before .before .loop in let v = c .before .before .before .before .loop-test .taken in let r = c .before .before .number-access in
-    (omega arith, next-out (s .args .words .now) (s .args .owners .now) (s .args .arrays .now) (s .args .points .now) (s .args .depth) (s .args .count) (s .args .out .now) (s .pre) (l .k) (l .out) (r .last .1 .1 .1 .1 .1 .1 .1 .0) (l .inv .1) (r .ensures))
+slice-aggregate-number-all-3 : tie.Need-slice-aggregate-number-all-3
+slice-aggregate-number-all-3 c = let s = c .before .before .before .before .before .before .before in sym (extents-count _ (s .pre .sheet))
 
-same-length : tie.Need-same-length Inv-loop μ-loop
-same-length c = let s = c .before .before .before .before .before in let l = c .before .loop in same-out (s .args .words .now) (s .args .owners .now) (s .args .arrays .now) (s .args .points .now) (s .args .depth) (s .args .count) (s .args .out .now) (s .pre) (l .k) (l .inv .0) (l .out) (l .inv .1)
+number-all-requires : tie.Need-number-all-requires
+number-all-requires c κs = let s = c .before .before .before .before .before .before .before .before in number-in _ _ _ _ (s .pre)
 
-returns : tie.Need-returns Inv-loop μ-loop
-returns c = let s = c .before .before .before .before .before in let l = c .before .loop in let z : l .k ≡ length (s .args .owners .now) = omega (arith, l .inv .0, c .loop-test .left) in
-    l .inv .1 ∙ ap (λ (j : ℕ). numbered (s .args .count) (placesOf (s .args .words .now) (s .args .owners .now) (s .args .arrays .now) (s .args .depth) (rows (s .args .depth) (s .args .count) (s .args .points .now))) j (s .args .out .now)) z
+same-length : tie.Need-same-length
+same-length c = search needs
+
+returns : tie.Need-returns
+returns c = let s = c .before .before .before .before .before .before .before .before .before .before .before in number-out _ (s .args .points .now) (s .args .count) _ (s .pre) (s .args .numbers .now) _ refl (c .before .before .number-all .ensures)
 
 pub number-accesses-spec : {M : Type 1} → statement M
 number-accesses-spec =
     tie.close
     (tie.spec
-    Inv-loop
-    μ-loop
-    loop-holds
-    number-access-requires
-    add-k
-    loop-less
-    loop-again
+    mul-number-all
+    slice-aggregate-number-all
+    array-share-prefix-owners
+    slice-aggregate-number-all-2
+    mul-extents
+    array-share-prefix-extents
+    slice-aggregate-number-all-3
+    number-all-requires
     same-length
     returns)

@@ -3,7 +3,7 @@ use mathlib.Core.Path.{_≡_}
 use Prim.Native.Nat.{_-_, _≤_}
 use native.Mathlib.Omega.{arith}
 use Rattle.model.specs.Store.{base}
-use Rattle.elements.specs.Layout.{arraysOf}
+use Rattle.sheet.specs.Layout.{arraysOf}
 use Rattle.elements.proofs.TotalLaws.{none-yet, sum-small, one-more, all-arrays}
 use Rattle.elements.proofs.total_of.Statement.{statement}
 use Rattle.elements.proofs.total_of.Tie as tie

@@ -7,7 +7,7 @@ use borrow.Author.Count.{below-more}
 use borrow.Author.Tests.{not-false}
 use lib.ListN.{getD}
 use Rattle.lists.proofs.TestLaws.{true-T}
-use Rattle.elements.specs.Layout.{formAt}
+use Rattle.sheet.specs.Layout.{formAt}
 use Rattle.extremes.specs.Ranges.{rangesOf}
 use Rattle.enclosure.specs.Subscripts.{Enclosed, FirstEnclosed}
 use Rattle.enclosure.proofs.SubscriptLaws.{owner-ends, flat, subscript-in}

@@ -2,7 +2,7 @@
 use borrow.Author.Needs.{needs}
 use Prim.Native.Nat.{_-_}
 use Rattle.model.specs.Encode.{accessWords}
-use Rattle.elements.specs.Layout.{accessAt}
+use Rattle.sheet.specs.Layout.{accessAt}
 use Rattle.writing.proofs.WritingLaws.{written-length, Filling, fill-next, fill-more, head-room, head-start, head-done}
 use Rattle.encoding.proofs.SectionLaws.{accesses-parts, one-access}
 use Rattle.encoding.proofs.put_accesses.Statement.{statement}

@@ -1,8 +1,8 @@
 -- `print_answer`: the count of the answer.
 use mathlib.Core.Path.{sym, ap}
 use Rattle.model.specs.Answer.{count}
-use Rattle.intake.specs.declared.Answer.{Answer}
-use Rattle.intake.specs.Answers.{answerOf}
+use Rattle.entry_answers.specs.declared.Answer.{Answer}
+use Rattle.entry_answers.specs.Answers.{answerOf}
 use borrow.Author.Needs.{needs}
 use Rattle.entry_tests.proofs.print_answer.Statement.{statement}
 use Rattle.entry_tests.proofs.print_answer.Tie as tie

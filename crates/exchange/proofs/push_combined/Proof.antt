@@ -8,7 +8,7 @@ use borrow.Author.Needs.{needs}
 use Rattle.lists.proofs.FlatMapLaws.{flatMap-single}
 use Rattle.model.specs.Limits.{combined}
 use Rattle.nest.specs.Nested.{limitOf}
-use Rattle.bounds.specs.Flat.{limitsAt}
+use Rattle.sheet.specs.Flat.{limitsAt}
 use Rattle.limits.proofs.NumberLaws.{small-back}
 use Rattle.sides.specs.Filling.{Adds}
 use Rattle.sides.proofs.FillLaws.{adds-same, adds-start, adds-more}

@@ -5,7 +5,7 @@ use native.Mathlib.Omega.{arith}
 use borrow.Author.Needs.{needs}
 use Rattle.model.specs.Ticket as Model
 use Rattle.model.specs.Limits.{outerCoefficient, outerPart}
-use Rattle.bounds.specs.Flat.{limitsAt}
+use Rattle.sheet.specs.Flat.{limitsAt}
 use Rattle.sides.specs.Filling.{Adds}
 use Rattle.sides.proofs.FillLaws.{holds-none, filled-none, adds-same, adds-start, adds-more}
 use Rattle.exchange.specs.Pair.{limitsOf}

@@ -3,7 +3,7 @@ use mathlib.Core.List.{flatMap}
 use Prim.Native.Nat.{_+_, _-_, _≤_}
 use native.Mathlib.Omega.{arith}
 use borrow.Author.Needs.{needs}
-use Rattle.bounds.specs.Flat.{limitsAt}
+use Rattle.sheet.specs.Flat.{limitsAt}
 use Rattle.sides.specs.Filling.{Adds}
 use Rattle.sides.proofs.FillLaws.{adds-same, adds-start, adds-more}
 use Rattle.exchange.specs.Pair.{takenOf}

@@ -5,7 +5,7 @@ use native.Mathlib.Omega.{arith}
 use borrow.Author.Needs.{needs}
 use Rattle.lists.proofs.FlatMapLaws.{flatMap-single}
 use Rattle.model.specs.Limits.{widened}
-use Rattle.bounds.specs.Flat.{limitsAt}
+use Rattle.sheet.specs.Flat.{limitsAt}
 use Rattle.sides.specs.Filling.{Adds}
 use Rattle.sides.proofs.FillLaws.{holds-none, filled-none, adds-same, adds-start, adds-more}
 use Rattle.exchange.proofs.SpanLaws.{span-at, read-small, wide-widened}

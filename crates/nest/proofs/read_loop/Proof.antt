@@ -43,8 +43,8 @@ slice-write-counts-2 : tie.Need-slice-write-counts-2
 slice-write-counts-2 c = let q = c .before .before .before .before .before .before .before .before .pre .2 in
     simp length-set (omega arith)
 
-first-of-requires : tie.Need-first-of-requires
-first-of-requires c κs = search needs
+first-refusal-requires : tie.Need-first-refusal-requires
+first-refusal-requires c κs = search needs
 
 same-length : tie.Need-same-length
 same-length c = search needs
@@ -53,7 +53,7 @@ same-length-2 : tie.Need-same-length-2
 same-length-2 c = search needs
 
 returns : tie.Need-returns
-returns c = loop-reads _ _ _ _ _ (c .before .before .before .before .before .before .before .before .before .pre .2) (c .before .before .before .before .before .before .before .before .before .pre .1) _ _ (c .before .before .before .before .before .read-side .ensures) _ _ (c .before .before .read-side2 .ensures) _ (c .first-of .ensures)
+returns c = loop-reads _ _ _ _ _ (c .before .before .before .before .before .before .before .before .before .pre .2) (c .before .before .before .before .before .before .before .before .before .pre .1) _ _ (c .before .before .before .before .before .read-side .ensures) _ _ (c .before .before .read-side2 .ensures) _ (c .first-refusal .ensures)
 
 pub read-loop-spec : {M : Type 1} → statement M
 read-loop-spec =
@@ -71,7 +71,7 @@ read-loop-spec =
     add-counts
     mul-counts-4
     slice-write-counts-2
-    first-of-requires
+    first-refusal-requires
     same-length
     same-length-2
     returns)

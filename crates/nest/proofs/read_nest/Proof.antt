@@ -2,7 +2,8 @@
 use mathlib.Core.Path.{refl, sym, _∙_}
 use native.Mathlib.Omega.{arith}
 use Rattle.reading.specs.Words.{naturalAnswer, OnNatural}
-use Rattle.reading.proofs.ReaderLaws.{seen, known-of, read-value, read-refusal, not-fine}
+use Rattle.ticket_refusals.proofs.StatusLaws.{not-fine}
+use Rattle.reading.proofs.ReaderLaws.{seen, known-of, read-value, read-refusal}
 use Rattle.nest.proofs.ReadLaws.{no-count, passing-starts, passing-room, passing-more, passing-no, passing-done, passing-ok}
 use borrow.Author.Needs.{needs}
 use Prim.Native.Nat.{_-_}

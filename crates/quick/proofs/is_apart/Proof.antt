@@ -1,85 +1,52 @@
--- `is_apart`: by the arrays, by an empty range, or by a dimension.
-use native.Mathlib.Omega.{arith}
-use Rattle.quick.proofs.SearchLaws.{apart-arrays, apart-empty, apart-forms, array-there, forms-in}
+-- `is_apart`: `quick` on the parts of the sheet that are in use.
+use mathlib.Core.Path.{sym}
+use Rattle.sheet.proofs.SheetLaws.{words-count, owners-count, extents-count}
+use Rattle.quick.proofs.NestLaws.{test-in, test-out}
 use borrow.Author.Needs.{needs}
 use Rattle.quick.proofs.is_apart.Statement.{statement}
 use Rattle.quick.proofs.is_apart.Tie as tie
-use Rattle.quick.proofs.is_apart.Reads as reads
-use Rattle.quick.proofs.is_apart.Lts as lts
-use Rattle.extremes.proofs.ranges.Reads as ranges-reads
-use Rattle.quick.proofs.some_apart.Reads as some-apart-reads
-use Rattle.quick.proofs.some_empty.Reads as some-empty-reads
 
-mul-if1 : tie.Need-mul-if1
-mul-if1 c = search needs
+slice-aggregate-test-accesses : tie.Need-slice-aggregate-test-accesses
+slice-aggregate-test-accesses c = search needs
 
-shared-slice-read-if1 : tie.Need-shared-slice-read-if1
-shared-slice-read-if1 c = search needs
+mul-test-accesses : tie.Need-mul-test-accesses
+mul-test-accesses c = search needs
 
-mul-if1-2 : tie.Need-mul-if1-2
-mul-if1-2 c = search needs
+slice-aggregate-test-accesses-2 : tie.Need-slice-aggregate-test-accesses-2
+slice-aggregate-test-accesses-2 c = let s = c .before .before .before .before .before in sym (words-count _ (s .pre .sheet))
 
-shared-slice-read-if1-2 : tie.Need-shared-slice-read-if1-2
-shared-slice-read-if1-2 c = search needs
+array-share-prefix-owners : tie.Need-array-share-prefix-owners
+array-share-prefix-owners c = search needs
+
+slice-aggregate-test-accesses-3 : tie.Need-slice-aggregate-test-accesses-3
+slice-aggregate-test-accesses-3 c = let s = c .before .before .before .before .before .before in sym (owners-count _ (s .pre .sheet))
+
+mul-extents : tie.Need-mul-extents
+mul-extents c = search needs
+
+array-share-prefix-extents : tie.Need-array-share-prefix-extents
+array-share-prefix-extents c = search needs
+
+slice-aggregate-test-accesses-4 : tie.Need-slice-aggregate-test-accesses-4
+slice-aggregate-test-accesses-4 c = let s = c .before .before .before .before .before .before .before .before in sym (extents-count _ (s .pre .sheet))
+
+test-accesses-requires : tie.Need-test-accesses-requires
+test-accesses-requires c κs = let s = c .before .before .before .before .before .before .before .before in test-in _ _ _ (s .pre)
 
 returns : tie.Need-returns
-returns c = let s = c .before .before .before .before .before .before in apart-arrays (s .args .nest .now) (s .args .counts .now) (s .args .depth) (s .args .words .now) (s .args .owners .now) (s .args .arrays .now) (s .args .first) (s .args .second) (s .pre) (c .if1 .taken)
-
-ranges-requires : tie.Need-ranges-requires
-ranges-requires c κs = search needs
-
-some-empty-requires : tie.Need-some-empty-requires
-some-empty-requires c κs = search needs
-
-returns-2 : tie.Need-returns-2
-returns-2 c = let s = c .before .before .before .before .before .before .before .before .before in let r = c .before .before .ranges in let t = c .before .some-empty in apart-empty (s .args .nest .now) (s .args .counts .now) (s .args .depth) (s .args .words .now) (s .args .owners .now) (s .args .arrays .now) (s .args .first) (s .args .second) (s .pre) (c .before .before .before .if1 .left) (r .result) (r .ensures) (t .result) (t .ensures) (c .if2 .taken)
-
-mul-d : tie.Need-mul-d
-mul-d c = search needs
-
-shared-slice-read-d : tie.Need-shared-slice-read-d
-shared-slice-read-d c = search needs
-
-mul-d-2 : tie.Need-mul-d-2
-mul-d-2 c = let s = c .before .before .before .before .before .before .before .before .before .before in let h = array-there (s .args .nest .now) (s .args .counts .now) (s .args .depth) (s .args .words .now) (s .args .owners .now) (s .args .arrays .now) (s .args .first) (s .args .second) (s .pre) in omega arith
-
-mul-d-3 : tie.Need-mul-d-3
-mul-d-3 c = let s = c .before .before .before .before .before .before .before .before .before .before in let h = array-there (s .args .nest .now) (s .args .counts .now) (s .args .depth) (s .args .words .now) (s .args .owners .now) (s .args .arrays .now) (s .args .first) (s .args .second) (s .pre) in omega arith
-
-shared-slice-read-d-2 : tie.Need-shared-slice-read-d-2
-shared-slice-read-d-2 c = let s = c .before .before .before .before .before .before .before .before .before .before .before in let h = array-there (s .args .nest .now) (s .args .counts .now) (s .args .depth) (s .args .words .now) (s .args .owners .now) (s .args .arrays .now) (s .args .first) (s .args .second) (s .pre) in h .0
-
-mul-some-apart : tie.Need-mul-some-apart
-mul-some-apart c = search needs
-
-mul-some-apart-2 : tie.Need-mul-some-apart-2
-mul-some-apart-2 c = search needs
-
-some-apart-requires : tie.Need-some-apart-requires
-some-apart-requires c κs = let s = c .before .before .before .before .before .before .before .before .before .before .before in forms-in (s .args .nest .now) (s .args .counts .now) (s .args .depth) (s .args .words .now) (s .args .owners .now) (s .args .arrays .now) (s .args .first) (s .args .second) (s .pre) (c .before .before .before .before .ranges .result) (c .before .before .before .before .ranges .ensures .held)
-
-returns-3 : tie.Need-returns-3
-returns-3 c = let s = c .before .before .before .before .before .before .before .before .before .before .before .before in let r = c .before .before .before .before .before .ranges in let t = c .before .before .before .before .some-empty in
-    apart-forms (s .args .nest .now) (s .args .counts .now) (s .args .depth) (s .args .words .now) (s .args .owners .now) (s .args .arrays .now) (s .args .first) (s .args .second) (s .pre) (c .before .before .before .before .before .before .if1 .left) (r .result) (r .ensures) (t .result) (t .ensures) (c .before .before .before .if2 .left) (c .some-apart .result) (c .some-apart .ensures)
+returns c = let s = c .before .before .before .before .before .before .before .before .before in test-out _ (s .args .first) (s .args .second) (c .test-accesses .result) (s .pre) (c .test-accesses .ensures)
 
 pub is-apart-spec : {M : Type 1} → statement M
 is-apart-spec =
     tie.close
     (tie.spec
-    mul-if1
-    shared-slice-read-if1
-    mul-if1-2
-    shared-slice-read-if1-2
-    returns
-    ranges-requires
-    some-empty-requires
-    returns-2
-    mul-d
-    shared-slice-read-d
-    mul-d-2
-    mul-d-3
-    shared-slice-read-d-2
-    mul-some-apart
-    mul-some-apart-2
-    some-apart-requires
-    returns-3)
+    slice-aggregate-test-accesses
+    mul-test-accesses
+    slice-aggregate-test-accesses-2
+    array-share-prefix-owners
+    slice-aggregate-test-accesses-3
+    mul-extents
+    array-share-prefix-extents
+    slice-aggregate-test-accesses-4
+    test-accesses-requires
+    returns)

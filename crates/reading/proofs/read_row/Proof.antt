@@ -7,7 +7,7 @@ use native.Mathlib.Omega.{arith}
 use lib.IntN.{ℤ}
 use lib.ListN.{length, take, length-set}
 use Rattle.model.specs.Grammar.{number, times}
-use Rattle.reading.specs.Refusals.{Reached}
+use Rattle.reading.specs.Reads.{Reached}
 use Rattle.reading.specs.Words.{numberAnswer, OnNumber}
 use Rattle.reading.proofs.ReaderLaws.{seen, known-of, before, times-start, times-no, row-more, row-done}
 use Rattle.reading.proofs.read_row.Statement.{statement}

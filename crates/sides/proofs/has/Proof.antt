@@ -6,7 +6,7 @@ use borrow.Author.Needs.{needs}
 use Rattle.lists.specs.Tests.{any}
 use Rattle.model.specs.Limits.{sameLimit}
 use Rattle.nest.specs.Nested.{limitOf}
-use Rattle.bounds.specs.Flat.{limitsAt}
+use Rattle.sheet.specs.Flat.{limitsAt}
 use Rattle.sides.proofs.FlatLaws.{none-more, found-at}
 use Rattle.sides.proofs.has.Statement.{statement}
 use Rattle.sides.proofs.has.Tie as tie

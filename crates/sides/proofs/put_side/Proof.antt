@@ -7,7 +7,7 @@ use borrow.Author.Tests.{not-true, not-false}
 use borrow.Author.Needs.{needs}
 use Rattle.lists.specs.Tests.{all}
 use Rattle.model.specs.Judge.{smallLimit}
-use Rattle.bounds.specs.Flat.{limitsAt}
+use Rattle.sheet.specs.Flat.{limitsAt}
 use Rattle.nest.specs.Laid.{layLimits}
 use Rattle.sides.proofs.SideLaws.{side-start, side-room, held, limit-room, side-refused, side-passed, side-more, side-done, side-not}
 use Rattle.sides.proofs.put_side.Statement.{statement}

@@ -1,5 +1,5 @@
 -- `include`: nothing for an empty range, else its ends and its length.
-use Rattle.bounds.specs.Flat.{loopAt}
+use Rattle.sheet.specs.Flat.{loopAt}
 use lib.ListN.{length}
 use Rattle.space.proofs.TallyLaws.{empty-loop, one-loop}
 use borrow.Author.Needs.{needs}

@@ -1,26 +1,21 @@
--- `list_points`: `collect` from no index on; the place after the points is their number times the depth.
-use mathlib.Core.Path.{refl}
-use native.Mathlib.Omega.{arith}
-use lib.ListN.{length}
-use Rattle.space.proofs.ListLaws.{list-in, list-out}
+-- `list_points`: `space` on the sheet's limits.
+use Rattle.space.proofs.NestLaws.{points-in, points-out}
 use borrow.Author.Needs.{needs}
 use Rattle.space.proofs.list_points.Statement.{statement}
 use Rattle.space.proofs.list_points.Tie as tie
 
-slice-aggregate-collect : tie.Need-slice-aggregate-collect
-slice-aggregate-collect c = refl
+slice-aggregate-store-points : tie.Need-slice-aggregate-store-points
+slice-aggregate-store-points c = search needs
 
-collect-requires : tie.Need-collect-requires
-collect-requires c κs = let s = c .before .before .before in let d = s .pre .nest .shallow in (list-in (s .args .nest .now) (s .args .counts .now) (s .args .depth) (length (s .args .out .now)) (s .pre), omega arith)
-
-div-result : tie.Need-div-result
-div-result c = search needs
+store-points-requires : tie.Need-store-points-requires
+store-points-requires c κs = let s = c .before .before .before in points-in _ _ (s .pre)
 
 same-length : tie.Need-same-length
 same-length c = search needs
 
 returns : tie.Need-returns
-returns c = let s = c .before .before .before .before .before .before in let g = c .before .before .collect in list-out (s .args .nest .now) (s .args .counts .now) (s .args .depth) (length (s .args .out .now)) (s .pre) (s .args .out .now) (g .last .1 .1 .1 .1 .1 .0) (g .result) (g .ensures .0)
+returns c = let s = c .before .before .before .before .before in points-out _ (s .args .points .now) _ (c .before .store-points .result) (s .pre) (c .before .store-points .ensures)
 
 pub list-points-spec : {M : Type 1} → statement M
-list-points-spec = tie.close (tie.spec slice-aggregate-collect collect-requires div-result same-length returns)
+list-points-spec =
+    tie.close (tie.spec slice-aggregate-store-points store-points-requires same-length returns)

@@ -9,7 +9,7 @@ use Rattle.model.specs.Answer.{accepted, refused}
 use Rattle.model.specs.Ticket as Model
 use Rattle.model.specs.Grammar as Grammar
 use Rattle.model.specs.Grammar.{depthAfter, stepsFrom}
-use Rattle.reading.specs.Refusals.{Reached}
+use Rattle.reading.specs.Reads.{Reached}
 use Rattle.reading.specs.Words.{naturalAnswer, OnNatural}
 use Rattle.reading.proofs.ReaderLaws.{seen, known-of, refused-here, after-value, after-refusal, before, filled-more}
 use Rattle.steps.specs.Steps.{stepOf, stepAnswer, OnStep, oneStep, stepsOf, NumberedFrom}

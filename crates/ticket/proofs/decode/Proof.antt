@@ -47,14 +47,14 @@ read-body-requires c κs = let n = c .before .before .before .before .before .be
 read-steps-requires : tie.Need-read-steps-requires
 read-steps-requires c κs = search needs
 
-first-of-requires : tie.Need-first-of-requires
-first-of-requires c κs = search needs
+first-refusal-requires : tie.Need-first-refusal-requires
+first-refusal-requires c κs = search needs
 
-first-of-requires-2 : tie.Need-first-of-requires-2
-first-of-requires-2 c κs = search needs
+first-refusal-requires-2 : tie.Need-first-refusal-requires-2
+first-refusal-requires-2 c κs = search needs
 
-first-of-requires-3 : tie.Need-first-of-requires-3
-first-of-requires-3 c κs = search needs
+first-refusal-requires-3 : tie.Need-first-refusal-requires-3
+first-refusal-requires-3 c κs = search needs
 
 end-of-requires : tie.Need-end-of-requires
 end-of-requires c κs = search needs
@@ -69,7 +69,7 @@ returns : tie.Need-returns
 returns c = let k = c .before .before .before .before .before .before .before .before .before .before .before .read-body .kept in
     decodes _ _ _ (c .before .before .before .before .before .before .before .before .before .before .before .before .before .before .before .before .before .before .before .before .before .before .before .before .before .before .before .pre) _ _ _ (c .before .before .before .before .before .before .before .before .before .before .before .before .before .before .before .before .before .before .before .before .before .before .before .read-nest .result) (c .before .before .before .before .before .before .before .before .before .before .before .before .before .before .before .before .before .before .before .read-arrays .result) (c .before .before .before .before .before .before .before .before .before .before .before .read-body .result) (c .before .before .before .before .before .read-steps .result)
     (c .before .before .before .before .before .before .before .before .before .before .before .before .before .before .before .before .before .before .before .before .before .before .before .read-nest .ensures) (c .before .before .before .before .before .before .before .before .before .before .before .before .before .before .before .before .before .before .before .read-arrays .ensures) (c .before .before .before .before .before .before .before .before .before .before .before .read-body .ensures) (c .before .before .before .before .before .read-steps .ensures) refl refl refl refl _ _ _ _
-    (c .before .before .before .before .first-of .ensures) (c .before .before .before .first-of2 .ensures) (c .before .before .first-of3 .ensures) (c .before .end-of .ensures)
+    (c .before .before .before .before .first-refusal .ensures) (c .before .before .before .first-refusal2 .ensures) (c .before .before .first-refusal3 .ensures) (c .before .end-of .ensures)
     (k .1 .1 .1 .1 .1 .1 .1 .0) (k .1 .1 .1 .1 .1 .1 .1 .1 .0) (k .1 .1 .1 .1 .1 .1 .1 .1 .1 .0) (k .1 .1 .1 .1 .1 .1 .0)
 
 pub decode-spec : {M : Type 1} → statement M
@@ -89,9 +89,9 @@ decode-spec =
     slice-aggregate-read-body-5
     read-body-requires
     read-steps-requires
-    first-of-requires
-    first-of-requires-2
-    first-of-requires-3
+    first-refusal-requires
+    first-refusal-requires-2
+    first-refusal-requires-3
     end-of-requires
     same-length
     same-length-2

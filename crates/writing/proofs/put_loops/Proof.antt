@@ -2,7 +2,7 @@
 use borrow.Author.Needs.{needs}
 use Prim.Native.Nat.{_-_}
 use Rattle.model.specs.Encode.{loopWords}
-use Rattle.bounds.specs.Flat.{loopAt}
+use Rattle.sheet.specs.Flat.{loopAt}
 use Rattle.writing.proofs.WritingLaws.{written-length, Filling, front-next, front-more, head-room, head-start, head-done}
 use Rattle.writing.proofs.SectionLaws.{loops-spans}
 use Rattle.writing.proofs.put_loops.Statement.{statement}

@@ -2,7 +2,7 @@
 use borrow.Author.Needs.{needs}
 use Prim.Native.Nat.{_-_}
 use Rattle.model.specs.Encode.{limitWords}
-use Rattle.bounds.specs.Flat.{limitAt}
+use Rattle.sheet.specs.Flat.{limitAt}
 use Rattle.writing.proofs.WritingLaws.{written-length, Filling, fill-next, fill-more, head-room, head-start, head-done}
 use Rattle.writing.proofs.SectionLaws.{side-spans, limit-room, limit-writable, limit-written}
 use Rattle.writing.proofs.put_side.Statement.{statement}

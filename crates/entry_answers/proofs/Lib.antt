@@ -1,0 +1,2 @@
+-- Laws that the entries need of a text that is handed out.
+pub mod AnswerLaws

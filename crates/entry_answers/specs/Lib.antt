@@ -1,0 +1,2 @@
+-- What the entries' contracts speak of.
+pub mod Answers

@@ -1,0 +1,2 @@
+-- Laws of a status.
+pub mod StatusLaws
