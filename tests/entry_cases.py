@@ -1,4 +1,4 @@
-"""Writes the input and the expected output of the program entry_tests. A case is a ticket, the lengths of the buffers that write and list are
+"""Writes the input and the expected output of the program test_entries. A case is a ticket, the lengths of the buffers that write and list are
 lent, two access numbers, and the store that run is lent. The expected text is the reference's (rust/reference), which its own tests compare with
 the outside vectors of base.txt."""
 import itertools
@@ -15,7 +15,7 @@ from step_cases import CUBE, DIVIDED, TRIANGLE
 from tickets import A, B, I, J, K, CASE_1, WORKED, exchange, section, skew, ticket
 
 HERE = os.path.dirname(os.path.abspath(__file__))
-PROGRAM = os.path.join(HERE, "..", "crates", "entry_tests")
+PROGRAM = os.path.join(HERE, "..", "crates", "test_entries")
 PACKAGE = os.path.join(HERE, "..", "rust", "Cargo.toml")
 WIDE = 65535
 

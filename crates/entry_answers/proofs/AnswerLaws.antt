@@ -16,23 +16,25 @@ use Rattle.ticket_refusals.specs.declared.Refusal.{Refusal}
 use Rattle.ticket_refusals.specs.declared.Refusal.the-variants.{BufferTooShort}
 use Rattle.ticket_refusals.specs.Refusals.{refusal}
 use Rattle.entry_answers.specs.declared.Answer.the-variants.{Accepted, Refused}
-use Rattle.entry_answers.specs.Answers.{Hands}
+use Rattle.entry_answers.specs.Answers.{OutcomeIs}
 
-pub refused-before : (m : Model.Answer (List ℕ)) (o : List ℕ) (r : Refusal) → refusal r ≡ m → Hands (handOut m o) (Refused r) o
+pub refused-before : (m : Model.Answer (List ℕ)) (o : List ℕ) (r : Refusal) → refusal r ≡ m → OutcomeIs (handOut m o) (Refused r) o
 unfolding handOut
-refused-before m o r e = subst (λ (x : Model.Answer (List ℕ)). Hands (handOut x o) (Refused r) o) e (record { answer = refl; memory = refl })
+refused-before m o r e = subst (λ (x : Model.Answer (List ℕ)). OutcomeIs (handOut x o) (Refused r) o) e (record { answer = refl; memory = refl })
 
 module _ (t o : List ℕ) where
   abbrev outcome : Bool → Outcome
   outcome b = cond b (record { answer = accepted (length t); memory = t ++ drop (length t) o }) (record { answer = refused 14 0; memory = o })
 
-  pub too-short : length o < length t → Hands (handOut (accepted t) o) (Refused BufferTooShort) o
+  pub too-short : length o < length t → OutcomeIs (handOut (accepted t) o) (Refused BufferTooShort) o
   unfolding handOut
-  too-short h = subst (λ (b : Bool). Hands (outcome b) (Refused BufferTooShort) o) (sym (lt-leb (length t) (length o) h)) (record { answer = refl; memory = refl })
+  too-short h = subst (λ (b : Bool). OutcomeIs (outcome b) (Refused BufferTooShort) o) (sym (lt-leb (length t) (length o) h))
+      (record { answer = refl; memory = refl })
 
-  pub written : length t ≤ length o → (m : List ℕ) → m ≡ put o 0 t → Hands (handOut (accepted t) o) (Accepted (length t)) m
+  pub written : length t ≤ length o → (m : List ℕ) → m ≡ put o 0 t → OutcomeIs (handOut (accepted t) o) (Accepted (length t)) m
   unfolding handOut
-  written h m e = subst (λ (b : Bool). Hands (outcome b) (Accepted (length t)) m) (sym (le-leb (length t) (length o) h)) (record { answer = refl; memory = e ∙ put-all o t })
+  written h m e = subst (λ (b : Bool). OutcomeIs (outcome b) (Accepted (length t)) m) (sym (le-leb (length t) (length o) h))
+      (record { answer = refl; memory = e ∙ put-all o t })
 
 -- ---- the count is within the buffer
 
@@ -45,6 +47,6 @@ count-fits (accepted t) o = go (leb (length t) (length o)) refl
     go true e = leb-true (length t) (length o) (sym e)
     go false e = omega arith
 
-pub handed-fits : (m : Model.Answer (List ℕ)) (o e : List ℕ) (n : ℕ) → Hands (handOut m o) (Accepted n) e → n ≤ length o
+pub handed-fits : (m : Model.Answer (List ℕ)) (o e : List ℕ) (n : ℕ) → OutcomeIs (handOut m o) (Accepted n) e → n ≤ length o
 unfolding count
 handed-fits m o e n h = let k : n ≡ count (handOut m o .answer) = ap count (h .answer) in omega (arith, count-fits m o)

@@ -14,6 +14,6 @@ answerOf (Accepted n) = accepted n
 answerOf (Refused r) = refusal r
 
 -- the answer r, with the lent memory left as m, is the outcome o
-pub record Hands (o : Outcome) (r : Answer) (m : List ℕ) : Type 0 where
+pub record OutcomeIs (o : Outcome) (r : Answer) (m : List ℕ) : Type 0 where
   pub answer : answerOf r ≡ o .answer
   pub memory : m ≡ o .memory

@@ -2,39 +2,42 @@
 // definition of document 01 (crate model, specs/Entries); what is promised of the definitions is stated in crate model, proofs/Demands.
 ghost use mathlib.Core.Path.{_≡_};
 ghost use Rattle.model.specs.Entries as Entries;
-ghost use Rattle.packing.specs.Packed.{packed, counted};
+ghost use Rattle.entry_packing.specs.Packed.{packed, counted};
 
 #[no_mangle]
 pub extern "C" fn hurkeztor_judge(ticket: &[u8]) -> u64
     ensures { λ r. ⌜ r ≡ packed (Entries.judge (now (ticket .entry))) ⌝ }
 {
-    packing::pack_answer(judge_entry::judge(ticket))
+    entry_packing::pack_answer(entry_judge::judge(ticket))
 }
 
 #[no_mangle]
 pub extern "C" fn hurkeztor_write(ticket: &[u8], out: &mut [u8]) -> u64
-    ensures { λ r. ⌜ (r ≡ packed (Entries.write (now (ticket .entry)) (now (out .entry)) .answer)) × (now (out .exit) ≡ Entries.write (now (ticket .entry)) (now (out .entry)) .memory) ⌝ }
+    ensures { λ r. ⌜ (r ≡ packed (Entries.write (now (ticket .entry)) (now (out .entry)) .answer))
+        × (now (out .exit) ≡ Entries.write (now (ticket .entry)) (now (out .entry)) .memory) ⌝ }
 {
-    packing::pack_answer(write_entry::write(ticket, out))
+    entry_packing::pack_answer(entry_write::write(ticket, out))
 }
 
 #[no_mangle]
 pub extern "C" fn hurkeztor_list(ticket: &[u8], out: &mut [u8]) -> u64
-    ensures { λ r. ⌜ (r ≡ packed (Entries.list (now (ticket .entry)) (now (out .entry)) .answer)) × (now (out .exit) ≡ Entries.list (now (ticket .entry)) (now (out .entry)) .memory) ⌝ }
+    ensures { λ r. ⌜ (r ≡ packed (Entries.list (now (ticket .entry)) (now (out .entry)) .answer))
+        × (now (out .exit) ≡ Entries.list (now (ticket .entry)) (now (out .entry)) .memory) ⌝ }
 {
-    packing::pack_answer(list_entry::list(ticket, out))
+    entry_packing::pack_answer(entry_list::list(ticket, out))
 }
 
 #[no_mangle]
 pub extern "C" fn hurkeztor_quick(ticket: &[u8], first: usize, second: usize) -> u64
     ensures { λ r. ⌜ r ≡ packed (counted (Entries.quick (now (ticket .entry)) first second)) ⌝ }
 {
-    packing::pack_test(quick_entry::quick(ticket, first, second))
+    entry_packing::pack_test(entry_quick::quick(ticket, first, second))
 }
 
 #[no_mangle]
 pub extern "C" fn hurkeztor_run(ticket: &[u8], store: &mut [u32]) -> u64
-    ensures { λ r. ⌜ (r ≡ packed (Entries.runEntry (now (ticket .entry)) (now (store .entry)) .answer)) × (now (store .exit) ≡ Entries.runEntry (now (ticket .entry)) (now (store .entry)) .memory) ⌝ }
+    ensures { λ r. ⌜ (r ≡ packed (Entries.runEntry (now (ticket .entry)) (now (store .entry)) .answer))
+        × (now (store .exit) ≡ Entries.runEntry (now (ticket .entry)) (now (store .entry)) .memory) ⌝ }
 {
-    packing::pack_answer(run_entry::run(ticket, store))
+    entry_packing::pack_answer(entry_run::run(ticket, store))
 }

@@ -36,7 +36,8 @@ pub dot-more : (cs : List ℤ) (c : ℤ) (xs : List ℤ) (x : ℤ) → length cs
 unfolding dot
 dot-more cs c xs x e = dot-append cs (c ∷ []) xs (x ∷ []) e ∙ lin (dot cs xs ∷ c ∷ x ∷ []) (λ d c x. d ⊕ (c ⊗ x ⊕ # 0) ≐ d ⊕ c ⊗ x) tt
 
-pub dot-last : (cs xs : List ℤ) (x : ℤ) → length cs ≡ suc (length xs) → dot cs (xs ++ (x ∷ [])) ≡ dot (take (length xs) cs) xs +ℤ getD cs (length xs) (pos 0) *ℤ x
+pub dot-last : (cs xs : List ℤ) (x : ℤ) → length cs ≡ suc (length xs)
+    → dot cs (xs ++ (x ∷ [])) ≡ dot (take (length xs) cs) xs +ℤ getD cs (length xs) (pos 0) *ℤ x
 unfolding dot
 dot-last [] xs x e = absurd (omega arith)
 dot-last (c ∷ []) [] x e = lin (c ∷ x ∷ []) (λ c x. c ⊗ x ⊕ # 0 ≐ # 0 ⊕ c ⊗ x) tt
@@ -53,7 +54,8 @@ dot-short (c ∷ cs) ds [] h = refl
 dot-short (c ∷ cs) ds (x ∷ xs) h = ap (λ t. c *ℤ x +ℤ t) (dot-short cs ds xs (omega arith))
 
 pub dot-front : (n : ℕ) (cs xs : List ℤ) → length xs ≤ n → n ≤ length cs → dot (take n cs) xs ≡ dot cs xs
-dot-front n cs xs h g = let l = length-take-le n cs g in sym (dot-short (take n cs) (drop n cs) xs (omega arith)) ∙ ap (λ t. dot t xs) (take-append-drop n cs)
+dot-front n cs xs h g = let l = length-take-le n cs g in sym (dot-short (take n cs) (drop n cs) xs (omega arith))
+    ∙ ap (λ t. dot t xs) (take-append-drop n cs)
 
 -- ---- changed coefficients
 
@@ -70,7 +72,8 @@ dot-zeros (suc n) [] = refl
 dot-zeros (suc n) (x ∷ xs) = ap (λ t. pos 0 *ℤ x +ℤ t) (dot-zeros n xs) ∙ lin (x ∷ []) (λ x. # 0 ⊗ x ⊕ # 0 ≐ # 0) tt
 
 -- u times the one and v times the other
-pub dot-mixed : (u v : ℤ) (cs ds xs : List ℤ) → length cs ≡ length ds → dot (zipWith (λ c d. u *ℤ c +ℤ v *ℤ d) cs ds) xs ≡ u *ℤ dot cs xs +ℤ v *ℤ dot ds xs
+pub dot-mixed : (u v : ℤ) (cs ds xs : List ℤ) → length cs ≡ length ds
+    → dot (zipWith (λ c d. u *ℤ c +ℤ v *ℤ d) cs ds) xs ≡ u *ℤ dot cs xs +ℤ v *ℤ dot ds xs
 unfolding dot zipWith
 dot-mixed u v [] [] xs e = lin (u ∷ v ∷ []) (λ u v. # 0 ≐ u ⊗ # 0 ⊕ v ⊗ # 0) tt
 dot-mixed u v [] (d ∷ ds) xs e = absurd (omega arith)
@@ -78,7 +81,8 @@ dot-mixed u v (c ∷ cs) [] xs e = absurd (omega arith)
 dot-mixed u v (c ∷ cs) (d ∷ ds) [] e = lin (u ∷ v ∷ []) (λ u v. # 0 ≐ u ⊗ # 0 ⊕ v ⊗ # 0) tt
 dot-mixed u v (c ∷ cs) (d ∷ ds) (x ∷ xs) e =
     ap (λ t. (u *ℤ c +ℤ v *ℤ d) *ℤ x +ℤ t) (dot-mixed u v cs ds xs (omega arith))
-    ∙ lin (u ∷ v ∷ c ∷ d ∷ x ∷ dot cs xs ∷ dot ds xs ∷ []) (λ u v c d x s t. (u ⊗ c ⊕ v ⊗ d) ⊗ x ⊕ (u ⊗ s ⊕ v ⊗ t) ≐ u ⊗ (c ⊗ x ⊕ s) ⊕ v ⊗ (d ⊗ x ⊕ t)) tt
+    ∙ lin (u ∷ v ∷ c ∷ d ∷ x ∷ dot cs xs ∷ dot ds xs ∷ []) (λ u v c d x s t. (u ⊗ c ⊕ v ⊗ d) ⊗ x ⊕ (u ⊗ s ⊕ v ⊗ t) ≐ u ⊗ (c ⊗ x ⊕ s) ⊕ v ⊗
+    (d ⊗ x ⊕ t)) tt
 
 -- the one u times, and the other
 pub dot-scaled : (u : ℤ) (cs ds xs : List ℤ) → length cs ≡ length ds → dot (zipWith (λ c d. c *ℤ u +ℤ d) cs ds) xs ≡ dot cs xs *ℤ u +ℤ dot ds xs
@@ -91,13 +95,15 @@ dot-scaled u (c ∷ cs) (d ∷ ds) (x ∷ xs) e =
     ap (λ t. (c *ℤ u +ℤ d) *ℤ x +ℤ t) (dot-scaled u cs ds xs (omega arith))
     ∙ lin (u ∷ c ∷ d ∷ x ∷ dot cs xs ∷ dot ds xs ∷ []) (λ u c d x s t. (c ⊗ u ⊕ d) ⊗ x ⊕ (s ⊗ u ⊕ t) ≐ (c ⊗ x ⊕ s) ⊗ u ⊕ (d ⊗ x ⊕ t)) tt
 
-pub affine-scaled : (u e f : ℤ) (cs ds xs : List ℤ) → length cs ≡ length ds → affine (e *ℤ u +ℤ f) (zipWith (λ c d. c *ℤ u +ℤ d) cs ds) xs ≡ affine e cs xs *ℤ u +ℤ affine f ds xs
+pub affine-scaled : (u e f : ℤ) (cs ds xs : List ℤ) → length cs ≡ length ds
+    → affine (e *ℤ u +ℤ f) (zipWith (λ c d. c *ℤ u +ℤ d) cs ds) xs ≡ affine e cs xs *ℤ u +ℤ affine f ds xs
 unfolding affine
 affine-scaled u e f cs ds xs h = ap (λ t. e *ℤ u +ℤ f +ℤ t) (dot-scaled u cs ds xs h)
     ∙ lin (u ∷ e ∷ f ∷ dot cs xs ∷ dot ds xs ∷ []) (λ u e f s t. e ⊗ u ⊕ f ⊕ (s ⊗ u ⊕ t) ≐ (e ⊕ s) ⊗ u ⊕ (f ⊕ t)) tt
 
 -- one coefficient more by t
-pub dot-coefficient : (outer : List ℤ) (x t : ℤ) (z ds : List ℤ) → length outer < length ds → dot (under (length outer) (onHead (λ b. b +ℤ t)) ds) (outer ++ x ∷ z) ≡ dot ds (outer ++ x ∷ z) +ℤ t *ℤ x
+pub dot-coefficient : (outer : List ℤ) (x t : ℤ) (z ds : List ℤ) → length outer < length ds
+    → dot (under (length outer) (onHead (λ b. b +ℤ t)) ds) (outer ++ x ∷ z) ≡ dot ds (outer ++ x ∷ z) +ℤ t *ℤ x
 unfolding dot under onHead
 dot-coefficient outer x t z [] h = absurd (omega arith)
 dot-coefficient [] x t z (d ∷ ds) h = lin (d ∷ x ∷ t ∷ dot ds z ∷ []) (λ d x t r. (d ⊕ t) ⊗ x ⊕ r ≐ d ⊗ x ⊕ r ⊕ t ⊗ x) tt
@@ -107,16 +113,19 @@ dot-coefficient (y ∷ outer) x t z (d ∷ ds) h = ap (λ r. d *ℤ y +ℤ r) (d
 -- ---- a changed index
 
 -- one index more by t
-pub dot-index : (d : ℕ) (t : ℤ) (cs p : List ℤ) → length cs ≡ length p → dot cs (under d (onHead (λ y. y +ℤ t)) p) ≡ dot cs p +ℤ getD cs d (pos 0) *ℤ t
+pub dot-index : (d : ℕ) (t : ℤ) (cs p : List ℤ) → length cs ≡ length p
+    → dot cs (under d (onHead (λ y. y +ℤ t)) p) ≡ dot cs p +ℤ getD cs d (pos 0) *ℤ t
 unfolding under onHead dot
 dot-index d t [] p e = lin (t ∷ []) (λ t. # 0 ≐ # 0 ⊕ # 0 ⊗ t) tt
 dot-index d t (c ∷ cs) [] e = absurd (omega arith)
 dot-index zero t (c ∷ cs) (x ∷ p) e = lin (c ∷ x ∷ t ∷ dot cs p ∷ []) (λ c x t r. c ⊗ (x ⊕ t) ⊕ r ≐ c ⊗ x ⊕ r ⊕ c ⊗ t) tt
-dot-index (suc d) t (c ∷ cs) (x ∷ p) e = ap (λ r. c *ℤ x +ℤ r) (dot-index d t cs p (omega arith)) ∙ lin ((c *ℤ x) ∷ dot cs p ∷ (getD cs d (pos 0) *ℤ t) ∷ []) (λ a r b. a ⊕ (r ⊕ b) ≐ a ⊕ r ⊕ b) tt
+dot-index (suc d) t (c ∷ cs) (x ∷ p) e = ap (λ r. c *ℤ x +ℤ r) (dot-index d t cs p (omega arith))
+    ∙ lin ((c *ℤ x) ∷ dot cs p ∷ (getD cs d (pos 0) *ℤ t) ∷ []) (λ a r b. a ⊕ (r ⊕ b) ≐ a ⊕ r ⊕ b) tt
 
 -- ---- the first elements
 
-pub dot-snoc : (i : ℕ) (cs xs : List ℤ) → i < length cs → i < length xs → dot (take (suc i) cs) (take (suc i) xs) ≡ dot (take i cs) (take i xs) +ℤ getD cs i (pos 0) *ℤ getD xs i (pos 0)
+pub dot-snoc : (i : ℕ) (cs xs : List ℤ) → i < length cs → i < length xs
+    → dot (take (suc i) cs) (take (suc i) xs) ≡ dot (take i cs) (take i xs) +ℤ getD cs i (pos 0) *ℤ getD xs i (pos 0)
 unfolding dot
 dot-snoc i [] xs h g = absurd (omega arith)
 dot-snoc i (c ∷ cs) [] h g = absurd (omega arith)
@@ -126,7 +135,8 @@ dot-snoc (suc i) (c ∷ cs) (x ∷ xs) h g =
     ∙ lin ((c *ℤ x) ∷ dot (take i cs) (take i xs) ∷ (getD cs i (pos 0) *ℤ getD xs i (pos 0)) ∷ []) (λ a b c. a ⊕ (b ⊕ c) ≐ a ⊕ b ⊕ c) tt
 
 pub dot-all : (cs xs : List ℤ) (n : ℕ) → length cs ≡ n → length xs ≡ n → dot (take n cs) (take n xs) ≡ dot cs xs
-dot-all cs xs n e f = ap (λ t. dot t (take n xs)) (ap (λ k. take k cs) (sym e) ∙ take-length cs) ∙ ap (dot cs) (ap (λ k. take k xs) (sym f) ∙ take-length xs)
+dot-all cs xs n e f = ap (λ t. dot t (take n xs)) (ap (λ k. take k cs) (sym e) ∙ take-length cs)
+    ∙ ap (dot cs) (ap (λ k. take k xs) (sym f) ∙ take-length xs)
 
 -- ---- sizes
 
@@ -159,7 +169,8 @@ unfolding affine
 affine-size m n e cs xs p q = omega (arith, dot-size m n cs xs p q, size-add e (dot cs xs))
 
 -- what a nest has, whose numbers are within ±32767 and whose indices are within ±100,000
-pub nest-affine : {e : ℤ} {cs xs : List ℤ} → length xs ≡ length cs → length cs ≤ 6 → size e ≤ 32767 → Within 32767 cs → Within 100000 xs → AffineIn e cs xs
+pub nest-affine : {e : ℤ} {cs xs : List ℤ} → length xs ≡ length cs → length cs ≤ 6 → size e ≤ 32767 → Within 32767 cs → Within 100000 xs
+    → AffineIn e cs xs
 nest-affine {e} {cs} {xs} m n s p q = record {
   matched = m;
   few = omega arith;

@@ -19,7 +19,8 @@ Balanced z u d = up z + d ≡ u + down z
 -- ---- operations
 
 difference : (a b : ℕ) → Balanced (subℕ a b) a b
-difference a b = cond-cases (λ z. Balanced z a b) (ltb a b) (negsuc (b - suc a)) (pos (a - b)) (λ e. below (ltb-true a b e)) (λ e. above (ltb-false a b e))
+difference a b = cond-cases (λ z. Balanced z a b) (ltb a b) (negsuc (b - suc a)) (pos (a - b)) (λ e. below (ltb-true a b e))
+    (λ e. above (ltb-false a b e))
   where
     below : a < b → 0 + b ≡ a + suc (b - suc a)
     below h = omega arith

@@ -39,7 +39,12 @@ floor-iff e p x h = (to, from)
     to g = omega (
       zarith,
       add-fact (floorDiv e p) (pos 1),
-      mul-cancel-< p x (floorDiv e p +ℤ pos 1) (<ℤ-≤ℤ h) (omega (zarith, floor-high e p h, terms (p ∷ floorDiv e p ∷ []) (λ p q. p ⊗ (q ⊕ # 1) ∷ p ⊗ q ⊕ p ∷ []))),
+      mul-cancel-< p x (floorDiv e p +ℤ pos 1) (<ℤ-≤ℤ h) (omega (
+        zarith,
+        floor-high e p h,
+        terms (p ∷ floorDiv e p ∷ [])
+            (λ p q. p ⊗ (q ⊕ # 1) ∷ p ⊗ q ⊕ p ∷ []),
+      )),
     )
 
     from : x ≤ℤ floorDiv e p → (p *ℤ x) ≤ℤ e

@@ -39,11 +39,13 @@ sectioned-limit p w S E e h = combine (p ∷ w ∷ S ∷ E ∷ e ∷ []) h (sear
 
 -- 4. p J ≥ e + c I and q I ≥ f give p q J ≥ q e + c f
 combined-limit : (p q c J I e f : ℤ) → pos 0 ≤ℤ q → pos 0 ≤ℤ c → (e +ℤ c *ℤ I) ≤ℤ (p *ℤ J) → f ≤ℤ (q *ℤ I) → (q *ℤ e +ℤ c *ℤ f) ≤ℤ (p *ℤ q *ℤ J)
-combined-limit p q c J I e f hq hc h k = combine (p ∷ q ∷ c ∷ J ∷ I ∷ e ∷ f ∷ []) (both (mulˡ hq h) (mulˡ hc k)) (search quote depth 16) (search quote depth 16) tt
+combined-limit p q c J I e f hq hc h k = combine (p ∷ q ∷ c ∷ J ∷ I ∷ e ∷ f ∷ []) (both (mulˡ hq h) (mulˡ hc k)) (search quote depth 16)
+    (search quote depth 16) tt
 
 -- 5. a lower and an upper limit of one index, with the statement written out
 crossed-limits : (p q x e f : ℤ) → pos 0 <ℤ p → pos 0 <ℤ q → e ≤ℤ (p *ℤ x) → (q *ℤ x) ≤ℤ f → (q *ℤ e) ≤ℤ (p *ℤ f)
-crossed-limits p q x e f hp hq h k = lin (p ∷ q ∷ x ∷ e ∷ f ∷ []) (λ p q x e f. q ▹ e ⊑ p ⊗ x ⟹ p ▹ q ⊗ x ⊑ f ⟹ q ⊗ e ⊑ p ⊗ f) tt (<ℤ-≤ℤ hq) h (<ℤ-≤ℤ hp) k
+crossed-limits p q x e f hp hq h k = lin (p ∷ q ∷ x ∷ e ∷ f ∷ []) (λ p q x e f. q ▹ e ⊑ p ⊗ x ⟹ p ▹ q ⊗ x ⊑ f ⟹ q ⊗ e ⊑ p ⊗ f) tt (<ℤ-≤ℤ hq) h
+    (<ℤ-≤ℤ hp) k
 
 -- 6. with numerals `omega` finds the multiples
 numeral-limits : (x a b : ℤ) → a ≤ℤ (pos 3 *ℤ x) → (pos 2 *ℤ x) ≤ℤ b → (pos 2 *ℤ a) ≤ℤ (pos 3 *ℤ b)
@@ -75,7 +77,8 @@ product-fits : (s x y : ℤ) → size s ≤ 1099511627776 → size x ≤ 32767 �
 product-fits s x y hs hx hy = sfits (omega (arith, size-mul x y hx hy, size-add s (x *ℤ y)))
 
 -- 13. the range of an affine value of two coefficients
-affine-range : (e a b x y : ℤ) → size e ≤ 32767 → Within 32767 (a ∷ b ∷ []) → Within 32767 (x ∷ y ∷ []) → size (affine e (a ∷ b ∷ []) (x ∷ y ∷ [])) ≤ 2147385345
+affine-range : (e a b x y : ℤ) → size e ≤ 32767 → Within 32767 (a ∷ b ∷ []) → Within 32767 (x ∷ y ∷ [])
+    → size (affine e (a ∷ b ∷ []) (x ∷ y ∷ [])) ≤ 2147385345
 affine-range e a b x y h p q = omega (arith, affine-size 32767 32767 e (a ∷ b ∷ []) (x ∷ y ∷ []) p q)
 
 -- 14. a test on a difference

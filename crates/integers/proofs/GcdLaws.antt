@@ -35,7 +35,8 @@ turns-gcd zero a b h = absurd (omega arith)
 turns-gcd (suc n) a b h =
     cond-cases (λ (g : ℕ). IsGcd g a b) (eqb b 0) a (turns n b (a % b))
     (λ e. record { left = dvd-refl a; right = subst (λ (m : ℕ). a ∣ m) (sym (eqb-true b 0 e)) (dvd-zero a); greatest = λ d p q. p })
-    (λ e. let z = eqb-false b 0 e in let p : 0 < b = omega arith in let m = mod-lt a p in turn (turns n b (a % b)) a b (turns-gcd n b (a % b) (omega arith)))
+    (λ e. let z = eqb-false b 0 e in let p : 0 < b = omega arith in let m = mod-lt a p in turn (turns n b (a % b)) a b
+    (turns-gcd n b (a % b) (omega arith)))
 
 pub gcd-is : (a b : ℕ) → IsGcd (gcd a b) a b
 unfolding gcd
@@ -90,7 +91,11 @@ exact g m p = let e = div-add-mod m g in let z = mod-eq-zero-of-dvd g p in omega
 
 pub dvd-int : {g : ℕ} (a : ℤ) → g ∣ natAbs a → pos g ∣ℤ a
 dvd-int {g} (pos n) p = record { factor = pos (n / g); equal = ap pos (exact g n p) }
-dvd-int {g} (negsuc n) p = record { factor = negℤ (pos (suc n / g)); equal = opposite (exact g (suc n) p) ∙ lin (pos g ∷ pos (suc n / g) ∷ []) (λ g t. ⊝ (g ⊗ t) ≐ g ⊗ ⊝ t) tt }
+dvd-int {g} (negsuc n) p = record {
+  factor = negℤ (pos (suc n / g));
+  equal = opposite (exact g (suc n) p)
+      ∙ lin (pos g ∷ pos (suc n / g) ∷ []) (λ g t. ⊝ (g ⊗ t) ≐ g ⊗ ⊝ t) tt;
+}
   where
     opposite : {n m : ℕ} → suc n ≡ m → negsuc n ≡ negℤ (pos m)
     opposite {n} {m} e = subst (λ (k : ℕ). negsuc n ≡ negℤ (pos k)) e refl

@@ -225,7 +225,14 @@ more-slack : (ρ : List ℤ) (h : Claim) (d : Expr) → Holds ρ h → pos 0 ≤
 more-slack ρ h d p z = omega (zarith, z, slack-nonneg ρ h p, add-fact (value (slack h) ρ) (value d ρ))
 
 from-slack : (ρ : List ℤ) (r : Claim) (d : Expr) → pos 0 ≤ℤ value d ρ → Certified d r → Holds ρ r
-from-slack ρ (a ⊑ b) d z t = omega (zarith, z, normal-nonneg (b ⊖ a ⊖ d) ρ t, sub-fact (value b ρ) (value a ρ), sub-fact (value b ρ -ℤ value a ρ) (value d ρ))
+from-slack ρ (a ⊑ b) d z t = omega (
+  zarith,
+  z,
+  normal-nonneg (b ⊖ a ⊖ d) ρ t,
+  sub-fact (value b ρ) (value a ρ),
+  sub-fact (value b ρ -ℤ value a ρ)
+      (value d ρ),
+)
 from-slack ρ (a ⊏ b) d z t = omega (
   zarith,
   z,

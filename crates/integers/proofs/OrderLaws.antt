@@ -107,4 +107,8 @@ pub ∣-sub : {g a b : ℤ} → g ∣ℤ a → g ∣ℤ b → g ∣ℤ (a -ℤ b
 }
 
 pub ∣-mul : {g a : ℤ} (x : ℤ) → g ∣ℤ a → g ∣ℤ (a *ℤ x)
-∣-mul {g} {a} x p = record { factor = p .factor *ℤ x; equal = by (g ∷ a ∷ x ∷ p .factor ∷ []) (λ g a x s. x ▸ a ≐ g ⊗ s ⟹ a ⊗ x ≐ g ⊗ (s ⊗ x)) (omega arith) (p .equal) }
+∣-mul {g} {a} x p = record {
+  factor = p .factor *ℤ x;
+  equal = by (g ∷ a ∷ x ∷ p .factor ∷ []) (λ g a x s. x ▸ a ≐ g ⊗ s ⟹ a ⊗ x ≐ g ⊗ (s ⊗ x))
+      (omega arith) (p .equal);
+}

@@ -155,14 +155,18 @@ order-eq (i ∷ m) (j ∷ n) t = let e = then-eq (compare i j) (order m n) t in 
 
 -- ---- soundness of sums
 
-total-place : (o : Ordering) (c : ℤ) (m : List ℕ) (c′ : ℤ) (m′ : List ℕ) (s r : Sum) (ρ : List ℤ) → (T (isEq o) → m ≡ m′) → total r ρ ≡ c *ℤ monomial m ρ +ℤ total s ρ
+total-place : (o : Ordering) (c : ℤ) (m : List ℕ) (c′ : ℤ) (m′ : List ℕ) (s r : Sum) (ρ : List ℤ) → (T (isEq o) → m ≡ m′)
+    → total r ρ ≡ c *ℤ monomial m ρ +ℤ total s ρ
     → total (place o c m c′ m′ s r) ρ ≡ c *ℤ monomial m ρ +ℤ (c′ *ℤ monomial m′ ρ +ℤ total s ρ)
 total-place Ordering·lt c m c′ m′ s r ρ f e = refl
-total-place Ordering·eq c m c′ m′ s r ρ f e = joined c c′ (monomial m′ ρ) (total s ρ) ∙ ap (λ t. c *ℤ monomial t ρ +ℤ (c′ *ℤ monomial m′ ρ +ℤ total s ρ)) (sym (f tt))
+total-place Ordering·eq c m c′ m′ s r ρ f e = joined c c′ (monomial m′ ρ) (total s ρ)
+    ∙ ap (λ t. c *ℤ monomial t ρ +ℤ (c′ *ℤ monomial m′ ρ +ℤ total s ρ)) (sym (f tt))
   where
     joined : (c c′ M Σ : ℤ) → (c +ℤ c′) *ℤ M +ℤ Σ ≡ c *ℤ M +ℤ (c′ *ℤ M +ℤ Σ)
-    joined c c′ M Σ = same (is-add (is-mul (is-add (is c) (is c′)) (is M)) (is Σ)) (is-add (is-mul (is c) (is M)) (is-add (is-mul (is c′) (is M)) (is Σ))) (omega arith)
-total-place Ordering·gt c m c′ m′ s r ρ f e = ap (λ t. c′ *ℤ monomial m′ ρ +ℤ t) e ∙ +ℤ-left-comm (c′ *ℤ monomial m′ ρ) (c *ℤ monomial m ρ) (total s ρ)
+    joined c c′ M Σ = same (is-add (is-mul (is-add (is c) (is c′)) (is M)) (is Σ))
+        (is-add (is-mul (is c) (is M)) (is-add (is-mul (is c′) (is M)) (is Σ))) (omega arith)
+total-place Ordering·gt c m c′ m′ s r ρ f e = ap (λ t. c′ *ℤ monomial m′ ρ +ℤ t) e
+    ∙ +ℤ-left-comm (c′ *ℤ monomial m′ ρ) (c *ℤ monomial m ρ) (total s ρ)
 
 total-plus : (c : ℤ) (m : List ℕ) (s : Sum) (ρ : List ℤ) → total (plus c m s) ρ ≡ c *ℤ monomial m ρ +ℤ total s ρ
 total-plus c m none ρ = refl
@@ -170,7 +174,8 @@ total-plus c m (more c′ m′ s) ρ = total-place (order m m′) c m c′ m′ 
 
 total-add : (s t : Sum) (ρ : List ℤ) → total (addSums s t) ρ ≡ total s ρ +ℤ total t ρ
 total-add none t ρ = same (is (total t ρ)) (is-add (is (pos 0)) (is (total t ρ))) (omega arith)
-total-add (more c m s) t ρ = total-plus c m (addSums s t) ρ ∙ ap (λ u. c *ℤ monomial m ρ +ℤ u) (total-add s t ρ) ∙ regrouped (c *ℤ monomial m ρ) (total s ρ) (total t ρ)
+total-add (more c m s) t ρ = total-plus c m (addSums s t) ρ ∙ ap (λ u. c *ℤ monomial m ρ +ℤ u) (total-add s t ρ)
+    ∙ regrouped (c *ℤ monomial m ρ) (total s ρ) (total t ρ)
   where
     regrouped : (a b c : ℤ) → a +ℤ (b +ℤ c) ≡ a +ℤ b +ℤ c
     regrouped a b c = same (is-add (is a) (is-add (is b) (is c))) (is-add (is-add (is a) (is b)) (is c)) (omega arith)

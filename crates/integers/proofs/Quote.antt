@@ -64,10 +64,20 @@ pub record Stated (ρ : List ℤ) (A : Type 0) : Type 1 where
   pub from : Holds ρ claim → A
 
 abbrev pub s-le : {ρ : List ℤ} {a b : ℤ} → Quoted ρ a → Quoted ρ b → Stated ρ (a ≤ℤ b)
-s-le p q = record { claim = p .expr ⊑ q .expr; to = λ h. subst₂ _≤ℤ_ (sym (p .means)) (sym (q .means)) h; from = λ h. subst₂ _≤ℤ_ (p .means) (q .means) h }
+s-le p q = record {
+  claim = p .expr ⊑ q .expr;
+  to = λ h. subst₂ _≤ℤ_ (sym (p .means)) (sym (q .means)) h;
+  from = λ h. subst₂ _≤ℤ_ (p .means)
+      (q .means) h;
+}
 
 abbrev pub s-lt : {ρ : List ℤ} {a b : ℤ} → Quoted ρ a → Quoted ρ b → Stated ρ (a <ℤ b)
-s-lt p q = record { claim = p .expr ⊏ q .expr; to = λ h. subst₂ _<ℤ_ (sym (p .means)) (sym (q .means)) h; from = λ h. subst₂ _<ℤ_ (p .means) (q .means) h }
+s-lt p q = record {
+  claim = p .expr ⊏ q .expr;
+  to = λ h. subst₂ _<ℤ_ (sym (p .means)) (sym (q .means)) h;
+  from = λ h. subst₂ _<ℤ_ (p .means)
+      (q .means) h;
+}
 
 abbrev pub s-eq : {ρ : List ℤ} {a b : ℤ} → Quoted ρ a → Quoted ρ b → Stated ρ (_≡_ {A = ℤ} a b)
 s-eq p q = record { claim = p .expr ≐ q .expr; to = λ h. p .means ∙ h ∙ sym (q .means); from = λ h. sym (p .means) ∙ h ∙ q .means }
@@ -94,7 +104,26 @@ s-le-test p q = let w = s-le p q in record { claim = w .claim; to = λ h. w .to 
 abbrev pub s-le-no : {ρ : List ℤ} {a b : ℤ} → Quoted ρ a → Quoted ρ b → Stated ρ (leZ a b ≡ false)
 s-le-no p q = let w = s-lt q p in record { claim = w .claim; to = λ h. w .to (test-le-no h); from = λ h. le-test-no (w .from h) }
 
-pub ruleset quote = (q-atom, first, next, q-pos, q-negsuc, q-sub, q-add, q-mul, q-neg, s-le, s-lt, s-eq, s-and, s-fits, s-lt-test, s-lt-no, s-le-test, s-le-no)
+pub ruleset quote = (
+  q-atom,
+  first,
+  next,
+  q-pos,
+  q-negsuc,
+  q-sub,
+  q-add,
+  q-mul,
+  q-neg,
+  s-le,
+  s-lt,
+  s-eq,
+  s-and,
+  s-fits,
+  s-lt-test,
+  s-lt-no,
+  s-le-test,
+  s-le-no,
+)
 
 -- ---- the calls
 

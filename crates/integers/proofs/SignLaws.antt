@@ -28,7 +28,8 @@ sign-means x y = go (ltZ x y) refl (ltZ y x) refl
 pub means-sign : (s : Sign) (x y : ℤ) → Means s x y → sign x y ≡ s
 unfolding sign
 means-sign less x y h = ap (λ (t : Bool). cond t less (cond (ltZ y x) greater equal)) (lt-test h)
-means-sign equal x y h = let e : x ≤ℤ y = omega zarith in let f : y ≤ℤ x = omega zarith in rw (lt-test-no {a = x} {b = y} f, lt-test-no {a = y} {b = x} e)
+means-sign equal x y h = let e : x ≤ℤ y = omega zarith in let f : y ≤ℤ x = omega zarith in rw
+    (lt-test-no {a = x} {b = y} f, lt-test-no {a = y} {b = x} e)
 means-sign greater x y h = let f : y ≤ℤ x = omega zarith in rw (lt-test-no {a = x} {b = y} f, lt-test h)
 
 pub means-unique : (s t : Sign) (x y : ℤ) → Means s x y → Means t x y → s ≡ t

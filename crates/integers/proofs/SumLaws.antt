@@ -20,7 +20,8 @@ module _ (e : ℤ) (cs xs : List ℤ) (h : AffineIn e cs xs) where
   unfolding affine dot
   sum-none = record { lent = h; total = sym (+ℤ-idr e) }
 
-  next-product : (i : ℕ) → i < length cs → affine e (take i cs) (take i xs) +ℤ getD cs i (pos 0) *ℤ getD xs i (pos 0) ≡ affine e (take (i + 1) cs) (take (i + 1) xs)
+  next-product : (i : ℕ) → i < length cs → affine e (take i cs) (take i xs) +ℤ getD cs i (pos 0) *ℤ getD xs i (pos 0) ≡ affine e (take (i + 1) cs)
+      (take (i + 1) xs)
   unfolding affine
   next-product i k = let m = h .matched in
       +ℤ-assoc e (dot (take i cs) (take i xs)) (getD cs i (pos 0) *ℤ getD xs i (pos 0))
@@ -35,7 +36,12 @@ module _ (e : ℤ) (cs xs : List ℤ) (h : AffineIn e cs xs) where
   sum-size : (i : ℕ) → size (affine e (take i cs) (take i xs)) ≤ 36028797018963968
   sum-size i =
       let f = h .few in let k = h .constant in let l = length-take i cs in let n : length (take i cs) ≤ 8 = omega arith in
-      omega (arith, affine-size 2147483648 1048576 e (take i cs) (take i xs) (within-take 2147483648 cs i (h .coefficients)) (within-take 1048576 xs i (h .indices)), mul-le-mul-right (2147483648 * 1048576) n)
+      omega (
+        arith,
+        affine-size 2147483648 1048576 e (take i cs) (take i xs) (within-take 2147483648 cs i (h .coefficients))
+            (within-take 1048576 xs i (h .indices)),
+        mul-le-mul-right (2147483648 * 1048576) n,
+      )
 
   read-constant : toZ w64 (ofZ w64 e) ≡ e
   read-constant = let k = h .constant in back (sfits (omega arith))
@@ -60,10 +66,12 @@ module _ {e : ℤ} {cs xs : List ℤ} {i : ℕ} {s : ℤ} (g : SumTo e cs xs i s
   read-index : toZ w64 (ofZ w64 (getD xs i (pos 0))) ≡ getD xs i (pos 0)
   read-index = let s = index-size in back (sfits (omega arith))
 
-  pub plus-in : (size s ≤ 36028797018963968) × (size (toZ w64 (ofZ w64 (getD cs i (pos 0)))) ≤ 2147483648) × (size (toZ w64 (ofZ w64 (getD xs i (pos 0)))) ≤ 1048576)
+  pub plus-in : (size s ≤ 36028797018963968) × (size (toZ w64 (ofZ w64 (getD cs i (pos 0)))) ≤ 2147483648)
+      × (size (toZ w64 (ofZ w64 (getD xs i (pos 0)))) ≤ 1048576)
   plus-in = (rw (g .total) (sum-size e cs xs (g .lent) i), rw read-coefficient coefficient-size, rw read-index index-size)
 
-  pub sum-more : {r : ℤ} → i < length cs → r ≡ s +ℤ toZ w64 (ofZ w64 (getD cs i (pos 0))) *ℤ toZ w64 (ofZ w64 (getD xs i (pos 0))) → SumTo e cs xs (i + 1) r
+  pub sum-more : {r : ℤ} → i < length cs → r ≡ s +ℤ toZ w64 (ofZ w64 (getD cs i (pos 0))) *ℤ toZ w64 (ofZ w64 (getD xs i (pos 0)))
+      → SumTo e cs xs (i + 1) r
   sum-more k t = record { lent = g .lent; total = t ∙ rw (read-coefficient, read-index, g .total) (next-product e cs xs (g .lent) i k) }
 
 -- ---- among words

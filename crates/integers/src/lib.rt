@@ -52,68 +52,74 @@ pub fn gcd(x: u64, y: u64) -> u64
 }
 
 // A number under way: in a struct, so that a loop's invariant sees the integer and not its bits.
-struct Whole {
+struct PartialSum {
     value: i64,
 }
 
 // The sum and one coefficient times one index more.
-fn plus(sum: Whole, c: i64, x: i64) -> Whole
+fn add_product(sum: PartialSum, c: i64, x: i64) -> PartialSum
     requires { ⌜ (size (sum .value) ≤ 36028797018963968) × (size c ≤ 2147483648) × (size x ≤ 1048576) ⌝ }
     ensures { λ r. ⌜ r .value ≡ sum .value +ℤ c *ℤ x ⌝ }
 {
-    Whole {
+    PartialSum {
         value: sum.value + c * x,
     }
 }
 
 // The sum of the first i products, and one product more.
-fn next(start: Whole, coefficients: &[i64], indices: &[i64], i: usize, sum: Whole) -> Whole
+fn add_term(
+    start: PartialSum,
+    coefficients: &[i64],
+    indices: &[i64],
+    i: usize,
+    sum: PartialSum,
+) -> PartialSum
     requires { ⌜ SumTo (start .value) (now coefficients) (now indices) i (sum .value) × (i < length (now coefficients)) ⌝ }
     ensures { λ r. ⌜ SumTo (start .value) (now (coefficients .entry)) (now (indices .entry)) (i + 1) (r .value) ⌝ }
 {
-    plus(sum, coefficients[i], indices[i])
+    add_product(sum, coefficients[i], indices[i])
 }
 
 // The constant and the first product; below it the first two, three and four, then all.
-fn one(start: Whole, coefficients: &[i64], indices: &[i64]) -> Whole
+fn affine_one(start: PartialSum, coefficients: &[i64], indices: &[i64]) -> PartialSum
     requires { ⌜ AffineIn (start .value) (now coefficients) (now indices) × (1 ≤ length (now coefficients)) ⌝ }
     ensures { λ r. ⌜ SumTo (start .value) (now (coefficients .entry)) (now (indices .entry)) 1 (r .value) ⌝ }
 {
-    next(start, coefficients, indices, 0, start)
+    add_term(start, coefficients, indices, 0, start)
 }
 
-fn two(start: Whole, coefficients: &[i64], indices: &[i64]) -> Whole
+fn affine_two(start: PartialSum, coefficients: &[i64], indices: &[i64]) -> PartialSum
     requires { ⌜ AffineIn (start .value) (now coefficients) (now indices) × (2 ≤ length (now coefficients)) ⌝ }
     ensures { λ r. ⌜ SumTo (start .value) (now (coefficients .entry)) (now (indices .entry)) 2 (r .value) ⌝ }
 {
-    let sum = one(start, coefficients, indices);
-    next(start, coefficients, indices, 1, sum)
+    let sum = affine_one(start, coefficients, indices);
+    add_term(start, coefficients, indices, 1, sum)
 }
 
-fn three(start: Whole, coefficients: &[i64], indices: &[i64]) -> Whole
+fn affine_three(start: PartialSum, coefficients: &[i64], indices: &[i64]) -> PartialSum
     requires { ⌜ AffineIn (start .value) (now coefficients) (now indices) × (3 ≤ length (now coefficients)) ⌝ }
     ensures { λ r. ⌜ SumTo (start .value) (now (coefficients .entry)) (now (indices .entry)) 3 (r .value) ⌝ }
 {
-    let sum = two(start, coefficients, indices);
-    next(start, coefficients, indices, 2, sum)
+    let sum = affine_two(start, coefficients, indices);
+    add_term(start, coefficients, indices, 2, sum)
 }
 
-fn four(start: Whole, coefficients: &[i64], indices: &[i64]) -> Whole
+fn affine_four(start: PartialSum, coefficients: &[i64], indices: &[i64]) -> PartialSum
     requires { ⌜ AffineIn (start .value) (now coefficients) (now indices) × (4 ≤ length (now coefficients)) ⌝ }
     ensures { λ r. ⌜ SumTo (start .value) (now (coefficients .entry)) (now (indices .entry)) 4 (r .value) ⌝ }
 {
-    let sum = three(start, coefficients, indices);
-    next(start, coefficients, indices, 3, sum)
+    let sum = affine_three(start, coefficients, indices);
+    add_term(start, coefficients, indices, 3, sum)
 }
 
-fn all(start: Whole, coefficients: &[i64], indices: &[i64]) -> Whole
+fn affine_loop(start: PartialSum, coefficients: &[i64], indices: &[i64]) -> PartialSum
     requires { ⌜ AffineIn (start .value) (now coefficients) (now indices) ⌝ }
     ensures { λ r. ⌜ SumTo (start .value) (now (coefficients .entry)) (now (indices .entry)) (length (now (coefficients .entry))) (r .value) ⌝ }
 {
     let mut sum = start;
     let mut i = 0;
     while i < coefficients.len() {
-        sum = next(start, coefficients, indices, i, sum);
+        sum = add_term(start, coefficients, indices, i, sum);
         i += 1;
     }
     sum
@@ -125,17 +131,17 @@ pub fn affine(constant: i64, coefficients: &[i64], indices: &[i64]) -> i64
     requires { ⌜ AffineIn constant (now coefficients) (now indices) ⌝ }
     ensures { λ r. ⌜ r ≡ Rattle.integers.specs.Affine.affine constant (now (coefficients .entry)) (now (indices .entry)) ⌝ }
 {
-    let start = Whole { value: constant };
+    let start = PartialSum { value: constant };
     match coefficients.len() {
-        1 => one(start, coefficients, indices).value,
-        2 => two(start, coefficients, indices).value,
-        3 => three(start, coefficients, indices).value,
-        4 => four(start, coefficients, indices).value,
-        _ => all(start, coefficients, indices).value,
+        1 => affine_one(start, coefficients, indices).value,
+        2 => affine_two(start, coefficients, indices).value,
+        3 => affine_three(start, coefficients, indices).value,
+        4 => affine_four(start, coefficients, indices).value,
+        _ => affine_loop(start, coefficients, indices).value,
     }
 }
 
-fn wide(x: i16) -> i64
+fn sign_extend(x: i16) -> i64
     ensures { λ r. ⌜ r ≡ x ⌝ }
 {
     x as i64
@@ -146,7 +152,7 @@ pub fn word(words: &[i16], i: usize) -> i64
     requires { ⌜ i < length (now words) ⌝ }
     ensures { λ r. ⌜ r ≡ getD (now (words .entry)) i (pos 0) ⌝ }
 {
-    wide(words[i])
+    sign_extend(words[i])
 }
 
 // The affine value whose constant is word `at`, and whose coefficients are the words after it.
@@ -154,12 +160,12 @@ pub fn affine_at(words: &[i16], at: usize, indices: &[i64]) -> i64
     requires { ⌜ AffineAt (now words) at (now indices) ⌝ }
     ensures { λ r. ⌜ r ≡ affineAt (now (words .entry)) at (now (indices .entry)) ⌝ }
 {
-    let mut sum = Whole {
+    let mut sum = PartialSum {
         value: word(words, at),
     };
     let mut i = 0;
     while i < indices.len() {
-        sum = plus(sum, word(words, at + 1 + i), indices[i]);
+        sum = add_product(sum, word(words, at + 1 + i), indices[i]);
         i += 1;
     }
     sum.value

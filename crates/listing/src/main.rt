@@ -18,7 +18,7 @@ fn print_refusal(r: Refusal) {
 
 fn print_listing(ticket: &[u8]) {
     let mut out = io::large_buffer();
-    match list_entry::list(ticket, &mut out) {
+    match entry_list::list(ticket, &mut out) {
         Answer::Accepted(n) => {
             io::write_all(STDOUT_FILENO, &out[..n]);
         }

@@ -18,7 +18,8 @@ module _ {A B : Type 0} (f : A → List B) where
   pub flatMap-mem : {y : B} (l : List A) → Mem y (flatMap f l) → (x : A) × Mem x l × Mem y (f x)
   unfolding flatMap
   flatMap-mem [] m = absurd (List·Memᴰ·not-nil m)
-  flatMap-mem (x ∷ l) m = ⊎-elim (λ j. (x, List·Memᴰ·head refl, j)) (λ j. let r = flatMap-mem l j in (r .0, List·Memᴰ·tail (r .1), r .2)) (List·Memᴰ·append-cases (f x) m)
+  flatMap-mem (x ∷ l) m = ⊎-elim (λ j. (x, List·Memᴰ·head refl, j)) (λ j. let r = flatMap-mem l j in (r .0, List·Memᴰ·tail (r .1), r .2))
+      (List·Memᴰ·append-cases (f x) m)
 
   pub mem-flatMap : {x : A} {y : B} (l : List A) → Mem x l → Mem y (f x) → Mem y (flatMap f l)
   unfolding flatMap
@@ -94,7 +95,14 @@ module _ {A B : Type 0} (f : A → List B) where
   pub length-flatMap-most : (n : ℕ) (l : List A) → ((x : A) → Mem x l → length (f x) ≤ n) → length (flatMap f l) ≤ length l * n
   unfolding flatMap
   length-flatMap-most n [] h = omega arith
-  length-flatMap-most n (x ∷ l) h = omega (arith, length-append (f x) (flatMap f l), h x (List·Memᴰ·head refl), length-flatMap-most n l (λ y m. h y (List·Memᴰ·tail m)), suc-mul (length l) n)
+  length-flatMap-most n (x ∷ l) h = omega (
+    arith,
+    length-append (f x) (flatMap f l),
+    h x (List·Memᴰ·head refl),
+    length-flatMap-most n l
+        (λ y m. h y (List·Memᴰ·tail m)),
+    suc-mul (length l) n,
+  )
 
   -- ---- what holds of every part, and between two
 
@@ -104,7 +112,8 @@ module _ {A B : Type 0} (f : A → List B) where
   pub flatMap-iff : (P : B → Type 0) (l : List A) → All P (flatMap f l) ↔ ((x : A) → Mem x l → All P (f x))
   flatMap-iff P l = (λ a x m y i. a y (mem-flatMap f l m i), all-flatMap P l)
 
-  pub distinct-flatMap : (l : List A) → Distinct l → ((x : A) → Mem x l → Distinct (f x)) → ((x y : A) → Mem x l → Mem y l → (u : B) → Mem u (f x) → Mem u (f y) → x ≡ y) → Distinct (flatMap f l)
+  pub distinct-flatMap : (l : List A) → Distinct l → ((x : A) → Mem x l → Distinct (f x))
+      → ((x y : A) → Mem x l → Mem y l → (u : B) → Mem u (f x) → Mem u (f y) → x ≡ y) → Distinct (flatMap f l)
   unfolding flatMap
   distinct-flatMap [] d h g = tt
   distinct-flatMap (x ∷ l) d h g = distinct-append (f x) (flatMap f l) (h x (List·Memᴰ·head refl))
@@ -137,5 +146,6 @@ module _ {A B : Type 0} (f : A → List B) where
   pub precedes-flatMap-across : (l : List A) (x y : A) (u v : B) → Precedes l x y → Mem u (f x) → Mem v (f y) → Precedes (flatMap f l) u v
   unfolding flatMap
   precedes-flatMap-across [] x y u v p m n = absurd p
-  precedes-flatMap-across (z ∷ l) x y u v (inl p) m n = precedes-across (f z) (flatMap f l) u v (subst (λ w. Mem u (f w)) (p .0) m) (mem-flatMap f l (p .1) n)
+  precedes-flatMap-across (z ∷ l) x y u v (inl p) m n = precedes-across (f z) (flatMap f l) u v (subst (λ w. Mem u (f w)) (p .0) m)
+      (mem-flatMap f l (p .1) n)
   precedes-flatMap-across (z ∷ l) x y u v (inr p) m n = precedes-right (f z) (flatMap f l) u v (precedes-flatMap-across l x y u v p m n)

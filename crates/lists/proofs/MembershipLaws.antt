@@ -14,12 +14,12 @@ use Rattle.lists.specs.Membership.{Mem, All, Distinct, SameMembers}
 
 -- ---- a member cuts the list in two
 
-pub record Cut {A : Type 0} (x : A) (l : List A) : Type 0 where
+pub record CoefficientSection {A : Type 0} (x : A) (l : List A) : Type 0 where
   pub front : List A
   pub back : List A
   pub eq : l ≡ front ++ x ∷ back
 
-pub cut : {A : Type 0} {x : A} {l : List A} → Mem x l → Cut x l
+pub cut : {A : Type 0} {x : A} {l : List A} → Mem x l → CoefficientSection x l
 cut (List·Memᴰ·head {xs = r} e) = record { front = []; back = r; eq = ap (λ y. y ∷ r) (sym e) }
 cut (List·Memᴰ·tail {x = y} m) = let c = cut m in record { front = y ∷ c .front; back = c .back; eq = ap (λ l. y ∷ l) (c .eq) }
 
@@ -93,7 +93,8 @@ module _ {A : Type 0} (P : A → Type 0) where
   pub getD-all : (l : List A) (d : A) → ((i : ℕ) → i < length l → P (getD l i d)) → All P l
   getD-all l d h x m = let r = mem-getD d m in subst P (r .2) (h (r .0) (r .1))
 
-pub all-map : {A B : Type 0} (f : A → B) (P : A → Type 0) (Q : B → Type 0) (l : List A) → ((x : A) → Mem x l → P x ↔ Q (f x)) → All P l ↔ All Q (map f l)
+pub all-map : {A B : Type 0} (f : A → B) (P : A → Type 0) (Q : B → Type 0) (l : List A) → ((x : A) → Mem x l → P x ↔ Q (f x))
+    → All P l ↔ All Q (map f l)
 all-map f P Q l h = (
   λ a y m. let r = Memᴰ·of-map f l m in subst Q (r .2) (h (r .0) (r .1) .0 (a (r .0) (r .1))),
   λ a x m. h x m .1 (a (f x) (Memᴰ·map f m)),
@@ -144,7 +145,8 @@ module _ {A : Type 0} where
   distinct-fits [] ys d h = omega arith
   distinct-fits (x ∷ xs) ys d h =
       let c = cut (h x (List·Memᴰ·head refl)) in
-      let rest : (y : A) → Mem y xs → Mem y (c .front ++ c .back) = λ y m. ⊎-elim (λ e. absurd (d .0 (Memᴰ·cast (sym e) m))) (λ n. n) (mem-drop x (c .front) (c .back) (subst (Mem y) (c .eq) (h y (List·Memᴰ·tail m)))) in
+      let rest : (y : A) → Mem y xs → Mem y (c .front ++ c .back) = λ y m. ⊎-elim (λ e. absurd (d .0 (Memᴰ·cast (sym e) m))) (λ n. n)
+      (mem-drop x (c .front) (c .back) (subst (Mem y) (c .eq) (h y (List·Memᴰ·tail m)))) in
       let k = distinct-fits xs (c .front ++ c .back) (d .1) rest in
       omega (arith, ap length (c .eq), length-append (c .front) (x ∷ c .back), length-append (c .front) (c .back))
 
@@ -183,7 +185,8 @@ length-zipWith f (x ∷ xs) (y ∷ ys) e = ap suc (length-zipWith f xs ys (omega
 -- ---- two lists taken together, one element more
 
 module _ {A B C : Type 0} (f : A → B → C) (a : A) (b : B) where
-  zipWith-snoc : (k : ℕ) (xs : List A) (ys : List B) → k < length xs → k < length ys → zipWith f (take (suc k) xs) (take (suc k) ys) ≡ zipWith f (take k xs) (take k ys) ++ (f (getD xs k a) (getD ys k b) ∷ [])
+  zipWith-snoc : (k : ℕ) (xs : List A) (ys : List B) → k < length xs → k < length ys
+      → zipWith f (take (suc k) xs) (take (suc k) ys) ≡ zipWith f (take k xs) (take k ys) ++ (f (getD xs k a) (getD ys k b) ∷ [])
   unfolding zipWith
   zipWith-snoc k [] ys h g = absurd (omega arith)
   zipWith-snoc k (x ∷ xs) [] h g = absurd (omega arith)
@@ -191,5 +194,7 @@ module _ {A B C : Type 0} (f : A → B → C) (a : A) (b : B) where
   zipWith-snoc (suc k) (x ∷ xs) (y ∷ ys) h g = ap (f x y ∷_) (zipWith-snoc k xs ys (omega arith) (omega arith))
 
   pub zipWith-more : (k : ℕ) (r : List C) (xs : List A) (ys : List B) (z : C) → k < length r → k < length xs → k < length ys
-      → take k r ≡ zipWith f (take k xs) (take k ys) → z ≡ f (getD xs k a) (getD ys k b) → take (k + 1) (set r k z) ≡ zipWith f (take (k + 1) xs) (take (k + 1) ys)
-  zipWith-more k r xs ys z h hx hy e q = rw add-one (take-suc-set r k z h ∙ ap (_++ (z ∷ [])) e ∙ ap (λ w. zipWith f (take k xs) (take k ys) ++ (w ∷ [])) q ∙ sym (zipWith-snoc k xs ys hx hy))
+      → take k r ≡ zipWith f (take k xs) (take k ys) → z ≡ f (getD xs k a) (getD ys k b)
+      → take (k + 1) (set r k z) ≡ zipWith f (take (k + 1) xs) (take (k + 1) ys)
+  zipWith-more k r xs ys z h hx hy e q = rw add-one (take-suc-set r k z h ∙ ap (_++ (z ∷ [])) e
+      ∙ ap (λ w. zipWith f (take k xs) (take k ys) ++ (w ∷ [])) q ∙ sym (zipWith-snoc k xs ys hx hy))

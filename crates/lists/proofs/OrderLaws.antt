@@ -85,7 +85,8 @@ module _ {A : Type 0} where
   precedes-cases (z ∷ l) (List·Memᴰ·head e) (List·Memᴰ·head f) = inl (e ∙ sym f)
   precedes-cases (z ∷ l) (List·Memᴰ·head e) (List·Memᴰ·tail n) = inr (inl (inl (e, n)))
   precedes-cases (z ∷ l) (List·Memᴰ·tail m) (List·Memᴰ·head f) = inr (inr (inl (f, m)))
-  precedes-cases (z ∷ l) (List·Memᴰ·tail m) (List·Memᴰ·tail n) = ⊎-elim inl (λ c. inr (⊎-elim (λ p. inl (inr p)) (λ p. inr (inr p)) c)) (precedes-cases l m n)
+  precedes-cases (z ∷ l) (List·Memᴰ·tail m) (List·Memᴰ·tail n) = ⊎-elim inl (λ c. inr (⊎-elim (λ p. inl (inr p)) (λ p. inr (inr p)) c))
+      (precedes-cases l m n)
 
   pub precedes-irrefl : (l : List A) → Distinct l → (x : A) → Precedes l x x → ⊥
   precedes-irrefl [] d x p = p
@@ -105,7 +106,8 @@ module _ {A : Type 0} where
   -- in a list of two parts: in the first, across, or in the second
   pub precedes-append : (a b : List A) (x y : A) → Precedes (a ++ b) x y → Precedes a x y ⊎ ((Mem x a × Mem y b) ⊎ Precedes b x y)
   precedes-append [] b x y p = inr (inr p)
-  precedes-append (z ∷ a) b x y (inl p) = ⊎-elim (λ m. inl (inl (p .0, m))) (λ m. inr (inl (List·Memᴰ·head (p .0), m))) (List·Memᴰ·append-cases a (p .1))
+  precedes-append (z ∷ a) b x y (inl p) = ⊎-elim (λ m. inl (inl (p .0, m))) (λ m. inr (inl (List·Memᴰ·head (p .0), m)))
+      (List·Memᴰ·append-cases a (p .1))
   precedes-append (z ∷ a) b x y (inr p) =
       ⊎-elim (λ q. inl (inr q)) (λ q. inr (⊎-elim (λ m. inl (List·Memᴰ·tail (m .0), m .1)) inr q)) (precedes-append a b x y p)
 
@@ -159,7 +161,8 @@ module _ {A : Type 0} (R : A → A → Type 0) where
     first-same x y xs ys o o′ (List·Memᴰ·tail m) (List·Memᴰ·tail n) = absurd (irreflexive x (transitive x y x (o .0 y n) (o′ .0 x m)))
 
     rest-into : (x y : A) (xs ys : List A) → x ≡ y → Ordered R (x ∷ xs) → ((z : A) → Mem z (x ∷ xs) → Mem z (y ∷ ys)) → (z : A) → Mem z xs → Mem z ys
-    rest-into x y xs ys e o h z m = ⊎-elim (λ f. absurd (irreflexive x (subst (R x) (f ∙ sym e) (o .0 z m)))) (λ n. n) (List·Memᴰ·cases-cons (h z (List·Memᴰ·tail m)))
+    rest-into x y xs ys e o h z m = ⊎-elim (λ f. absurd (irreflexive x (subst (R x) (f ∙ sym e) (o .0 z m)))) (λ n. n)
+        (List·Memᴰ·cases-cons (h z (List·Memᴰ·tail m)))
 
     -- members stand in order in one way only
     pub ordered-same : (xs ys : List A) → Ordered R xs → Ordered R ys → SameMembers xs ys → xs ≡ ys
@@ -168,4 +171,8 @@ module _ {A : Type 0} (R : A → A → Type 0) where
     ordered-same (x ∷ xs) [] o o′ s = absurd (List·Memᴰ·not-nil (s .into x (List·Memᴰ·head refl)))
     ordered-same (x ∷ xs) (y ∷ ys) o o′ s =
         let e : x ≡ y = first-same x y xs ys o o′ (s .into x (List·Memᴰ·head refl)) (s .from y (List·Memᴰ·head refl)) in
-        ap₂ _∷_ e (ordered-same xs ys (o .1) (o′ .1) (record { into = rest-into x y xs ys e o (s .into); from = rest-into y x ys xs (sym e) o′ (s .from) }))
+        ap₂ _∷_ e (ordered-same xs ys (o .1) (o′ .1) (record {
+          into = rest-into x y xs ys e o (s .into);
+          from = rest-into y x ys xs (sym e) o′
+              (s .from);
+        }))

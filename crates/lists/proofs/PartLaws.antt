@@ -49,22 +49,32 @@ module _ {ℓ} {A : Type ℓ} where
   take-put o p xs n h k = take-append-le n (take p o) (xs ++ drop (p + length xs) o) (let e = length-take-le p o k in omega arith) ∙ take-take n p o h
 
   pub take-put-end : (o : List A) (p : ℕ) (xs : List A) → p ≤ length o → take (p + length xs) (put o p xs) ≡ take p o ++ xs
-  take-put-end o p xs h = ap (take (p + length xs)) (put-parts o p xs) ∙ take-at (take p o ++ xs) (drop (p + length xs) o) (p + length xs) (length-front o p xs h)
+  take-put-end o p xs h = ap (take (p + length xs)) (put-parts o p xs)
+      ∙ take-at (take p o ++ xs) (drop (p + length xs) o) (p + length xs) (length-front o p xs h)
 
   pub drop-put : (o : List A) (p : ℕ) (xs : List A) (n : ℕ) → p + length xs ≤ n → p ≤ length o → drop n (put o p xs) ≡ drop n o
   drop-put o p xs n h k = let m = n - (p + length xs) in let e : n ≡ p + length xs + m = omega arith in
-      rw (e, ← (drop-drop m (p + length xs) (put o p xs)), ← (drop-drop m (p + length xs) o), put-parts o p xs, drop-at (take p o ++ xs) (drop (p + length xs) o) (p + length xs) (length-front o p xs k))
+      rw (
+        e,
+        ← (drop-drop m (p + length xs) (put o p xs)),
+        ← (drop-drop m (p + length xs) o),
+        put-parts o p xs,
+        drop-at (take p o ++ xs)
+            (drop (p + length xs) o) (p + length xs) (length-front o p xs k),
+      )
 
   -- the part that was written
   pub put-written : (o : List A) (p : ℕ) (xs : List A) → p ≤ length o → take (length xs) (drop p (put o p xs)) ≡ xs
   unfolding put
-  put-written o p xs h = ap (take (length xs)) (drop-at (take p o) (xs ++ drop (p + length xs) o) p (length-take-le p o h)) ∙ take-at xs (drop (p + length xs) o) (length xs) refl
+  put-written o p xs h = ap (take (length xs)) (drop-at (take p o) (xs ++ drop (p + length xs) o) p (length-take-le p o h))
+      ∙ take-at xs (drop (p + length xs) o) (length xs) refl
 
   pub put-put : (o : List A) (p : ℕ) (xs ys : List A) → p + length xs ≤ length o → put (put o p xs) (p + length xs) ys ≡ put o p (xs ++ ys)
   unfolding put
   put-put o p xs ys h =
       let rest : drop (p + length xs + length ys) (put o p xs) ≡ drop (p + length (xs ++ ys)) o =
-      drop-put o p xs (p + length xs + length ys) (omega arith) (omega arith) ∙ ap (λ n. drop n o) (add-assoc p (length xs) (length ys) ∙ ap (p +_) (sym (length-append xs ys))) in
+      drop-put o p xs (p + length xs + length ys) (omega arith) (omega arith)
+      ∙ ap (λ n. drop n o) (add-assoc p (length xs) (length ys) ∙ ap (p +_) (sym (length-append xs ys))) in
       ap₂ (λ v w. v ++ (ys ++ w)) (take-put-end o p xs (omega arith)) rest
       ∙ append-assoc (take p o) xs (ys ++ drop (p + length (xs ++ ys)) o)
       ∙ ap (take p o ++_) (sym (append-assoc xs ys (drop (p + length (xs ++ ys)) o)))
@@ -75,7 +85,8 @@ module _ {ℓ} {A : Type ℓ} where
   set-is-put o p a h = set-split o p a h ∙ ap (λ n. take p o ++ (a ∷ drop n o)) (sym (add-one p))
 
   pub set-put : (o : List A) (p : ℕ) (xs : List A) (a : A) → p + length xs < length o → set (put o p xs) (p + length xs) a ≡ put o p (xs ++ (a ∷ []))
-  set-put o p xs a h = set-is-put (put o p xs) (p + length xs) a (let n = length-put o p xs (omega arith) in omega arith) ∙ put-put o p xs (a ∷ []) (omega arith)
+  set-put o p xs a h = set-is-put (put o p xs) (p + length xs) a (let n = length-put o p xs (omega arith) in omega arith)
+      ∙ put-put o p xs (a ∷ []) (omega arith)
 
   pub put-sets : (o : List A) (p : ℕ) (xs : List A) → p + length xs ≤ length o → sets o p xs ≡ put o p xs
   put-sets o p xs h = sets-eq xs o p h ∙ sym (put-parts o p xs)
@@ -83,14 +94,17 @@ module _ {ℓ} {A : Type ℓ} where
   -- what is read back
   pub getD-put-before : (o : List A) (p : ℕ) (xs : List A) (i : ℕ) (d : A) → i < p → p ≤ length o → getD (put o p xs) i d ≡ getD o i d
   unfolding put
-  getD-put-before o p xs i d h k = List·getD-append (take p o) (xs ++ drop (p + length xs) o) d i (let e = length-take-le p o k in omega arith) ∙ getD-take p o i d h
+  getD-put-before o p xs i d h k = List·getD-append (take p o) (xs ++ drop (p + length xs) o) d i (let e = length-take-le p o k in omega arith)
+      ∙ getD-take p o i d h
 
   pub getD-put : (o : List A) (p : ℕ) (xs : List A) (i : ℕ) (d : A) → i < length xs → p ≤ length o → getD (put o p xs) (p + i) d ≡ getD xs i d
-  getD-put o p xs i d h k = sym (getD-drop p (put o p xs) i d) ∙ sym (getD-take (length xs) (drop p (put o p xs)) i d h) ∙ ap (λ l. getD l i d) (put-written o p xs k)
+  getD-put o p xs i d h k = sym (getD-drop p (put o p xs) i d) ∙ sym (getD-take (length xs) (drop p (put o p xs)) i d h)
+      ∙ ap (λ l. getD l i d) (put-written o p xs k)
 
   pub getD-put-after : (o : List A) (p : ℕ) (xs : List A) (i : ℕ) (d : A) → p + length xs ≤ i → p ≤ length o → getD (put o p xs) i d ≡ getD o i d
   getD-put-after o p xs i d h k =
-      ap (λ n. getD (put o p xs) n d) (sym (add-zero i)) ∙ sym (getD-drop i (put o p xs) 0 d) ∙ ap (λ l. getD l 0 d) (drop-put o p xs i h k) ∙ getD-drop i o 0 d ∙ ap (λ n. getD o n d) (add-zero i)
+      ap (λ n. getD (put o p xs) n d) (sym (add-zero i)) ∙ sym (getD-drop i (put o p xs) 0 d) ∙ ap (λ l. getD l 0 d) (drop-put o p xs i h k)
+      ∙ getD-drop i o 0 d ∙ ap (λ n. getD o n d) (add-zero i)
 
 -- ---- the numbers of rows
 
@@ -159,13 +173,15 @@ module _ {ℓ} {A : Type ℓ} (w : ℕ) where
   -- a row written after the rows
   pub rows-put-next : (n : ℕ) (l xs : List A) → length xs ≡ w → n * w ≤ length l → rows w (suc n) (put l (n * w) xs) ≡ rows w n l ++ (xs ∷ [])
   rows-put-next n l xs e h = rows-suc n (put l (n * w) xs)
-      ∙ ap₂ (λ r x. r ++ (x ∷ [])) (rows-put n l (n * w) xs (omega arith) h) (ap (λ k. take k (drop (n * w) (put l (n * w) xs))) (sym e) ∙ put-written l (n * w) xs h)
+      ∙ ap₂ (λ r x. r ++ (x ∷ [])) (rows-put n l (n * w) xs (omega arith) h) (ap (λ k. take k (drop (n * w) (put l (n * w) xs))) (sym e)
+      ∙ put-written l (n * w) xs h)
 
   -- joined again
   pub flatMap-rows : (n : ℕ) (l : List A) → flatMap (λ r. r) (rows w n l) ≡ take (n * w) l
   unfolding rows flatMap
   flatMap-rows zero l = rw (zero-mul w)
-  flatMap-rows (suc n) l = ap (take w l ++_) (flatMap-rows n (drop w l)) ∙ sym (take-add w (n * w) l) ∙ ap (λ k. take k l) (add-comm w (n * w) ∙ sym (suc-mul n w))
+  flatMap-rows (suc n) l = ap (take w l ++_) (flatMap-rows n (drop w l)) ∙ sym (take-add w (n * w) l)
+      ∙ ap (λ k. take k l) (add-comm w (n * w) ∙ sym (suc-mul n w))
 
 module _ {A : Type 0} (w : ℕ) where
   pub rows-width : (n : ℕ) (l : List A) → n * w ≤ length l → All (λ r. length r ≡ w) (rows w n l)
@@ -179,4 +195,5 @@ module _ {A : Type 0} (w : ℕ) where
   unfolding rows flatMap
   rows-flatMap f [] h = refl
   rows-flatMap f (x ∷ l) h = let e = h x (List·Memᴰ·head refl) in
-      ap₂ _∷_ (take-at (f x) (flatMap f l) w e) (ap (rows w (length l)) (drop-at (f x) (flatMap f l) w e) ∙ rows-flatMap f l (λ y m. h y (List·Memᴰ·tail m)))
+      ap₂ _∷_ (take-at (f x) (flatMap f l) w e) (ap (rows w (length l)) (drop-at (f x) (flatMap f l) w e)
+      ∙ rows-flatMap f l (λ y m. h y (List·Memᴰ·tail m)))

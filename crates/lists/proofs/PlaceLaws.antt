@@ -56,7 +56,8 @@ module _ {ℓ} {A : Type ℓ} (f g : List A → List A) where
   under-inverse h n l = under-inverse-at n l (λ _. h (drop n l))
 
 -- of two lists of one length, each with its change
-pub under-lengths : {A B : Type 0} (f : List A → List A) (g : List B → List B) → ((l : List A) (m : List B) → length l ≡ length m → length (f l) ≡ length (g m))
+pub under-lengths : {A B : Type 0} (f : List A → List A) (g : List B → List B)
+    → ((l : List A) (m : List B) → length l ≡ length m → length (f l) ≡ length (g m))
     → (n : ℕ) (l : List A) (m : List B) → length l ≡ length m → length (under n f l) ≡ length (under n g m)
 unfolding under
 under-lengths f g h zero l m e = h l m e
@@ -66,7 +67,8 @@ under-lengths f g h (suc n) (x ∷ l) [] e = absurd (omega arith)
 under-lengths f g h (suc n) (x ∷ l) (y ∷ m) e = ap suc (under-lengths f g h n l m (omega arith))
 
 -- a change that adds one element
-pub under-longer : {A : Type 0} (f : List A → List A) → ((x : A) (l : List A) → length (f (x ∷ l)) ≡ suc (suc (length l))) → (n : ℕ) (l : List A) → n < length l → length (under n f l) ≡ suc (length l)
+pub under-longer : {A : Type 0} (f : List A → List A) → ((x : A) (l : List A) → length (f (x ∷ l)) ≡ suc (suc (length l))) → (n : ℕ) (l : List A)
+    → n < length l → length (under n f l) ≡ suc (length l)
 unfolding under
 under-longer f h n [] e = absurd (omega arith)
 under-longer f h zero (x ∷ l) e = h x l
@@ -176,7 +178,8 @@ module _ {ℓ} {A : Type ℓ} (k : List A → List (List A)) where
   unfolding underEach
   underEach-split zero l h = sym (map-id (k l))
   underEach-split (suc n) [] h = absurd (omega arith)
-  underEach-split (suc n) (x ∷ l) h = ap (map (λ t. x ∷ t)) (underEach-split n l (omega arith)) ∙ map-map (λ t. x ∷ t) (λ t. take n l ++ t) (k (drop n l))
+  underEach-split (suc n) (x ∷ l) h = ap (map (λ t. x ∷ t)) (underEach-split n l (omega arith))
+      ∙ map-map (λ t. x ∷ t) (λ t. take n l ++ t) (k (drop n l))
 
   pub underEach-beyond : (n : ℕ) (l : List A) → length l < n → underEach n k l ≡ l ∷ []
   unfolding underEach
@@ -185,7 +188,8 @@ module _ {ℓ} {A : Type ℓ} (k : List A → List (List A)) where
   underEach-beyond (suc n) (x ∷ l) h = ap (map (λ t. x ∷ t)) (underEach-beyond n l (omega arith))
 
   -- each result is what stood before the place and a result of the rest
-  pub underEach-mem : {v : List A} (n : ℕ) (l : List A) → n ≤ length l → Mem v (underEach n k l) → (t : List A) × Mem t (k (drop n l)) × (take n l ++ t ≡ v)
+  pub underEach-mem : {v : List A} (n : ℕ) (l : List A) → n ≤ length l → Mem v (underEach n k l) → (t : List A) × Mem t (k (drop n l))
+      × (take n l ++ t ≡ v)
   underEach-mem {v} n l h m = Memᴰ·of-map (λ t. take n l ++ t) (k (drop n l)) (subst (Mem v) (underEach-split n l h) m)
 
   pub mem-underEach : {t : List A} (n : ℕ) (l : List A) → n ≤ length l → Mem t (k (drop n l)) → Mem (take n l ++ t) (underEach n k l)

@@ -94,12 +94,14 @@ module _ {A : Type 0} (t : A → Bool) where
   pub all-fails : (l : List A) → (T (all t l) → ⊥) → (x : A) × Mem x l × (T (t x) → ⊥)
   unfolding all
   all-fails [] h = absurd (h tt)
-  all-fails (x ∷ l) h = ⊎-elim (λ a. let r = all-fails l (λ b. h (and-intro (t x) (all t l) a b)) in (r .0, List·Memᴰ·tail (r .1), r .2)) (λ n. (x, List·Memᴰ·head refl, n)) (T-cases (t x))
+  all-fails (x ∷ l) h = ⊎-elim (λ a. let r = all-fails l (λ b. h (and-intro (t x) (all t l) a b)) in (r .0, List·Memᴰ·tail (r .1), r .2))
+      (λ n. (x, List·Memᴰ·head refl, n)) (T-cases (t x))
 
   pub any-some : (l : List A) → T (any t l) → (x : A) × Mem x l × T (t x)
   unfolding any
   any-some [] h = absurd h
-  any-some (x ∷ l) h = ⊎-elim (λ g. (x, List·Memᴰ·head refl, g)) (λ g. let r = any-some l g in (r .0, List·Memᴰ·tail (r .1), r .2)) (or-cases (t x) (any t l) h)
+  any-some (x ∷ l) h = ⊎-elim (λ g. (x, List·Memᴰ·head refl, g)) (λ g. let r = any-some l g in (r .0, List·Memᴰ·tail (r .1), r .2))
+      (or-cases (t x) (any t l) h)
 
   pub some-any : {x : A} (l : List A) → Mem x l → T (t x) → T (any t l)
   unfolding any
@@ -152,13 +154,15 @@ module _ {A : Type 0} (t : A → Bool) where
       go : T (t y) ⊎ (T (t y) → ⊥) → Mem x (cond (t y) (y ∷ select t l) (select t l)) → (Mem x (select t l) → Mem x l × T (t x)) → Found
       go (inl h) j rest = ⊎-elim (λ e. (List·Memᴰ·head e, subst (λ z. T (t z)) (sym e) h)) (λ k. let r = rest k in (List·Memᴰ·tail (r .0), r .1))
           (List·Memᴰ·cases-cons (subst (λ b. Mem x (cond b (y ∷ select t l) (select t l))) (T-true (t y) h) j))
-      go (inr h) j rest = let r = rest (subst (λ b. Mem x (cond b (y ∷ select t l) (select t l))) (not-T-false (t y) h) j) in (List·Memᴰ·tail (r .0), r .1)
+      go (inr h) j rest = let r = rest (subst (λ b. Mem x (cond b (y ∷ select t l) (select t l))) (not-T-false (t y) h) j)
+          in (List·Memᴰ·tail (r .0), r .1)
 
   pub mem-select : {x : A} (l : List A) → Mem x l → T (t x) → Mem x (select t l)
   unfolding select
   mem-select {x} (y ∷ l) (List·Memᴰ·head e) h =
       subst (λ b. Mem x (cond b (y ∷ select t l) (select t l))) (sym (T-true (t y) (subst (λ z. T (t z)) e h))) (List·Memᴰ·head e)
-  mem-select {x} (y ∷ l) (List·Memᴰ·tail m) h = let r = mem-select l m h in cond-cases (λ k. Mem x k) (t y) (y ∷ select t l) (select t l) (λ _. List·Memᴰ·tail r) (λ _. r)
+  mem-select {x} (y ∷ l) (List·Memᴰ·tail m) h = let r = mem-select l m h in cond-cases (λ k. Mem x k) (t y) (y ∷ select t l) (select t l)
+      (λ _. List·Memᴰ·tail r) (λ _. r)
 
 pub select-ordered : {A : Type 0} (R : A → A → Type 0) (t : A → Bool) (l : List A) → Ordered R l → Ordered R (select t l)
 unfolding select
@@ -223,7 +227,8 @@ module _ {A : Type 0} (t : A → A → Bool) (x : A) where
   unfolding without
   without-append [] m = refl
   without-append (z ∷ l) m = rw (without-append l m)
-      (cond-cases (λ w. cond (t x z) (without t x l ++ without t x m) (z ∷ (without t x l ++ without t x m)) ≡ w ++ without t x m) (t x z) (without t x l) (z ∷ without t x l)
+      (cond-cases (λ w. cond (t x z) (without t x l ++ without t x m) (z ∷ (without t x l ++ without t x m)) ≡ w ++ without t x m) (t x z)
+      (without t x l) (z ∷ without t x l)
       (λ e. rw e) (λ e. rw e))
 
   -- none passes
@@ -277,16 +282,19 @@ module _ {A : Type 0} (t : A → A → Bool) (d : Decides t) where
   distinct-unique (z ∷ l) e = rw (distinct-unique l (e .1)) (ap (z ∷_) (without-none t z l (λ y m h. e .0 (Memᴰ·cast (d .equal z y h) m))))
 
   any-unique : (x : A) (l : List A) → any (t x) (unique t l) ≡ any (t x) l
-  any-unique x l = T-same (any (t x) (unique t l)) (any (t x) l) (λ h. mem-any l (unique-mem l (any-mem x (unique t l) h))) (λ h. mem-any (unique t l) (mem-unique l (any-mem x l h)))
+  any-unique x l = T-same (any (t x) (unique t l)) (any (t x) l) (λ h. mem-any l (unique-mem l (any-mem x (unique t l) h)))
+      (λ h. mem-any (unique t l) (mem-unique l (any-mem x l h)))
 
   unique-more : (l : List A) (x : A) → unique t (l ++ (x ∷ [])) ≡ cond (any (t x) l) (unique t l) (unique t l ++ (x ∷ []))
   unfolding unique any without
   unique-more [] x = refl
   unique-more (y ∷ l) x = rw (unique-more l x, test-sym x y)
       (cond-cases (λ w. y ∷ without t y w ≡ cond (t y x || any (t x) l) (y ∷ without t y (unique t l)) (y ∷ (without t y (unique t l) ++ (x ∷ []))))
-      (any (t x) l) (unique t l) (unique t l ++ (x ∷ [])) (λ e. rw (e, or-true (t y x))) (λ e. rw (e, or-false (t y x), without-append t y (unique t l) (x ∷ [])) (last (t y x))))
+      (any (t x) l) (unique t l) (unique t l ++ (x ∷ [])) (λ e. rw (e, or-true (t y x)))
+      (λ e. rw (e, or-false (t y x), without-append t y (unique t l) (x ∷ [])) (last (t y x))))
     where
-      last : (b : Bool) → y ∷ (without t y (unique t l) ++ cond b [] (x ∷ [])) ≡ cond b (y ∷ without t y (unique t l)) (y ∷ (without t y (unique t l) ++ (x ∷ [])))
+      last : (b : Bool) → y ∷ (without t y (unique t l) ++ cond b [] (x ∷ [])) ≡ cond b (y ∷ without t y (unique t l))
+          (y ∷ (without t y (unique t l) ++ (x ∷ [])))
       last true = rw (append-nil (without t y (unique t l)))
       last false = refl
 

@@ -51,7 +51,8 @@ use Rattle.model.proofs.Promise.WholeLaws as WholeLaws
 pub worked-cases : AllHold cases
 worked-cases = CaseLaws.cases-hold
 
-pub grammar-exact : (b : List ℕ) (K : Ticket) → All (λ x. x < 256) b → (decode b ≡ accepted K) ↔ ((b ≡ bytesOf (ticketWords K)) × TicketRanges K × WellFormed (K .nest))
+pub grammar-exact : (b : List ℕ) (K : Ticket) → All (λ x. x < 256) b
+    → (decode b ≡ accepted K) ↔ ((b ≡ bytesOf (ticketWords K)) × TicketRanges K × WellFormed (K .nest))
 grammar-exact = TicketLaws.decode-iff
 
 -- ---- points; the count that judge answers is that of the partial points of full depth
@@ -62,7 +63,8 @@ points-rise = PointLaws.iterations-rise
 pub points-inside : (k : ℕ) (N : List Loop) → All Runs N → (y : List ℤ) → Mem y (partialPoints k N) ↔ Inside (take k N) [] y
 points-inside = PointLaws.partial-inside
 
-pub iterations-counted : (b : List ℕ) {c : ℕ} → judge b ≡ accepted c → (j : Judged) × (judged b ≡ accepted j) × (c ≡ length (partialPoints (length (j .ticket .nest .loops)) (j .ticket .nest .loops)))
+pub iterations-counted : (b : List ℕ) {c : ℕ} → judge b ≡ accepted c → (j : Judged) × (judged b ≡ accepted j)
+    × (c ≡ length (partialPoints (length (j .ticket .nest .loops)) (j .ticket .nest .loops)))
 iterations-counted b = PromiseLaws.judge-counts (decode b)
 
 -- ---- steps: `undo` maps the new points one to one onto the old
@@ -76,7 +78,8 @@ pub signs-after : (t : Step) → Proper t → (p q : List ℤ) → length p ≡ 
 signs-after = VectorLaws.step-signs
 
 -- for exchange and reversal exactly that one
-pub turns-exact : (t : Step) → TradeLaws.Turns t → (p q : List ℤ) → length p ≡ length q → vectors t (signs p q) ≡ signs (forward t p) (forward t q) ∷ []
+pub turns-exact : (t : Step) → TradeLaws.Turns t → (p q : List ℤ) → length p ≡ length q
+    → vectors t (signs p q) ≡ signs (forward t p) (forward t q) ∷ []
 turns-exact = TradeLaws.turns-signs
 
 pub backwards-means : (p q : List ℤ) → backwards (signs p q) ≡ earlier q p
@@ -112,28 +115,34 @@ pub judge-refuses : (b : List ℕ) {n p : ℕ} → judge b ≡ refused n p → R
 judge-refuses b = ReasonLaws.judge-because (Explained b) (decode b) (λ n p e. decode-explained b e)
 
 pub write-refuses : (b buffer : List ℕ) {n p : ℕ} → write b buffer .answer ≡ refused n p
-    → (write b buffer .memory ≡ buffer) × (ReasonLaws.Because (Explained b) (decode b) n p ⊎ ((j : Judged) × (judged b ≡ accepted j) × EntryLaws.Short (encode (j .new)) buffer n p))
+    → (write b buffer .memory ≡ buffer) × (ReasonLaws.Because (Explained b) (decode b) n p
+    ⊎ ((j : Judged) × (judged b ≡ accepted j) × EntryLaws.Short (encode (j .new)) buffer n p))
 write-refuses b = ReasonLaws.write-because (Explained b) (decode b) (λ n p e. decode-explained b e)
 
 pub list-refuses : (b buffer : List ℕ) {n p : ℕ} → list b buffer .answer ≡ refused n p
-    → (list b buffer .memory ≡ buffer) × (ReasonLaws.NotAdmitted (Explained b) (decode b) n p ⊎ ((K : Ticket) × (admit b ≡ accepted K) × EntryLaws.Short (listing (K .nest)) buffer n p))
+    → (list b buffer .memory ≡ buffer) × (ReasonLaws.NotAdmitted (Explained b) (decode b) n p
+    ⊎ ((K : Ticket) × (admit b ≡ accepted K) × EntryLaws.Short (listing (K .nest)) buffer n p))
 list-refuses b = ReasonLaws.list-because (Explained b) (decode b) (λ n p e. decode-explained b e)
 
 pub quick-refuses : (b : List ℕ) (m k : ℕ) {n p : ℕ} → quick b m k ≡ refused n p
-    → ReasonLaws.NotAdmitted (Explained b) (decode b) n p ⊎ ((K : Ticket) × (admit b ≡ accepted K) × (EntryLaws.NoAccess (allAccesses (K .nest)) m n p ⊎ EntryLaws.NoAccess (allAccesses (K .nest)) k n p))
+    → ReasonLaws.NotAdmitted (Explained b) (decode b) n p ⊎ ((K : Ticket) × (admit b ≡ accepted K)
+    × (EntryLaws.NoAccess (allAccesses (K .nest)) m n p ⊎ EntryLaws.NoAccess (allAccesses (K .nest)) k n p))
 quick-refuses b = ReasonLaws.quick-because (Explained b) (decode b) (λ n p e. decode-explained b e)
 
 pub run-refuses : (b words : List ℕ) {n p : ℕ} → runEntry b words .answer ≡ refused n p
-    → (runEntry b words .memory ≡ words) × (ReasonLaws.Because (Explained b) (decode b) n p ⊎ ((j : Judged) × (judged b ≡ accepted j) × NotRun j words n p))
+    → (runEntry b words .memory ≡ words) × (ReasonLaws.Because (Explained b) (decode b) n p
+    ⊎ ((j : Judged) × (judged b ≡ accepted j) × NotRun j words n p))
 run-refuses b = ReasonLaws.run-because (Explained b) (decode b) (λ n p e. decode-explained b e)
 
 -- ---- the plain machine
 
-pub commute : (A : Accesses) (rules : Rules) (i j : Instance) → (T (conflict A i j) → ⊥) → (s : State) → perform A rules i (perform A rules j s) ≡ perform A rules j (perform A rules i s)
+pub commute : (A : Accesses) (rules : Rules) (i j : Instance) → (T (conflict A i j) → ⊥) → (s : State)
+    → perform A rules i (perform A rules j s) ≡ perform A rules j (perform A rules i s)
 commute = CommuteLaws.commute
 
 pub reordering : (A : Accesses) (rules : Rules) (xs ys : List Instance) → Distinct xs → Distinct ys → SameMembers xs ys
-    → ((i j : Instance) → Precedes xs i j → T (conflict A i j) → Precedes ys i j) → (s : State) → run (perform A rules) xs s ≡ run (perform A rules) ys s
+    → ((i j : Instance) → Precedes xs i j → T (conflict A i j) → Precedes ys i j) → (s : State)
+    → run (perform A rules) xs s ≡ run (perform A rules) ys s
 reordering A rules = CommuteLaws.reordering A rules (CommuteLaws.commute A rules)
 
 -- ---- demand 3, undivided: wherever judge, write or run gives 0, the original iterations of the new order are those of the old, each once; both
@@ -149,11 +158,14 @@ pub orders-agree : (b : List ℕ) {j : Judged} → judged b ≡ accepted j → P
 orders-agree b = PromiseLaws.judged-promise (decode b) (decode-sound b)
 
 pub written-nest : (b buffer : List ℕ) {c : ℕ} → write b buffer .answer ≡ accepted c
-    → (j : Judged) × (judged b ≡ accepted j) × EntryLaws.HandedOut (encode (j .new)) buffer c (write b buffer .memory) × (decodeNest (encode (j .new)) ≡ accepted (j .new))
+    → (j : Judged) × (judged b ≡ accepted j) × EntryLaws.HandedOut (encode (j .new)) buffer c (write b buffer .memory)
+    × (decodeNest (encode (j .new)) ≡ accepted (j .new))
 written-nest b = PromiseLaws.write-hands (decode b) (decode-sound b)
 
-pub listed-text : (b buffer : List ℕ) {c : ℕ} → list b buffer .answer ≡ accepted c → (K : Ticket) × (admit b ≡ accepted K) × EntryLaws.HandedOut (listing (K .nest)) buffer c (list b buffer .memory)
+pub listed-text : (b buffer : List ℕ) {c : ℕ} → list b buffer .answer ≡ accepted c → (K : Ticket) × (admit b ≡ accepted K)
+    × EntryLaws.HandedOut (listing (K .nest)) buffer c (list b buffer .memory)
 listed-text b = EntryLaws.list-accepted (decode b)
 
-pub run-store : (b words : List ℕ) {c : ℕ} → runEntry b words .answer ≡ accepted c → (j : Judged) × (judged b ≡ accepted j) × PromiseLaws.Left (j .ticket .nest) words (runEntry b words .memory)
+pub run-store : (b words : List ℕ) {c : ℕ} → runEntry b words .answer ≡ accepted c → (j : Judged) × (judged b ≡ accepted j)
+    × PromiseLaws.Left (j .ticket .nest) words (runEntry b words .memory)
 run-store b = PromiseLaws.run-leaves (decode b) (decode-sound b)

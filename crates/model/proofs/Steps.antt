@@ -4,7 +4,7 @@ pub mod LengthLaws
 pub mod SubscriptLaws
 pub mod InsideLaws
 pub mod ReversalLaws
-pub mod TidyLaws
+pub mod DeduplicatedLaws
 pub mod ExchangePartLaws
 pub mod CombineLaws
 pub mod ExchangeLaws

@@ -23,22 +23,22 @@ lastOf (x ∷ y ∷ p) = lastOf (y ∷ p)
 unfoldable pub beyond : ℕ → ℤ → Bool
 beyond m x = ltb m (natAbs x)
 
--- from loop k on, n loops: refused with `far` if a partial point of that depth has its last index beyond ±m, then with `crowded` if there
+-- from loop k on, n loops: refused with `far` if a partial point of that depth has its last index beyond ±m, then with `many` if there
 -- are more than `most` of them
 unfoldable pub survey : ℕ → ℕ → ℕ → ℕ → List Loop → ℕ → ℕ → Answer (Unit {0})
-survey far crowded m most N k zero = accepted tt
-survey far crowded m most N k (suc n) =
+survey far many m most N k zero = accepted tt
+survey far many m most N k (suc n) =
     require (not (any (λ p. beyond m (lastOf p)) (partialPoints k N))) far k
-    >> require (leb (length (partialPoints k N)) most) crowded k
-    >> survey far crowded m most N (suc k) n
+    >> require (leb (length (partialPoints k N)) most) many k
+    >> survey far many m most N (suc k) n
 
 -- 7, far index, and 8, crowded
 unfoldable pub space : List Loop → Answer (Unit {0})
 space N = survey 7 8 32767 mostPoints N 1 (length N)
 
 -- 13, sprawl, of a new nest
-unfoldable pub sprawl : List Loop → Answer (Unit {0})
-sprawl N = survey 13 13 100000 65536 N 1 (length N)
+unfoldable pub newSpace : List Loop → Answer (Unit {0})
+newSpace N = survey 13 13 100000 65536 N 1 (length N)
 
 -- ---- 9, off the array
 
@@ -51,8 +51,8 @@ outside [] xs = false
 outside (n ∷ ns) [] = false
 outside (n ∷ ns) (x ∷ xs) = (ltZ x (pos 0) || leZ (pos n) x) || outside ns xs
 
-unfoldable pub strays : List (List ℕ) → List ℤ → Access → Bool
-strays as′ p a = outside (extents as′ (a .array)) (map (subscriptAt p) (a .subscripts))
+unfoldable pub violates : List (List ℕ) → List ℤ → Access → Bool
+violates as′ p a = outside (extents as′ (a .array)) (map (subscriptAt p) (a .subscripts))
 
 -- the accesses of a statement in ticket order
 unfoldable pub accessesOf : Statement → List Access
@@ -62,7 +62,7 @@ accessesOf s = s .writes ++ s .reads
 unfoldable pub inArrays : List (List ℕ) → List (List ℤ) → ℕ → List Statement → Answer (Unit {0})
 inArrays as′ ps k [] = accepted tt
 inArrays as′ ps k (s ∷ ss) =
-    require (not (any (λ p. any (strays as′ p) (accessesOf s)) ps)) 9 k
+    require (not (any (λ p. any (violates as′ p) (accessesOf s)) ps)) 9 k
     >> inArrays as′ ps (suc k) ss
 
 -- 7, 8 and 9

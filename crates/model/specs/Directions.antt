@@ -110,7 +110,8 @@ signVectors (suc d) = flatMap (λ s. map (λ v. s ∷ v) (signVectors d)) (less 
 -- every line that there could be, by source, sink, kind F A O, then signs
 unfoldable pub allLines : ℕ → ℕ → List Line
 allLines n d =
-    flatMap (λ s. flatMap (λ t. flatMap (λ k. map (λ v. record { kind = k; source = s; sink = t; vector = v }) (signVectors d)) kinds) (upFrom 0 n)) (upFrom 0 n)
+    flatMap (λ s. flatMap (λ t. flatMap (λ k. map (λ v. record { kind = k; source = s; sink = t; vector = v }) (signVectors d)) kinds) (upFrom 0 n))
+    (upFrom 0 n)
 
 -- n statements, d loops
 unfoldable pub lines : Accesses → ℕ → ℕ → List (List ℤ) → List Line

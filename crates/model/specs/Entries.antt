@@ -53,7 +53,8 @@ accessNumber l n =
 -- quick: judges 1 to 9, then its access numbers
 unfoldable pub quickOf : Answer Ticket → ℕ → ℕ → Answer Independence
 quickOf d a b =
-    admitOf d >>= (λ T. accessNumber (allAccesses (T .nest)) a >>= (λ u. accessNumber (allAccesses (T .nest)) b >>= (λ v. accepted (quickTest (T .nest .loops) u v))))
+    admitOf d >>= (λ T. accessNumber (allAccesses (T .nest)) a >>= (λ u. accessNumber (allAccesses (T .nest)) b >>=
+    (λ v. accepted (quickTest (T .nest .loops) u v))))
 
 -- 15, opaque, at the first statement with rule 0, from number k on
 unfoldable pub transparent : ℕ → List Statement → Answer (Unit {0})
@@ -66,13 +67,13 @@ runnable d words =
     judgedOf d
     >>= (λ j. transparent 1 (j .ticket .nest .statements) >> require (eqb (length words) (total (j .ticket .nest .arrays))) 16 0 >> accepted j)
 
-unfoldable pub ran : Answer Judged → List ℕ → Outcome
-ran (refused n p) words = record { answer = refused n p; memory = words }
-ran (accepted j) words = record { answer = accepted (length (iterations (j .ticket .nest .loops))); memory = runNest (j .new) words }
+unfoldable pub runOutcome : Answer Judged → List ℕ → Outcome
+runOutcome (refused n p) words = record { answer = refused n p; memory = words }
+runOutcome (accepted j) words = record { answer = accepted (length (iterations (j .ticket .nest .loops))); memory = runNest (j .new) words }
 
 -- run: the nest runs in its new order
 unfoldable pub runOf : Answer Ticket → List ℕ → Outcome
-runOf d words = ran (runnable d words) words
+runOf d words = runOutcome (runnable d words) words
 
 -- ---- of a ticket's bytes
 

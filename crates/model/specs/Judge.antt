@@ -10,7 +10,7 @@ use Rattle.lists.specs.Tests.{all}
 use Rattle.model.specs.Answer.{Answer, accepted, require, _>>=_, _>>_}
 use Rattle.model.specs.Ticket.{Limit, Loop, Access, Step, Nest, Ticket}
 use Rattle.model.specs.Grammar.{decode}
-use Rattle.model.specs.Bounds.{admitted, sprawl, accessesOf}
+use Rattle.model.specs.Bounds.{admitted, newSpace, accessesOf}
 use Rattle.model.specs.Machine.{accesses, order}
 use Rattle.model.specs.Directions.{directions}
 use Rattle.model.specs.Steps.{vectorsAfter, somePointsBack}
@@ -72,7 +72,7 @@ pub record Judged : Type 0 where
 unfoldable pub judgeTicket : Ticket → Answer Judged
 judgeTicket T =
     judgeSteps 1 (T .steps) (directionsOf (T .nest)) (T .nest)
-    >>= (λ N. sprawl (N .loops) >> accepted (record { ticket = T; new = N }))
+    >>= (λ N. newSpace (N .loops) >> accepted (record { ticket = T; new = N }))
 
 -- 1 to 13
 unfoldable pub judgedOf : Answer Ticket → Answer Judged

@@ -38,7 +38,12 @@ skewCoefficients d c (x ∷ xs) = (x -ℤ (c *ℤ (getD xs d (pos 0)))) ∷ xs
 
 -- in b's own limits p b is p (new b) − p c a, and p c a moves across
 unfoldable pub skewLimit : ℕ → ℤ → Limit → Limit
-skewLimit a c l = record { multiplier = l .multiplier; constant = l .constant; coefficients = under a (onHead (λ x. x +ℤ (c *ℤ (pos (l .multiplier))))) (l .coefficients) }
+skewLimit a c l = record {
+  multiplier = l .multiplier;
+  constant = l .constant;
+  coefficients = under a
+      (onHead (λ x. x +ℤ (c *ℤ (pos (l .multiplier))))) (l .coefficients);
+}
 
 unfoldable pub skewInner : ℕ → ℕ → ℤ → List Loop → List Loop
 skewInner a d c [] = []
@@ -52,14 +57,23 @@ skewAt a d c (L ∷ N) = L ∷ under d (skewInner a d c) N
 
 -- p w S ≥ e − p (w − 1) and p w S ≤ e
 unfoldable pub sectionLower : ℕ → Limit → Limit
-sectionLower w l = record { multiplier = l .multiplier * w; constant = l .constant -ℤ pos (l .multiplier) *ℤ pos (w - 1); coefficients = l .coefficients }
+sectionLower w l = record {
+  multiplier = l .multiplier * w;
+  constant = l .constant -ℤ pos (l .multiplier) *ℤ pos (w - 1);
+  coefficients = l .coefficients;
+}
 
 unfoldable pub sectionUpper : ℕ → Limit → Limit
 sectionUpper w l = record { multiplier = l .multiplier * w; constant = l .constant; coefficients = l .coefficients }
 
 -- E gets each old limit with w × S moved across
 unfoldable pub elementLimit : ℕ → Limit → Limit
-elementLimit w l = record { multiplier = l .multiplier; constant = l .constant; coefficients = l .coefficients ++ (negℤ (pos (l .multiplier) *ℤ pos w) ∷ []) }
+elementLimit w l = record {
+  multiplier = l .multiplier;
+  constant = l .constant;
+  coefficients = l .coefficients ++
+      (negℤ (pos (l .multiplier) *ℤ pos w) ∷ []);
+}
 
 unfoldable pub constantLimit : ℕ → ℕ → Limit
 constantLimit a n = record { multiplier = 1; constant = pos n; coefficients = replicate (suc a) (pos 0) }
@@ -108,7 +122,12 @@ newOuter a I J = record {
 
 -- a J limit solved for |c| × I: p J ≥ e′ + c I with c > 0 is c I ≤ p J − e′, with c < 0 it is |c| I ≥ e′ − p J; and so for p J ≤ e′ + c I
 unfoldable pub solvedPositive : ℕ → ℕ → Limit → Limit
-solvedPositive a n l = record { multiplier = n; constant = negℤ (l .constant); coefficients = map negℤ (take a (l .coefficients)) ++ (pos (l .multiplier) ∷ []) }
+solvedPositive a n l = record {
+  multiplier = n;
+  constant = negℤ (l .constant);
+  coefficients = map negℤ (take a (l .coefficients)) ++
+      (pos (l .multiplier) ∷ []);
+}
 
 unfoldable pub solvedNegative : ℕ → ℕ → Limit → Limit
 solvedNegative a n l = record { multiplier = n; constant = l .constant; coefficients = take a (l .coefficients) ++ (negℤ (pos (l .multiplier)) ∷ []) }
@@ -129,21 +148,23 @@ widened l = record { multiplier = l .multiplier; constant = l .constant; coeffic
 -- I keeps its limits, then takes each J limit with c ≠ 0, lower ones first
 unfoldable pub newInner : ℕ → Loop → Loop → Loop
 newInner a I J = record {
-  lower = map widened (I .lower) ++ (flatMap (λ l. whenNegative a (outerCoefficient a l) l) (J .lower) ++ flatMap (λ l. whenPositive a (outerCoefficient a l) l) (J .upper));
-  upper = map widened (I .upper) ++ (flatMap (λ l. whenPositive a (outerCoefficient a l) l) (J .lower) ++ flatMap (λ l. whenNegative a (outerCoefficient a l) l) (J .upper));
+  lower = map widened (I .lower) ++ (flatMap (λ l. whenNegative a (outerCoefficient a l) l) (J .lower) ++ flatMap
+      (λ l. whenPositive a (outerCoefficient a l) l) (J .upper));
+  upper = map widened (I .upper) ++ (flatMap (λ l. whenPositive a (outerCoefficient a l) l) (J .lower) ++ flatMap
+      (λ l. whenNegative a (outerCoefficient a l) l) (J .upper));
 }
 
 unfoldable pub sameLimit : Limit → Limit → Bool
 sameLimit l m = eqb (l .multiplier) (m .multiplier) && (eqZ (l .constant) (m .constant) && sameBy eqZ (l .coefficients) (m .coefficients))
 
 -- a limit equal to an earlier one in every number is dropped
-unfoldable pub tidy : Loop → Loop
-tidy L = record { lower = unique sameLimit (L .lower); upper = unique sameLimit (L .upper) }
+unfoldable pub deduplicated : Loop → Loop
+deduplicated L = record { lower = unique sameLimit (L .lower); upper = unique sameLimit (L .upper) }
 
 unfoldable pub exchangeAt : ℕ → List Loop → List Loop
 exchangeAt a [] = []
 exchangeAt a (I ∷ []) = I ∷ []
-exchangeAt a (I ∷ J ∷ N) = tidy (newOuter a I J) ∷ tidy (newInner a I J) ∷ deeper (under a swapped) N
+exchangeAt a (I ∷ J ∷ N) = deduplicated (newOuter a I J) ∷ deduplicated (newInner a I J) ∷ deeper (under a swapped) N
 
 -- ---- any step
 
@@ -166,7 +187,13 @@ unfoldable pub accessAfter : Step → Access → Access
 accessAfter t a = record { array = a .array; subscripts = map (subscriptAfter t) (a .subscripts) }
 
 unfoldable pub statementAfter : Step → Statement → Statement
-statementAfter t s = record { rule = s .rule; constant = s .constant; writes = map (accessAfter t) (s .writes); reads = map (accessAfter t) (s .reads) }
+statementAfter t s = record {
+  rule = s .rule;
+  constant = s .constant;
+  writes = map (accessAfter t) (s .writes);
+  reads = map (accessAfter t)
+      (s .reads);
+}
 
 unfoldable pub nestAfter : Step → Nest → Nest
 nestAfter t N = record { loops = loopsAfter t (N .loops); arrays = N .arrays; statements = map (statementAfter t) (N .statements) }

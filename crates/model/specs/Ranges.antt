@@ -170,14 +170,15 @@ upTo N n as′ = counted loopWords N ++ (pos n ∷ flatMap arrayWords as′)
 -- what is true of bytes that are refused with a number at a place
 pub data Explained (b : List ℕ) : ℕ → ℕ → Type 0 where
   -- the words before p are there, word p is missing or half there
-  torn : {p : ℕ} → 1 ≤ p → (p - 1) * 2 ≤ length b → length b < p * 2 → Explained b 1 p
+  truncated : {p : ℕ} → 1 ≤ p → (p - 1) * 2 ≤ length b → length b < p * 2 → Explained b 1 p
   -- the words before p are there, and more bytes
-  overhang : {p : ℕ} → 1 ≤ p → (p - 1) * 2 < length b → Explained b 2 p
+  trailing : {p : ℕ} → 1 ≤ p → (p - 1) * 2 < length b → Explained b 2 p
   badCount : {p lo hi : ℕ} {w : ℤ} → CountRange lo hi → WordIs b p w → Outside (pos lo) (pos hi) w → Explained b 3 p
   badWord : {p : ℕ} {lo hi w : ℤ} → WordRange lo hi → WordIs b p w → Outside lo hi w → Explained b 4 p
   -- a skew by 0
   noSkew : {p : ℕ} → WordIs b p (pos 0) → Explained b 4 p
   -- the words up to p are the loops and the arrays so far
-  overfull : {p : ℕ} (N : List Loop) (n : ℕ) (as′ : List (List ℕ)) → All ArrayRanges as′ → Spells b 1 (upTo N n as′) → p ≡ length (upTo N n as′) → 16384 < total as′ → Explained b 5 p
+  overfull : {p : ℕ} (N : List Loop) (n : ℕ) (as′ : List (List ℕ)) → All ArrayRanges as′ → Spells b 1 (upTo N n as′) → p ≡ length (upTo N n as′)
+      → 16384 < total as′ → Explained b 5 p
   -- at step p, that finds m loops
   offNest : {p m q : ℕ} {w : ℤ} → InRange 1 8 p → InRange 1 mostLoops m → WordIs b q w → BadLoop b m q w → Explained b 6 p

@@ -7,7 +7,7 @@ use reference::stored_cases::cases;
 
 #[test]
 fn the_stored_text_is_the_reference_s() {
-    let program = Path::new(env!("CARGO_MANIFEST_DIR")).join("../../crates/entry_tests");
+    let program = Path::new(env!("CARGO_MANIFEST_DIR")).join("../../crates/test_entries");
     let given = fs::read(program.join("stdin")).expect("the program has cases");
     let stored = fs::read_to_string(program.join("stdout")).expect("the program has a text");
     let mut rest = stored.as_str();

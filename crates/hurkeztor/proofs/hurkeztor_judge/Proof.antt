@@ -1,5 +1,5 @@
 -- `hurkeztor_judge`: the entry's answer, packed.
-use Rattle.packing.proofs.PackLaws.{same-packed}
+use Rattle.entry_packing.proofs.PackLaws.{same-packed}
 use borrow.Author.Needs.{needs}
 use Rattle.hurkeztor.proofs.hurkeztor_judge.Statement.{statement}
 use Rattle.hurkeztor.proofs.hurkeztor_judge.Tie as tie

@@ -1,5 +1,5 @@
 -- `hurkeztor_quick`: the entry's answer, packed.
-use Rattle.packing.proofs.PackLaws.{same-test}
+use Rattle.entry_packing.proofs.PackLaws.{same-test}
 use borrow.Author.Needs.{needs}
 use Rattle.hurkeztor.proofs.hurkeztor_quick.Statement.{statement}
 use Rattle.hurkeztor.proofs.hurkeztor_quick.Tie as tie

@@ -27,14 +27,15 @@ add-word-2 c = let h = c .before .before .before .pre .inside in omega arith
 word-requires-2 : tie.Need-word-requires-2 Inv-loop μ-loop
 word-requires-2 c κs = let h = c .before .before .before .pre .inside in omega arith
 
-mul-plus : tie.Need-mul-plus Inv-loop μ-loop
-mul-plus c = omega arith
+mul-add-product : tie.Need-mul-add-product Inv-loop μ-loop
+mul-add-product c = omega arith
 
-shared-slice-copy-out-plus : tie.Need-shared-slice-copy-out-plus Inv-loop μ-loop
-shared-slice-copy-out-plus c = c .before .loop-test .taken
+shared-slice-copy-out-add-product : tie.Need-shared-slice-copy-out-add-product Inv-loop μ-loop
+shared-slice-copy-out-add-product c = c .before .loop-test .taken
 
-plus-requires : tie.Need-plus-requires Inv-loop μ-loop
-plus-requires c κs = plus-at (c .before .before .before .before .before .pre) (c .before .before .loop-test .taken) (c .before .before .before .loop .inv .1) (c .before .word2 .ensures)
+add-product-requires : tie.Need-add-product-requires Inv-loop μ-loop
+add-product-requires c κs = plus-at (c .before .before .before .before .before .pre) (c .before .before .loop-test .taken)
+    (c .before .before .before .loop .inv .1) (c .before .word2 .ensures)
 
 add-i : tie.Need-add-i Inv-loop μ-loop
 add-i c = omega arith
@@ -43,10 +44,15 @@ loop-less : tie.Need-loop-less Inv-loop μ-loop
 loop-less c = omega arith
 
 loop-again : tie.Need-loop-again Inv-loop μ-loop
-loop-again c = (omega arith, at-more (c .before .before .before .before .before .before .pre) (c .before .before .before .loop-test .taken) (c .before .before .before .before .loop .inv .1) (c .before .before .word2 .ensures) (c .plus .ensures))
+loop-again c = (
+  omega arith,
+  at-more (c .before .before .before .before .before .before .pre) (c .before .before .before .loop-test .taken)
+      (c .before .before .before .before .loop .inv .1) (c .before .before .word2 .ensures) (c .add-product .ensures),
+)
 
 returns : tie.Need-returns Inv-loop μ-loop
-returns c = at-all (c .before .before .before .before .pre) (c .before .before .loop .inv .1) (omega (arith, c .before .before .loop .inv .0, c .before .loop-test .left))
+returns c = at-all (c .before .before .before .before .pre) (c .before .before .loop .inv .1)
+    (omega (arith, c .before .before .loop .inv .0, c .before .loop-test .left))
 
 pub affine-at-spec : {M : Type 1} → statement M
 affine-at-spec =
@@ -59,9 +65,9 @@ affine-at-spec =
     add-word
     add-word-2
     word-requires-2
-    mul-plus
-    shared-slice-copy-out-plus
-    plus-requires
+    mul-add-product
+    shared-slice-copy-out-add-product
+    add-product-requires
     add-i
     loop-less
     loop-again

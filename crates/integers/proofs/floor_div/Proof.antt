@@ -20,14 +20,17 @@ module _ (c : tie.Else1) where
   fit-r = rem-fits (c .before .fits .a) (c .before .fits .b) (c .before .pre)
 
 module _ (c : tie.Then2) where
-  down-one : quotZ (c .before .before .args .a) (c .before .before .args .b) -ℤ pos 1 ≡ floorDiv (c .before .before .args .a) (c .before .before .args .b)
-  down-one = let s = c .before .before in floor-down (s .args .a) (s .args .b) (s .pre) (omega (zneeds, simp (back, s .fits .a, s .fits .b, fit-r (c .before)) at (c .if2 .taken)))
+  down-one : quotZ (c .before .before .args .a) (c .before .before .args .b) -ℤ pos 1 ≡ floorDiv (c .before .before .args .a)
+      (c .before .before .args .b)
+  down-one = let s = c .before .before in floor-down (s .args .a) (s .args .b) (s .pre)
+      (omega (zneeds, simp (back, s .fits .a, s .fits .b, fit-r (c .before)) at (c .if2 .taken)))
 
   fit : SFits w64 (quotZ (c .before .before .args .a) (c .before .before .args .b) -ℤ pos 1)
   fit = let s = c .before .before in subst (SFits w64) (sym down-one) (floor-fits (s .fits .a) (s .fits .b) (s .pre))
 
 returns : tie.Need-returns
-returns c = let s = c .before in let e : s .args .b ≡ pos 1 = bits-inj (s .fits .b) (sfits {z = pos 1} (omega arith)) (c .if1 .taken) in back (s .fits .a) ∙ floor-one (s .args .a) ∙ ap (floorDiv (s .args .a)) (sym e)
+returns c = let s = c .before in let e : s .args .b ≡ pos 1 = bits-inj (s .fits .b) (sfits {z = pos 1} (omega arith)) (c .if1 .taken) in back
+    (s .fits .a) ∙ floor-one (s .args .a) ∙ ap (floorDiv (s .args .a)) (sym e)
 
 div-q : tie.Need-div-q
 div-q c = let q = fit-q c in let p = bits-pos w64 (c .before .pre) in search needs
@@ -43,7 +46,8 @@ returns-2 c = let q = fit-q (c .before) in let f = fit c in let e = down-one c i
 
 returns-3 : tie.Need-returns-3
 returns-3 c = let s = c .before .before in let q = fit-q (c .before) in
-    let e = floor-same (s .args .a) (s .args .b) (s .pre) (omega (zneeds, simp (back, s .fits .a, s .fits .b, fit-r (c .before)) at (c .if2 .left))) in search needs
+    let e = floor-same (s .args .a) (s .args .b) (s .pre) (omega (zneeds, simp (back, s .fits .a, s .fits .b, fit-r (c .before)) at (c .if2 .left)))
+    in search needs
 
 pub floor-div-spec : {M : Type 1} → statement M
 floor-div-spec = tie.close (tie.spec returns div-q rem-r sub-result returns-2 returns-3)

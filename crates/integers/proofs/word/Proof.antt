@@ -10,20 +10,20 @@ use Rattle.integers.proofs.RangeLaws.{word-wide}
 use Rattle.integers.proofs.word.Statement.{statement}
 use Rattle.integers.proofs.word.Tie as tie
 
-mul-wide : tie.Need-mul-wide
-mul-wide c = search needs
+mul-sign-extend : tie.Need-mul-sign-extend
+mul-sign-extend c = search needs
 
-shared-slice-copy-out-wide : tie.Need-shared-slice-copy-out-wide
-shared-slice-copy-out-wide c = search needs
+shared-slice-copy-out-sign-extend : tie.Need-shared-slice-copy-out-sign-extend
+shared-slice-copy-out-sign-extend c = search needs
 
-wide-requires : tie.Need-wide-requires
-wide-requires c κs = search needs
+sign-extend-requires : tie.Need-sign-extend-requires
+sign-extend-requires c κs = search needs
 
 returns : tie.Need-returns
 returns c =
     let s = c .before .before in
-    let f : SFits w16 (getD (s .args .words .now) (s .args .i) (pos 0)) = record { sfits = c .before .wide-arg .given } in
-    ap (λ z. toZ w64 (ofZ w64 z)) (c .wide .ensures ∙ toZ-ofZ f) ∙ toZ-ofZ (word-wide f)
+    let f : SFits w16 (getD (s .args .words .now) (s .args .i) (pos 0)) = record { sfits = c .before .sign-extend-arg .given } in
+    ap (λ z. toZ w64 (ofZ w64 z)) (c .sign-extend .ensures ∙ toZ-ofZ f) ∙ toZ-ofZ (word-wide f)
 
 pub word-spec : {M : Type 1} → statement M
-word-spec = tie.close (tie.spec mul-wide shared-slice-copy-out-wide wide-requires returns)
+word-spec = tie.close (tie.spec mul-sign-extend shared-slice-copy-out-sign-extend sign-extend-requires returns)

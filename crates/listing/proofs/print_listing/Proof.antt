@@ -4,13 +4,14 @@ use native.Mathlib.Omega.{arith}
 use mathlib.Core.Path.{sym}
 use lib.ListN.{length}
 use lib.Seq.{length-take-le}
-use Rattle.list_entry.proofs.ListLaws.{listed-fits}
+use Rattle.entry_list.proofs.ListLaws.{listed-fits}
 use borrow.Author.Needs.{needs}
 use Rattle.listing.proofs.print_listing.Statement.{statement}
 use Rattle.listing.proofs.print_listing.Tie as tie
 
 within : (c : tie.After-known-told) → c .before .n .given .0 .0 ≤ length (c .before .before .before .before .list .last .1 .0)
-within c = let l = c .before .before .before .before .list in let k = l .kept .1 .0 in omega (arith, listed-fits _ _ _ (l .result) _ (l .ensures) (c .before .n .given .1))
+within c = let l = c .before .before .before .before .list in let k = l .kept .1 .0 in omega
+    (arith, listed-fits _ _ _ (l .result) _ (l .ensures) (c .before .n .given .1))
 
 large-buffer-requires : tie.Need-large-buffer-requires
 large-buffer-requires c κs = search needs

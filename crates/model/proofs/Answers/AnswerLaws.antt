@@ -82,7 +82,8 @@ module _ {A : Type 0} (P : A → Type 0) (E : ℕ → ℕ → Type 0) where
   leads-map (accepted a) f h = f a h
   leads-map (refused n p) f h = h
 
-  pub leads-bind : {B : Type 0} (Q : B → Type 0) (m : Answer A) (f : A → Answer B) → Leads P E m → ((a : A) → m ≡ accepted a → P a → Leads Q E (f a)) → Leads Q E (m >>= f)
+  pub leads-bind : {B : Type 0} (Q : B → Type 0) (m : Answer A) (f : A → Answer B) → Leads P E m
+      → ((a : A) → m ≡ accepted a → P a → Leads Q E (f a)) → Leads Q E (m >>= f)
   unfolding _>>=_
   leads-bind Q (accepted a) f h g = g a refl h
   leads-bind Q (refused n p) f h g = h

@@ -38,7 +38,8 @@ firstBad-map {Good} Bad′ Good′ f g r = record {
 
 -- n is the number of refusal, t the test of a bad item
 module _ {A : Type 0} (n : ℕ) (t : A → Bool) (check : ℕ → List A → Answer (Unit {0}))
-    (none : (k : ℕ) → check k [] ≡ accepted tt) (more : (k : ℕ) (x : A) (xs : List A) → check k (x ∷ xs) ≡ require (not (t x)) n k >> check (suc k) xs) where
+    (none : (k : ℕ) → check k [] ≡ accepted tt) (more : (k : ℕ) (x : A) (xs : List A)
+    → check k (x ∷ xs) ≡ require (not (t x)) n k >> check (suc k) xs) where
   abbrev Good : A → Type 0
   Good x = T (t x) → ⊥
 
@@ -50,8 +51,18 @@ module _ {A : Type 0} (n : ℕ) (t : A → Bool) (check : ℕ → List A → Ans
   pub checks-refused : (k : ℕ) (xs : List A) {m p : ℕ} → check k xs ≡ refused m p → (m ≡ n) × FirstBad (λ x. T (t x)) (λ x. T (t x) → ⊥) k xs p
   checks-refused k [] e = not-both (sym (none k) ∙ e)
   checks-refused k (x ∷ xs) {m} {p} e = ⊎-elim
-      (λ f. let r = require-refused (not (t x)) n k f in let q = r .place in
-      (r .number, record { front = []; item = x; back = xs; parts = refl; number = omega arith; bad = refuted (t x) (r .fails); good = all-nil Good }))
+      (λ f. let r = require-refused (not (t x)) n k f in let q = r .place in (
+        r .number,
+        record {
+          front = [];
+          item = x;
+          back = xs;
+          parts = refl;
+          number = omega arith;
+          bad = refuted (t x) (r .fails);
+          good = all-nil Good;
+        },
+      ))
       (λ f. let r = checks-refused (suc k) xs (f .rest) in let q = r .1 .number in (
         r .0,
         record {
@@ -71,8 +82,11 @@ module _ {A : Type 0} (n : ℕ) (t : A → Bool) (check : ℕ → List A → Ans
   accepted-checks k (x ∷ xs) h = more k x xs ∙ then-pass (check (suc k) xs) (require-pass (not (t x)) n k (not-T (t x) (h x (List·Memᴰ·head refl))))
       ∙ accepted-checks (suc k) xs (λ y m. h y (List·Memᴰ·tail m))
 
-  pub refused-checks : (k : ℕ) (front : List A) (x : A) (back : List A) → All (λ y. T (t y) → ⊥) front → T (t x) → check k (front ++ x ∷ back) ≡ refused n (k + length front)
-  refused-checks k [] x back h b = more k x back ∙ then-stop (check (suc k) back) (require-stop (not (t x)) n k (λ g. T-not (t x) g b)) ∙ ap (refused n) (omega arith)
+  pub refused-checks : (k : ℕ) (front : List A) (x : A) (back : List A) → All (λ y. T (t y) → ⊥) front → T (t x)
+      → check k (front ++ x ∷ back) ≡ refused n (k + length front)
+  refused-checks k [] x back h b = more k x back ∙ then-stop (check (suc k) back) (require-stop (not (t x)) n k (λ g. T-not (t x) g b))
+      ∙ ap (refused n) (omega arith)
   refused-checks k (y ∷ front) x back h b =
-      more k y (front ++ x ∷ back) ∙ then-pass (check (suc k) (front ++ x ∷ back)) (require-pass (not (t y)) n k (not-T (t y) (h y (List·Memᴰ·head refl))))
+      more k y (front ++ x ∷ back) ∙ then-pass (check (suc k) (front ++ x ∷ back))
+      (require-pass (not (t y)) n k (not-T (t y) (h y (List·Memᴰ·head refl))))
       ∙ refused-checks (suc k) front x back (λ z m. h z (List·Memᴰ·tail m)) b ∙ ap (refused n) (omega arith)

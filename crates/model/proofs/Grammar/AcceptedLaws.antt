@@ -40,7 +40,11 @@ pub record Stays (t : Bool) (k : ℕ) (r : Read (Unit {0})) : Type 0 where
 
 pub mustAt-accepted : (t : Bool) (n p : ℕ) (b : List ℕ) (k : ℕ) {r : Read (Unit {0})} → mustAt t n p b k ≡ accepted r → Stays t k r
 unfolding mustAt
-mustAt-accepted t n p b k e = let w = bind-accepted (require t n p) _ e in record { passes = require-accepted t n p (w .first); next = sym (ap (λ s. s .next) (accepted-same (w .rest))) }
+mustAt-accepted t n p b k e = let w = bind-accepted (require t n p) _ e in record {
+  passes = require-accepted t n p (w .first);
+  next = sym
+      (ap (λ s. s .next) (accepted-same (w .rest)));
+}
 
 pub must-accepted : (t : Bool) (n : ℕ) (b : List ℕ) (k : ℕ) {r : Read (Unit {0})} → must t n b k ≡ accepted r → Stays t k r
 unfolding must mustAt
@@ -65,7 +69,8 @@ record Checked {A : Type 0} (t : ℤ → Bool) (v : ℤ → A) (b : List ℕ) (k
   value : r .value ≡ v held
   read : ReadWord b k held (r .next)
 
-checked-accepted : {A : Type 0} (t : ℤ → Bool) (n : ℕ) (v : ℤ → A) (b : List ℕ) (k : ℕ) {r : Read A} → (word >>= (λ w. must (t w) n >> done (v w))) b k ≡ accepted r → Checked t v b k r
+checked-accepted : {A : Type 0} (t : ℤ → Bool) (n : ℕ) (v : ℤ → A) (b : List ℕ) (k : ℕ) {r : Read A}
+    → (word >>= (λ w. must (t w) n >> done (v w))) b k ≡ accepted r → Checked t v b k r
 unfolding _>>_
 checked-accepted t n v b k e =
     let x = reader-accepted word (λ w. must (t w) n >> done (v w)) b k e in
@@ -75,14 +80,24 @@ checked-accepted t n v b k e =
     let s = must-accepted (t w) n b j (y .first) in
     let d = done-accepted (v w) b (y .value .next) (y .rest) in
     let h = word-accepted b k (x .first) in
-    record { held = w; passes = s .passes; value = ap (λ q. q .value) d; read = record { there = h .there; after = ap (λ q. q .next) d ∙ s .next ∙ h .after } }
+    record {
+      held = w;
+      passes = s .passes;
+      value = ap (λ q. q .value) d;
+      read = record {
+        there = h .there;
+        after = ap (λ q. q .next) d ∙ s .next
+            ∙ h .after;
+      };
+    }
 
 -- a natural number in a range
 pub record ReadNatural (lo hi : ℕ) (b : List ℕ) (k : ℕ) (r : Read ℕ) : Type 0 where
   pub range : InRange lo hi (r .value)
   pub read : ReadWord b k (pos (r .value)) (r .next)
 
-of-natural : (lo hi : ℕ) (b : List ℕ) (k : ℕ) {r : Read ℕ} (w : ℤ) → T (between (pos lo) (pos hi) w) → r .value ≡ natAbs w → ReadWord b k w (r .next) → ReadNatural lo hi b k r
+of-natural : (lo hi : ℕ) (b : List ℕ) (k : ℕ) {r : Read ℕ} (w : ℤ) → T (between (pos lo) (pos hi) w) → r .value ≡ natAbs w
+    → ReadWord b k w (r .next) → ReadNatural lo hi b k r
 of-natural lo hi b k {r} w h e d = let q = between-natural lo hi w h in record {
   range = subst (InRange lo hi) (sym e) (q .0);
   read = subst (λ z. ReadWord b k z (r .next)) (q .1 ∙ ap pos (sym e)) d;
@@ -90,7 +105,8 @@ of-natural lo hi b k {r} w h e d = let q = between-natural lo hi w h in record {
 
 pub count-accepted : (lo hi : ℕ) (b : List ℕ) (k : ℕ) {r : Read ℕ} → count lo hi b k ≡ accepted r → ReadNatural lo hi b k r
 unfolding count
-count-accepted lo hi b k e = let c = checked-accepted (between (pos lo) (pos hi)) 3 natAbs b k e in of-natural lo hi b k (c .held) (c .passes) (c .value) (c .read)
+count-accepted lo hi b k e = let c = checked-accepted (between (pos lo) (pos hi)) 3 natAbs b k e in of-natural lo hi b k (c .held) (c .passes)
+    (c .value) (c .read)
 
 -- an integer in a range
 pub record ReadWithin (lo hi : ℤ) (b : List ℕ) (k : ℕ) (r : Read ℤ) : Type 0 where
@@ -100,7 +116,11 @@ pub record ReadWithin (lo hi : ℤ) (b : List ℕ) (k : ℕ) (r : Read ℤ) : Ty
 pub within-accepted : (lo hi : ℤ) (b : List ℕ) (k : ℕ) {r : Read ℤ} → within lo hi b k ≡ accepted r → ReadWithin lo hi b k r
 unfolding within
 within-accepted lo hi b k {r} e = let c = checked-accepted (between lo hi) 4 (λ w. w) b k e in
-    record { range = subst (λ z. T (between lo hi z)) (sym (c .value)) (c .passes); read = subst (λ z. ReadWord b k z (r .next)) (sym (c .value)) (c .read) }
+    record {
+      range = subst (λ z. T (between lo hi z)) (sym (c .value)) (c .passes);
+      read = subst (λ z. ReadWord b k z (r .next)) (sym (c .value))
+          (c .read);
+    }
 
 pub natural-accepted : (lo hi : ℕ) (b : List ℕ) (k : ℕ) {r : Read ℕ} → natural lo hi b k ≡ accepted r → ReadNatural lo hi b k r
 unfolding natural
@@ -108,7 +128,8 @@ natural-accepted lo hi b k e =
     let x = reader-accepted (within (pos lo) (pos hi)) (λ w. done (natAbs w)) b k e in
     let w = within-accepted (pos lo) (pos hi) b k (x .first) in
     let d = done-accepted (natAbs (x .value .value)) b (x .value .next) (x .rest) in
-    of-natural lo hi b k (x .value .value) (w .range) (ap (λ q. q .value) d) (subst (ReadWord b k (x .value .value)) (sym (ap (λ q. q .next) d)) (w .read))
+    of-natural lo hi b k (x .value .value) (w .range) (ap (λ q. q .value) d) (subst (ReadWord b k (x .value .value)) (sym (ap (λ q. q .next) d))
+    (w .read))
 
 -- within ±32767
 pub record ReadNumber (b : List ℕ) (k : ℕ) (r : Read ℤ) : Type 0 where
@@ -117,7 +138,8 @@ pub record ReadNumber (b : List ℕ) (k : ℕ) (r : Read ℤ) : Type 0 where
 
 pub number-accepted : (b : List ℕ) (k : ℕ) {r : Read ℤ} → number b k ≡ accepted r → ReadNumber b k r
 unfolding number
-number-accepted b k {r} e = let w = within-accepted (negsuc 32766) (pos 32767) b k e in record { small = between-small (r .value) (w .range); read = w .read }
+number-accepted b k {r} e = let w = within-accepted (negsuc 32766) (pos 32767) b k e
+    in record { small = between-small (r .value) (w .range); read = w .read }
 
 -- ---- lists
 
@@ -125,7 +147,8 @@ number-accepted b k {r} e = let w = within-accepted (negsuc 32766) (pos 32767) b
 pub times-accepted : {A : Type 0} (P : A → Type 0) (r : Reader A) → ((b : List ℕ) (k : ℕ) (x : Read A) → r b k ≡ accepted x → P (x .value))
     → (n : ℕ) (b : List ℕ) (k : ℕ) {x : Read (List A)} → times n r b k ≡ accepted x → Long n (All P) (x .value)
 unfolding times
-times-accepted P r h zero b k e = subst (λ x. Long zero (All P) (x .value)) (sym (done-accepted [] b k e)) (record { number = refl; holds = all-nil P })
+times-accepted P r h zero b k e = subst (λ x. Long zero (All P) (x .value)) (sym (done-accepted [] b k e))
+    (record { number = refl; holds = all-nil P })
 times-accepted P r h (suc n) b k e =
     let x = reader-accepted r (λ a. times n r >>= (λ rest. done (a ∷ rest))) b k e in
     let a = x .value .value in

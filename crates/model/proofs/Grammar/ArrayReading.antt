@@ -46,13 +46,16 @@ module _ (b : List ℕ) (N : List Loop) (c : ℕ) where
   passed-reach as′ k p = subst (Reaches b) (sym (p .next)) (spells-reach b 1 (upTo N c as′) (reaches-first b) (p .spelled))
 
   -- one array more
-  passed-next : (as′ : List (List ℕ)) (a : List ℕ) (k : ℕ) → Passed b N c as′ k → ArrayRanges a → Spells b k (arrayWords a) → Passed b N c (as′ ++ (a ∷ [])) (k + length (arrayWords a))
+  passed-next : (as′ : List (List ℕ)) (a : List ℕ) (k : ℕ) → Passed b N c as′ k → ArrayRanges a → Spells b k (arrayWords a)
+      → Passed b N c (as′ ++ (a ∷ [])) (k + length (arrayWords a))
   passed-next as′ a k p r s =
       let e : upTo N c as′ ++ arrayWords a ≡ upTo N c (as′ ++ (a ∷ [])) =
-      append-assoc (counted loopWords N) (pos c ∷ flatMap arrayWords as′) (arrayWords a) ∙ ap (λ l. counted loopWords N ++ (pos c ∷ l)) (sym (flatMap-snoc arrayWords as′ a)) in
+      append-assoc (counted loopWords N) (pos c ∷ flatMap arrayWords as′) (arrayWords a)
+      ∙ ap (λ l. counted loopWords N ++ (pos c ∷ l)) (sym (flatMap-snoc arrayWords as′ a)) in
       record {
         ranges = all-append ArrayRanges as′ (a ∷ []) (p .ranges) (all-cons ArrayRanges r (all-nil ArrayRanges));
-        spelled = subst (Spells b 1) e (spells-append b 1 (upTo N c as′) (arrayWords a) (p .spelled) (subst (λ j. Spells b j (arrayWords a)) (p .next) s));
+        spelled = subst (Spells b 1) e (spells-append b 1 (upTo N c as′) (arrayWords a) (p .spelled)
+            (subst (λ j. Spells b j (arrayWords a)) (p .next) s));
         next = let n = p .next in let l = length-append (upTo N c as′) (arrayWords a) in let m = ap length e in omega arith;
       }
 
@@ -69,22 +72,37 @@ module _ (b : List ℕ) (N : List Loop) (c : ℕ) where
       (let i = nleb→lt (t + elements a) 16384 (not-T (leb (t + elements a) 16384) f) in omega arith))
       (λ f. done-at a (record { holds = record { ranges = v; room = leb→le (t + elements a) 16384 f }; words = append-nil (arrayWords a) })))
 
-  arraysFrom-at : (before : List (List ℕ)) (n k t : ℕ) → Passed b N c before k → t ≡ total before → t ≤ 16384 → MeetsAt b k (arraysFrom t n) (As (Long n (ArraysRead t)) (flatMap arrayWords))
+  arraysFrom-at : (before : List (List ℕ)) (n k t : ℕ) → Passed b N c before k → t ≡ total before → t ≤ 16384
+      → MeetsAt b k (arraysFrom t n) (As (Long n (ArraysRead t)) (flatMap arrayWords))
   unfolding arraysFrom flatMap total
   arraysFrom-at before zero k t p e h =
       done-at [] (record { holds = record { number = refl; holds = record { ranges = all-nil ArrayRanges; room = omega arith } }; words = refl })
   arraysFrom-at before (suc n) k t p e h = bind-at (array-at before k t p e) (λ a v z.
       let m = total-snoc before a in
-      bind-at (arraysFrom-at (before ++ (a ∷ [])) n (k + length (arrayWords a)) (t + elements a) (passed-next before a k p (v .ranges) z) (omega arith) (v .room)) (λ as′ o _.
+      bind-at (arraysFrom-at (before ++ (a ∷ [])) n (k + length (arrayWords a)) (t + elements a) (passed-next before a k p (v .ranges) z)
+      (omega arith) (v .room)) (λ as′ o _.
       done-at (a ∷ as′) (record {
-        holds = record { number = ap suc (o .number); holds = record { ranges = all-cons ArrayRanges (v .ranges) (o .holds .ranges); room = let i = o .holds .room in omega arith } };
+        holds = record {
+          number = ap suc (o .number);
+          holds = record {
+            ranges = all-cons ArrayRanges (v .ranges) (o .holds .ranges);
+            room = let i = o .holds .room in omega arith;
+          };
+        };
         words = ap (arrayWords a ++_) (append-nil (flatMap arrayWords as′));
       })))
 
 -- after the loops
-pub arrays-at : (b : List ℕ) (N : List Loop) → Spells b 1 (counted loopWords N) → MeetsAt b (1 + length (counted loopWords N)) arrays (As (Few 1 4 (ArraysRead 0)) (counted arrayWords))
+pub arrays-at : (b : List ℕ) (N : List Loop) → Spells b 1 (counted loopWords N)
+    → MeetsAt b (1 + length (counted loopWords N)) arrays (As (Few 1 4 (ArraysRead 0)) (counted arrayWords))
 unfolding arrays flatMap total
-arrays-at b N s = bind-at (count-meets CountRange.toFour .from b (1 + length (counted loopWords N)) (spells-reach b 1 (counted loopWords N) (reaches-first b) s)) (λ n r z.
+arrays-at b N s = bind-at (count-meets CountRange.toFour .from b (1 + length (counted loopWords N))
+    (spells-reach b 1 (counted loopWords N) (reaches-first b) s)) (λ n r z.
     let l = length-append (counted loopWords N) (pos n ∷ []) in
     meets-at-map (counted-from arrayWords r)
-    (arraysFrom-at b N n [] n (1 + length (counted loopWords N) + 1) 0 (record { ranges = all-nil ArrayRanges; spelled = spells-append b 1 (counted loopWords N) (pos n ∷ []) s z; next = omega arith }) refl (omega arith)))
+    (arraysFrom-at b N n [] n (1 + length (counted loopWords N) + 1) 0 (record {
+      ranges = all-nil ArrayRanges;
+      spelled = spells-append b 1
+          (counted loopWords N) (pos n ∷ []) s z;
+      next = omega arith;
+    }) refl (omega arith)))

@@ -14,7 +14,7 @@ use Rattle.model.specs.Ticket.{Loop, Step, exchange, reversal, skew, sec
 use Rattle.model.specs.Grammar.{Reader, _>>=_, _>>_, nest, end, ticket, decode}
 use Rattle.model.specs.Encode.{counted, loopWords, arrayWords, statementWords}
 use Rattle.model.specs.Shape.{Runs, Proper, WellFormed}
-use Rattle.model.specs.Ranges.{InRange, stepWords, nestSections, ticketWords, LoopRanges, NestRanges, StepThere, StepsThere, TicketRanges, Spells, CountRange, Explained, overhang}
+use Rattle.model.specs.Ranges.{InRange, stepWords, nestSections, ticketWords, LoopRanges, NestRanges, StepThere, StepsThere, TicketRanges, Spells, CountRange, Explained, trailing}
 use Rattle.model.proofs.Answers.AnswerLaws.{Leads, leads-bind, leads-accepted}
 use Rattle.model.proofs.Grammar.WordLaws.{Reaches, reaches-first, spells-reach}
 use Rattle.model.proofs.Grammar.ReaderLaws.{MeetsAt, Met, As, bind-at, mustAt-at, done-at}
@@ -44,7 +44,12 @@ wider h r = let l = r .low in let u = r .high in record { low = l; high = omega 
 pub ranges-wider : {d e m n : ℕ} {N : Nest} → d ≤ e → m ≤ n → NestRanges d m N → NestRanges e n N
 ranges-wider h k r = record {
   few-loops = wider h (r .few-loops);
-  loops = λ L i. let l = r .loops L i in record { few-lower = wider k (l .few-lower); few-upper = wider k (l .few-upper); lower = l .lower; upper = l .upper };
+  loops = λ L i. let l = r .loops L i in record {
+    few-lower = wider k (l .few-lower);
+    few-upper = wider k (l .few-upper);
+    lower = l .lower;
+    upper = l .upper;
+  };
   few-arrays = r .few-arrays;
   arrays = r .arrays;
   room = r .room;
@@ -64,14 +69,15 @@ steps-proper (t ∷ ts) m h = all-cons Proper (there-proper t m (h .0)) (steps-p
 
 -- ---- the nest
 
-pub record NestRead (N : Nest) : Type 0 where
+pub record LoopsRead (N : Nest) : Type 0 where
   pub ranges : NestRanges 4 4 N
   pub formed : WellFormed N
 
-nest-at : (b : List ℕ) → MeetsAt b 1 (nest 4 4) (As NestRead nestSections)
+nest-at : (b : List ℕ) → MeetsAt b 1 (nest 4 4) (As LoopsRead nestSections)
 unfolding nest
 nest-at b = bind-at (loops-meets CountRange.toFour CountRange.toFour .from b 1 (reaches-first b)) (λ ls l s. bind-at (arrays-at b ls s) (λ as′ a z.
-    let r = spells-reach b (1 + length (counted loopWords ls)) (counted arrayWords as′) (spells-reach b 1 (counted loopWords ls) (reaches-first b) s) z in
+    let r = spells-reach b (1 + length (counted loopWords ls)) (counted arrayWords as′)
+    (spells-reach b 1 (counted loopWords ls) (reaches-first b) s) z in
     bind-at (statements-meets (length ls) as′ (a .few) .from b (1 + length (counted loopWords ls) + length (counted arrayWords as′)) r) (λ ss t _.
     done-at (record { loops = ls; arrays = as′; statements = ss }) (record {
       holds = record {
@@ -97,11 +103,13 @@ pub record Decoded (b : List ℕ) (T : Ticket) : Type 0 where
   pub spelled : Spells b 1 (ticketWords T)
   pub whole : length b ≡ length (ticketWords T) * 2
 
-end-at : {A : Type 0} {b : List ℕ} {k : ℕ} {r : Reader A} {P : A → List ℤ → Type 0} → Reaches b k → (length b ≤ (k - 1) * 2 → MeetsAt b k r P) → MeetsAt b k (end >> r) P
+end-at : {A : Type 0} {b : List ℕ} {k : ℕ} {r : Reader A} {P : A → List ℤ → Type 0} → Reaches b k → (length b ≤ (k - 1) * 2 → MeetsAt b k r P)
+    → MeetsAt b k (end >> r) P
 unfolding end _>>_ _>>=_
 end-at {b = b} {k = k} r h = record {
   leads = mustAt-at (leb (length b) ((k - 1) * 2)) 2
-      (λ f. overhang (r .first) (nleb→lt (length b) ((k - 1) * 2) (not-T (leb (length b) ((k - 1) * 2)) f))) (λ t. h (leb→le (length b) ((k - 1) * 2) t)) .leads;
+      (λ f. trailing (r .first) (nleb→lt (length b) ((k - 1) * 2) (not-T (leb (length b) ((k - 1) * 2)) f)))
+      (λ t. h (leb→le (length b) ((k - 1) * 2) t)) .leads;
 }
 
 record TicketRead (b : List ℕ) (T : Ticket) (ws : List ℤ) : Type 0 where
@@ -116,7 +124,8 @@ ticket-at b = bind-at (nest-at b) (λ N n s. let u = n .ranges .few-loops .low i
     let r = spells-reach b 1 (nestSections N) (reaches-first b) s in
     let k = 1 + length (nestSections N) in
     bind-at (steps-meets (length (N .loops)) (record { low = omega arith; high = omega arith }) .from b k r) (λ ts t z.
-    let e : nestSections N ++ (counted stepWords ts ++ []) ≡ nestSections N ++ counted stepWords ts = ap (nestSections N ++_) (append-nil (counted stepWords ts)) in
+    let e : nestSections N ++ (counted stepWords ts ++ []) ≡ nestSections N ++ counted stepWords ts = ap (nestSections N ++_)
+    (append-nil (counted stepWords ts)) in
     let l = ap length e ∙ length-append (nestSections N) (counted stepWords ts) in
     end-at (spells-reach b k (counted stepWords ts) r z) (λ h. done-at (record { nest = N; steps = ts }) (record {
       ranges = record { nest = n .ranges; few-steps = t .few .high; steps = t .holds };
@@ -135,7 +144,8 @@ decode-leads b = leads-bind (Met (TicketRead b) b 1) (Explained b) (Decoded b) (
       ranges = h .ranges;
       formed = h .formed;
       spelled = s;
-      whole = let u = spells-reach b 1 (ticketWords (r .value)) (reaches-first b) s .there in let v = h .ends in let l = ap length (h .words) in omega arith;
+      whole = let u = spells-reach b 1 (ticketWords (r .value)) (reaches-first b) s .there in let v = h .ends in let l = ap length (h .words)
+          in omega arith;
     })
 
 -- ---- accepted tickets

@@ -30,7 +30,11 @@ pub limit-meets : (k : ℕ) → Meets (limit k) (As (LimitRead k) limitWords)
 unfolding limit limitWords
 limit-meets k = bind (natural-meets WordRange.multiplier) (λ p r. bind number-meets (λ c s. bind (numbers-meet k) (λ cs e.
     done-meets (record { multiplier = p; constant = c; coefficients = cs })
-    (record { holds = record { ranges = record { multiplier = r; constant = s; coefficients = e .holds }; sized = e .number }; words = ap (λ l. pos p ∷ c ∷ l) (append-nil cs) }))))
+    (record {
+      holds = record { ranges = record { multiplier = r; constant = s; coefficients = e .holds }; sized = e .number };
+      words = ap
+          (λ l. pos p ∷ c ∷ l) (append-nil cs);
+    }))))
 
 pub side-meets : {m : ℕ} → CountRange 1 m → (k : ℕ) → Meets (side m k) (As (Few 1 m (All (LimitRead k))) (counted limitWords))
 unfolding side
@@ -58,9 +62,24 @@ pub record LoopsRead (m k : ℕ) (N : List Loop) : Type 0 where
 
 pub loopsFrom-meets : {m : ℕ} → CountRange 1 m → (k n : ℕ) → Meets (loopsFrom m k n) (As (Long n (LoopsRead m k)) (flatMap loopWords))
 unfolding loopsFrom flatMap
-loopsFrom-meets {m} c k zero = done-meets [] (record { holds = record { number = refl; holds = record { ranges = all-nil (LoopRanges m); shaped = tt } }; words = refl })
+loopsFrom-meets {m} c k zero = done-meets [] (record {
+  holds = record {
+    number = refl;
+    holds = record {
+      ranges = all-nil (LoopRanges m);
+      shaped = tt;
+    };
+  };
+  words = refl;
+})
 loopsFrom-meets {m} c k (suc n) = bind (loop-meets c k) (λ L h. bind (loopsFrom-meets c (suc k) n) (λ N g. done-meets (L ∷ N) (record {
-  holds = record { number = ap suc (g .number); holds = record { ranges = all-cons (LoopRanges m) (h .ranges) (g .holds .ranges); shaped = (h .sized, g .holds .shaped) } };
+  holds = record {
+    number = ap suc (g .number);
+    holds = record {
+      ranges = all-cons (LoopRanges m) (h .ranges) (g .holds .ranges);
+      shaped = (h .sized, g .holds .shaped);
+    };
+  };
   words = ap (loopWords L ++_) (append-nil (flatMap loopWords N));
 })))
 

@@ -18,9 +18,9 @@ use Rattle.model.specs.Answer.{Answer, accepted, refused, require}
 use Rattle.model.specs.Words.{wordAt}
 use Rattle.model.specs.Grammar.{Read, Reader, _>>=_, _>>_, done, word, must, mustAt, between, count, within, natural, number, times}
 use Rattle.model.specs.Encode.{counted}
-use Rattle.model.specs.Ranges.{InRange, Small, Spells, CountRange, WordRange, WordIs, Explained, torn, badCount, badWord}
+use Rattle.model.specs.Ranges.{InRange, Small, Spells, CountRange, WordRange, WordIs, Explained, truncated, badCount, badWord}
 use Rattle.model.proofs.Answers.AnswerLaws.{Leads, leads-map, leads-bind}
-use Rattle.model.proofs.Grammar.WordLaws.{Reaches, Torn, word-there, spells-append, spells-reach}
+use Rattle.model.proofs.Grammar.WordLaws.{Reaches, Truncated, word-there, spells-append, spells-reach}
 
 -- ---- the notion
 
@@ -55,13 +55,15 @@ module _ {A : Type 0} {P : A → List ℤ → Type 0} where
 module _ {A B : Type 0} {P : A → List ℤ → Type 0} {Q : B → List ℤ → Type 0} where
   -- the rest knows the first value and its words
   pub bind-with : {b : List ℕ} {k : ℕ} {m : Reader A} {g : A → Reader B}
-      → MeetsAt b k m P → ((a : A) (ws : List ℤ) → P a ws → Spells b k ws → MeetsAt b (k + length ws) (g a) (λ c vs. Q c (ws ++ vs))) → MeetsAt b k (m >>= g) Q
+      → MeetsAt b k m P → ((a : A) (ws : List ℤ) → P a ws → Spells b k ws → MeetsAt b (k + length ws) (g a) (λ c vs. Q c (ws ++ vs)))
+      → MeetsAt b k (m >>= g) Q
   unfolding _>>=_
   bind-with {b} {k} {m} {g} h rest = record {
     leads = leads-bind (Met P b k) (Explained b) (Met Q b k) (m b k) (λ r. g (r .value) b (r .next)) (h .leads) (λ r e t.
         let us = t .words in
         leads-map (Met (λ c vs. Q c (us ++ vs)) b (k + length us)) (Explained b) (g (r .value) b (r .next)) (joined us (t .spelled))
-        (subst (λ j. Leads (Met (λ c vs. Q c (us ++ vs)) b (k + length us)) (Explained b) (g (r .value) b j)) (sym (t .next)) (rest (r .value) us (t .holds) (t .spelled) .leads)));
+        (subst (λ j. Leads (Met (λ c vs. Q c (us ++ vs)) b (k + length us)) (Explained b) (g (r .value) b j)) (sym (t .next))
+        (rest (r .value) us (t .holds) (t .spelled) .leads)));
   }
     where
       joined : (us : List ℤ) → Spells b k us → (r : Read B) → Met (λ c vs. Q c (us ++ vs)) b (k + length us) r → Met Q b k r
@@ -75,7 +77,8 @@ module _ {A B : Type 0} {P : A → List ℤ → Type 0} {Q : B → List ℤ → 
 module _ {A B : Type 0} {P : A → Type 0} {f : A → List ℤ} {Q : B → List ℤ → Type 0} where
   -- where f gives the words
   pub bind-at : {b : List ℕ} {k : ℕ} {m : Reader A} {g : A → Reader B}
-      → MeetsAt b k m (As P f) → ((a : A) → P a → Spells b k (f a) → MeetsAt b (k + length (f a)) (g a) (λ c vs. Q c (f a ++ vs))) → MeetsAt b k (m >>= g) Q
+      → MeetsAt b k m (As P f) → ((a : A) → P a → Spells b k (f a) → MeetsAt b (k + length (f a)) (g a) (λ c vs. Q c (f a ++ vs)))
+      → MeetsAt b k (m >>= g) Q
   bind-at {b} {k} {m} {g} h rest = bind-with h (λ a ws t s.
       subst (λ us. MeetsAt b (k + length us) (g a) (λ c vs. Q c (us ++ vs))) (sym (t .words)) (rest a (t .holds) (subst (Spells b k) (t .words) s)))
 
@@ -99,7 +102,8 @@ module _ {A : Type 0} {b : List ℕ} {k : ℕ} (t : Bool) (n : ℕ) {r : Reader 
   unfolding mustAt require _>>_ _>>=_ Answer._>>=_
   mustAt-at {p} fails passes = record {
     leads =
-        cond-cases (λ (x : Answer (Unit {0})). Leads (Met P b k) (Explained b) (Answer._>>=_ (Answer._>>=_ {B = Read (Unit {0})} x (λ u. accepted (record { value = u; next = k }))) (λ s. r b (s .next))))
+        cond-cases (λ (x : Answer (Unit {0})). Leads (Met P b k) (Explained b) (Answer._>>=_
+        (Answer._>>=_ {B = Read (Unit {0})} x (λ u. accepted (record { value = u; next = k }))) (λ s. r b (s .next))))
         t (accepted tt) (refused n p) (λ e. passes (true-T t e) .leads) (λ e. fails (false-not-T t e));
   }
 
@@ -121,15 +125,18 @@ unfolding word
 word-meets = record {
   from = λ b k r. record {
     leads =
-        leads-bind (λ _. k * 2 ≤ length b) (Explained b) (Met (As (λ _. Unit {0}) alone) b k) (wordAt b k) (λ w. accepted (record { value = w; next = suc k }))
-        (torn-word b k r (wordAt b k) (word-there b k r))
+        leads-bind (λ _. k * 2 ≤ length b) (Explained b) (Met (As (λ _. Unit {0}) alone) b k) (wordAt b k)
+        (λ w. accepted (record { value = w; next = suc k }))
+        (truncated-word b k r (wordAt b k) (word-there b k r))
         (λ w e h. record { words = w ∷ []; spelled = (e, tt); next = omega arith; holds = record { holds = tt; words = refl } });
   };
 }
   where
-    torn-word : (b : List ℕ) (k : ℕ) → Reaches b k → (x : Answer ℤ) → Leads (λ _. k * 2 ≤ length b) (Torn b k) x → Leads (λ _. k * 2 ≤ length b) (Explained b) x
-    torn-word b k r (accepted w) h = h
-    torn-word b k r (refused n p) h = subst (λ i. Explained b i p) (sym (h .number)) (subst (Explained b 1) (sym (h .place)) (torn (r .first) (r .there) (h .short)))
+    truncated-word : (b : List ℕ) (k : ℕ) → Reaches b k → (x : Answer ℤ) → Leads (λ _. k * 2 ≤ length b) (Truncated b k) x
+        → Leads (λ _. k * 2 ≤ length b) (Explained b) x
+    truncated-word b k r (accepted w) h = h
+    truncated-word b k r (refused n p) h = subst (λ i. Explained b i p) (sym (h .number))
+        (subst (Explained b 1) (sym (h .place)) (truncated (r .first) (r .there) (h .short)))
 
 -- a word that must pass a test, and a value made of it
 pub checked-meets : {A : Type 0} (t : ℤ → Bool) (n : ℕ) (v : ℤ → A) (P : A → List ℤ → Type 0)
@@ -138,20 +145,23 @@ pub checked-meets : {A : Type 0} (t : ℤ → Bool) (n : ℕ) (v : ℤ → A) (P
     → Meets (word >>= (λ w. must (t w) n >> done (v w))) P
 checked-meets t n v P fails passes = record {
   from = λ b k r. bind-at (word-meets .from b k r) (λ w _ s.
-      must-at (t w) n (λ f. let p : k + 1 - 1 ≡ k = omega arith in subst (Explained b n) (sym p) (fails b k w (record { counted = r .first; read = s .0 }) f)) (λ h. done-at (v w) (passes w h)));
+      must-at (t w) n (λ f. let p : k + 1 - 1 ≡ k = omega arith in subst (Explained b n) (sym p)
+      (fails b k w (record { counted = r .first; read = s .0 }) f)) (λ h. done-at (v w) (passes w h)));
 }
 
 -- ---- counts and numbers
 
 pub between-natural : (lo hi : ℕ) (w : ℤ) → T (between (pos lo) (pos hi) w) → InRange lo hi (natAbs w) × (w ≡ pos (natAbs w))
 unfolding between
-between-natural lo hi (pos n) h = let r = and-both (leZ (pos lo) (pos n)) (leZ (pos n) (pos hi)) h in (record { low = leb→le lo n (r .0); high = leb→le n hi (r .1) }, refl)
+between-natural lo hi (pos n) h = let r = and-both (leZ (pos lo) (pos n)) (leZ (pos n) (pos hi)) h
+    in (record { low = leb→le lo n (r .0); high = leb→le n hi (r .1) }, refl)
 between-natural lo hi (negsuc n) h = absurd h
 
 pub between-small : (w : ℤ) → T (between (negsuc 32766) (pos 32767) w) → Small w
 unfolding between
 between-small (pos n) h = let r = and-both (leZ (negsuc 32766) (pos n)) (leZ (pos n) (pos 32767)) h in leb→le n 32767 (r .1)
-between-small (negsuc n) h = let r = and-both (leZ (negsuc 32766) (negsuc n)) (leZ (negsuc n) (pos 32767)) h in let g = leb→le n 32766 (r .0) in omega arith
+between-small (negsuc n) h = let r = and-both (leZ (negsuc 32766) (negsuc n)) (leZ (negsuc n) (pos 32767)) h in let g = leb→le n 32766 (r .0)
+    in omega arith
 
 pub count-meets : {lo hi : ℕ} → CountRange lo hi → Meets (count lo hi) (As (InRange lo hi) one)
 unfolding count
@@ -165,7 +175,8 @@ within-meets {lo} {hi} c = checked-meets (between lo hi) 4 (λ w. w) (As (λ w. 
 
 pub natural-meets : {lo hi : ℕ} → WordRange (pos lo) (pos hi) → Meets (natural lo hi) (As (InRange lo hi) one)
 unfolding natural
-natural-meets {lo} {hi} c = bind (within-meets c) (λ w h. let r = between-natural lo hi w h in done-meets (natAbs w) (record { holds = r .0; words = ap alone (r .1) }))
+natural-meets {lo} {hi} c = bind (within-meets c) (λ w h. let r = between-natural lo hi w h in done-meets (natAbs w)
+    (record { holds = r .0; words = ap alone (r .1) }))
 
 pub number-meets : Meets number (As Small alone)
 unfolding number
@@ -183,14 +194,20 @@ pub record Few {A : Type 0} (lo hi : ℕ) (Q : List A → Type 0) (l : List A) :
   pub few : InRange lo hi (length l)
   pub holds : Q l
 
-pub times-meets : {A : Type 0} {r : Reader A} {Q : A → Type 0} {f : A → List ℤ} (n : ℕ) → Meets r (As Q f) → Meets (times n r) (As (Long n (All Q)) (flatMap f))
+pub times-meets : {A : Type 0} {r : Reader A} {Q : A → Type 0} {f : A → List ℤ} (n : ℕ) → Meets r (As Q f)
+    → Meets (times n r) (As (Long n (All Q)) (flatMap f))
 unfolding times flatMap
 times-meets {Q = Q} zero h = done-meets [] (record { holds = record { number = refl; holds = all-nil Q }; words = refl })
 times-meets {Q = Q} {f = f} (suc n) h = bind h (λ a q. bind (times-meets n h) (λ l e.
-    done-meets (a ∷ l) (record { holds = record { number = ap suc (e .number); holds = all-cons Q q (e .holds) }; words = ap (f a ++_) (append-nil (flatMap f l)) })))
+    done-meets (a ∷ l) (record {
+      holds = record { number = ap suc (e .number); holds = all-cons Q q (e .holds) };
+      words = ap (f a ++_)
+          (append-nil (flatMap f l));
+    })))
 
 -- after its count
-pub counted-from : {A : Type 0} {Q : List A → Type 0} (f : A → List ℤ) {lo hi n : ℕ} → InRange lo hi n → (l : List A) (ws : List ℤ) → As (Long n Q) (flatMap f) l ws → As (Few lo hi Q) (counted f) l (pos n ∷ ws)
+pub counted-from : {A : Type 0} {Q : List A → Type 0} (f : A → List ℤ) {lo hi n : ℕ} → InRange lo hi n → (l : List A) (ws : List ℤ)
+    → As (Long n Q) (flatMap f) l ws → As (Few lo hi Q) (counted f) l (pos n ∷ ws)
 unfolding counted
 counted-from f {lo} {hi} r l ws h = record {
   holds = record { few = subst (InRange lo hi) (sym (h .holds .number)) r; holds = h .holds .holds };
@@ -198,5 +215,6 @@ counted-from f {lo} {hi} r l ws h = record {
 }
 
 pub counted-meets : {A : Type 0} {g : ℕ → Reader (List A)} {Q : List A → Type 0} (f : A → List ℤ) {lo hi : ℕ}
-    → CountRange lo hi → ((n : ℕ) → InRange lo hi n → Meets (g n) (As (Long n Q) (flatMap f))) → Meets (count lo hi >>= g) (As (Few lo hi Q) (counted f))
+    → CountRange lo hi → ((n : ℕ) → InRange lo hi n → Meets (g n) (As (Long n Q) (flatMap f)))
+    → Meets (count lo hi >>= g) (As (Few lo hi Q) (counted f))
 counted-meets f c h = bind (count-meets c) (λ n r. meets-map (counted-from f r) (h n r))

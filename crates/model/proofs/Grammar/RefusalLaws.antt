@@ -8,7 +8,7 @@ use lib.ListN.{length, length-append}
 use Rattle.model.specs.Answer.{refused}
 use Rattle.model.specs.Grammar.{decode}
 use Rattle.model.specs.Encode.{counted, loopWords, arrayWords}
-use Rattle.model.specs.Ranges.{InRange, upTo, Explained, torn, overhang, badCount, badWord, noSkew, overfull, offNest}
+use Rattle.model.specs.Ranges.{InRange, upTo, Explained, truncated, trailing, badCount, badWord, noSkew, overfull, offNest}
 use Rattle.model.proofs.Answers.AnswerLaws.{leads-refused}
 use Rattle.model.proofs.Grammar.WordLaws.{Reaches, reaches-first, word-is-there, spells-reach}
 use Rattle.model.proofs.Grammar.GrammarLaws.{Decoded, decode-leads}
@@ -19,8 +19,8 @@ decode-explained b e = leads-refused (Decoded b) (Explained b) (decode-leads b) 
 -- ---- numbers
 
 pub explained-number : {b : List ℕ} {n p : ℕ} → Explained b n p → InRange 1 6 n
-explained-number (torn f t s) = record { low = omega arith; high = omega arith }
-explained-number (overhang f t) = record { low = omega arith; high = omega arith }
+explained-number (truncated f t s) = record { low = omega arith; high = omega arith }
+explained-number (trailing f t) = record { low = omega arith; high = omega arith }
 explained-number (badCount c w o) = record { low = omega arith; high = omega arith }
 explained-number (badWord c w o) = record { low = omega arith; high = omega arith }
 explained-number (noSkew w) = record { low = omega arith; high = omega arith }
@@ -34,8 +34,8 @@ decode-number b e = explained-number (decode-explained b e)
 
 -- 3, 4 and 5: the word is there
 pub explained-word : {b : List ℕ} {n p : ℕ} → Explained b n p → 3 ≤ n → n ≤ 5 → (1 ≤ p) × (p * 2 ≤ length b)
-explained-word (torn f t s) l h = absurd (omega arith)
-explained-word (overhang f t) l h = absurd (omega arith)
+explained-word (truncated f t s) l h = absurd (omega arith)
+explained-word (trailing f t) l h = absurd (omega arith)
 explained-word {b} {p = p} (badCount {w = w} c i o) l h = (i .counted, word-is-there b p w i)
 explained-word {b} {p = p} (badWord {w = w} c i o) l h = (i .counted, word-is-there b p w i)
 explained-word {b} {p = p} (noSkew i) l h = (i .counted, word-is-there b p (pos 0) i)
@@ -50,8 +50,8 @@ from-word h = record { first = h .0; there = omega arith }
 
 -- 1 to 5: the words before it are there
 pub explained-place : {b : List ℕ} {n p : ℕ} → Explained b n p → n ≤ 5 → Reaches b p
-explained-place (torn f t s) h = record { first = f; there = t }
-explained-place (overhang f t) h = record { first = f; there = omega arith }
+explained-place (truncated f t s) h = record { first = f; there = t }
+explained-place (trailing f t) h = record { first = f; there = omega arith }
 explained-place (badCount c i o) h = from-word (explained-word (badCount c i o) (omega arith) h)
 explained-place (badWord c i o) h = from-word (explained-word (badWord c i o) (omega arith) h)
 explained-place (noSkew i) h = from-word (explained-word (noSkew i) (omega arith) h)
@@ -60,8 +60,8 @@ explained-place (offNest i m w b) h = absurd (omega arith)
 
 -- 6: it is a step's number
 pub explained-step : {b : List ℕ} {n p : ℕ} → Explained b n p → 6 ≤ n → InRange 1 8 p
-explained-step (torn f t s) h = absurd (omega arith)
-explained-step (overhang f t) h = absurd (omega arith)
+explained-step (truncated f t s) h = absurd (omega arith)
+explained-step (trailing f t) h = absurd (omega arith)
 explained-step (badCount c i o) h = absurd (omega arith)
 explained-step (badWord c i o) h = absurd (omega arith)
 explained-step (noSkew i) h = absurd (omega arith)

@@ -37,21 +37,26 @@ limit-small l r = all-cons Small (r .multiplier .high) (all-cons Small (r .const
 
 loop-small : {m : ℕ} (L : Loop) → m ≤ 32767 → LoopRanges m L → All Small (loopWords L)
 unfolding loopWords
-loop-small L h r = let u = r .few-lower .high in let v = r .few-upper .high in all-append Small (counted limitWords (L .lower)) (counted limitWords (L .upper))
-    (counted-small limitWords (L .lower) (omega arith) (λ l i. limit-small l (r .lower l i))) (counted-small limitWords (L .upper) (omega arith) (λ l i. limit-small l (r .upper l i)))
+loop-small L h r = let u = r .few-lower .high in let v = r .few-upper .high in all-append Small (counted limitWords (L .lower))
+    (counted limitWords (L .upper))
+    (counted-small limitWords (L .lower) (omega arith) (λ l i. limit-small l (r .lower l i)))
+    (counted-small limitWords (L .upper) (omega arith) (λ l i. limit-small l (r .upper l i)))
 
 array-small : (a : List ℕ) → ArrayRanges a → All Small (arrayWords a)
 unfolding arrayWords
-array-small a r = let u = r .dimensions .high in counted-small one a (omega arith) (λ n i. let e = r .extents n i .high in all-cons Small (omega arith) (all-nil Small))
+array-small a r = let u = r .dimensions .high in counted-small one a (omega arith)
+    (λ n i. let e = r .extents n i .high in all-cons Small (omega arith) (all-nil Small))
 
 access-small : {n : ℕ} (as′ : List (List ℕ)) (a : Access) → length as′ ≤ 4 → AccessRanges a → Fits as′ n a → All Small (accessWords a)
 unfolding accessWords
 access-small as′ a h r f = let t = f .there in all-cons Small (omega arith)
-    (all-flatMap (λ (s : Subscript). s .constant ∷ s .coefficients) Small (a .subscripts) (λ s i. all-cons Small (r s i .constant) (r s i .coefficients)))
+    (all-flatMap (λ (s : Subscript). s .constant ∷ s .coefficients) Small (a .subscripts)
+    (λ s i. all-cons Small (r s i .constant) (r s i .coefficients)))
 
 statement-small : {n : ℕ} (as′ : List (List ℕ)) (s : Statement) → length as′ ≤ 4 → StatementRanges s → FitsAll as′ n s → All Small (statementWords s)
 unfolding statementWords
-statement-small as′ s h r f = let u = r .rule in let v = r .few-reads in all-cons Small (omega arith) (all-cons Small (r .constant) (all-append Small (flatMap accessWords (s .writes)) (counted accessWords (s .reads))
+statement-small as′ s h r f = let u = r .rule in let v = r .few-reads in all-cons Small (omega arith)
+    (all-cons Small (r .constant) (all-append Small (flatMap accessWords (s .writes)) (counted accessWords (s .reads))
     (all-flatMap accessWords Small (s .writes) (λ a i. access-small as′ a h (r .writes a i) (f .writes a i)))
     (counted-small accessWords (s .reads) (omega arith) (λ a i. access-small as′ a h (r .reads a i) (f .reads a i)))))
 
@@ -90,13 +95,15 @@ unfolding decodeNest written encode Answer._>>=_ done
 encode-decodes N w r =
     let ws = nestSections N ++ one 0 in
     let b = bytesOf ws in
-    let s : Spells b 1 ws = bytes-words ws (all-append Small (nestSections N) (one 0) (nest-small N (omega arith) (omega arith) r w) (all-cons Small (omega arith) (all-nil Small))) in
+    let s : Spells b 1 ws = bytes-words ws (all-append Small (nestSections N) (one 0) (nest-small N (omega arith) (omega arith) r w)
+    (all-cons Small (omega arith) (all-nil Small))) in
     let k = 1 + length (nestSections N) in
     let l = length-bytes ws in
     let m = length-append (nestSections N) (one 0) in
     ap (λ v. decodeNest (bytesOf v)) (nest-words N) ∙ ap (λ x. Answer._>>=_ x (λ t. accepted (t .value)))
     (bind-reads (nest 6 16) _ b 1 (yields-nest 6 16 N r w .read b 1 (spells-left b 1 (nestSections N) (one 0) s))
-    ∙ bind-reads (count 0 0) _ b k (yields-count (record { low = omega arith; high = omega arith }) .read b k (spells-right b 1 (nestSections N) (one 0) s))
+    ∙ bind-reads (count 0 0) _ b k (yields-count (record { low = omega arith; high = omega arith }) .read b k
+    (spells-right b 1 (nestSections N) (one 0) s))
     ∙ end-reads (done N) b (k + 1) (omega arith))
 
 -- the nest of an accepted ticket, written with no step

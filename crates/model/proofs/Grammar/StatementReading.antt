@@ -79,7 +79,8 @@ module _ (depth : ℕ) (as′ : List (List ℕ)) (few : InRange 1 4 (length as�
           };
           fits = record { writes = all-cons (Fits as′ depth) (i .fits) (all-nil (Fits as′ depth)); reads = λ a m. e .holds a m .fits };
         };
-        words = ap (λ ws. pos r ∷ pos c ∷ ws) (ap₂ _++_ (sym (append-nil (accessWords w))) (ap (pos n ∷_) (append-nil (flatMap accessWords rs)) ∙ q .words));
+        words = ap (λ ws. pos r ∷ pos c ∷ ws) (ap₂ _++_ (sym (append-nil (accessWords w)))
+            (ap (pos n ∷_) (append-nil (flatMap accessWords rs)) ∙ q .words));
       }))))))
 
   pub statements-meets : Meets (statements depth as′) (As (Few 1 mostStatements (All StatementRead)) (counted statementWords))

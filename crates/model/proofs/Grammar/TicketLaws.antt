@@ -47,30 +47,39 @@ factor-word : (c : ℤ) → InRange 1 mostFactor (natAbs c) → T (between (neg�
 unfolding between
 factor-word (pos zero) r = absurd (let l = r .low in omega arith)
 factor-word (pos (suc c)) r = (le→leb (suc c) mostFactor (r .high), not-T (eqb (suc c) 0) (λ t. let e = eqb→eq (suc c) 0 t in absurd (omega arith)))
-factor-word (negsuc c) r = let h = r .high in (and-intro (leZ (negℤ (pos mostFactor)) (negsuc c)) (leZ (negsuc c) (pos mostFactor)) (le→leb c (mostFactor - 1) (omega arith)) tt, tt)
+factor-word (negsuc c) r = let h = r .high in (
+  and-intro (leZ (negℤ (pos mostFactor)) (negsuc c)) (leZ (negsuc c) (pos mostFactor))
+      (le→leb c (mostFactor - 1) (omega arith)) tt,
+  tt,
+)
 
 module _ (k m : ℕ) (few : m ≤ 6) where
   -- the word of a loop that is there, with its rule
-  yields-loop : (ok : ℤ → Bool) (a : ℕ) → a < m → T (ok (pos (suc a))) → Yields (loopNumber k (λ w. between (pos 1) (pos m) w && ok w)) (one (suc a)) (suc a)
+  yields-loop : (ok : ℤ → Bool) (a : ℕ) → a < m → T (ok (pos (suc a)))
+      → Yields (loopNumber k (λ w. between (pos 1) (pos m) w && ok w)) (one (suc a)) (suc a)
   yields-loop ok a h t = yields-loopNumber k (λ w. between (pos 1) (pos m) w && ok w) (suc a) (omega arith)
       (and-intro (between (pos 1) (pos m) (pos (suc a))) (ok (pos (suc a))) (natural-between 1 m (suc a) (record { low = omega arith; high = h })) t)
 
   yields-outer : (a : ℕ) → a < m → Yields (loopNumber k (between (pos 1) (pos m))) (one (suc a)) (suc a)
-  yields-outer a h = yields-loopNumber k (between (pos 1) (pos m)) (suc a) (omega arith) (natural-between 1 m (suc a) (record { low = omega arith; high = h }))
+  yields-outer a h = yields-loopNumber k (between (pos 1) (pos m)) (suc a) (omega arith)
+      (natural-between 1 m (suc a) (record { low = omega arith; high = h }))
 
   pub yields-step : (t : Step) → StepThere m t → Yields (stepOf (kindOf t) k m) (arguments t) t
   unfolding stepOf exchangeStep reversalStep skewStep sectionStep
   yields-step (exchange a) h = yields-value (ap exchange (less-one a)) (yields-bind _ (yields-outer a (omega arith))
       (yields-bind _ (yields-loop (λ w. eqZ w (pos (suc (suc a)))) (suc a) h (eqb-refl (suc (suc a)))) (yields-nought (exchange (suc a - 1)))))
-  yields-step (reversal a) h = yields-value (ap reversal (less-one a)) (yields-bind _ (yields-outer a h) (yields-bind _ (yields-natural (record { low = omega arith; high = omega arith })) (yields-nought (reversal (suc a - 1)))))
+  yields-step (reversal a) h = yields-value (ap reversal (less-one a)) (yields-bind _ (yields-outer a h)
+      (yields-bind _ (yields-natural (record { low = omega arith; high = omega arith })) (yields-nought (reversal (suc a - 1)))))
   yields-step (skew a d c) h = let r = factor-word c (h .1) in
       yields-value (ap₂ (λ i j. skew i j c) (less-one a) (inner a d)) (yields-bind _ (yields-outer a (let z = h .0 in omega arith))
       (yields-bind _ (yields-loop (λ w. ltZ (pos (suc a)) w) (suc (a + d)) (h .0) (lt→ltb (suc a) (suc (suc (a + d))) (omega arith)))
-      (yields-bind _ (yields-within (negℤ (pos mostFactor)) (pos mostFactor) c (r .0)) (yields-must (not (eqZ c (pos 0))) 4 (r .1) (yields-done (skew (suc a - 1) (suc (suc (a + d)) - suc a - 1) c))))))
+      (yields-bind _ (yields-within (negℤ (pos mostFactor)) (pos mostFactor) c (r .0))
+      (yields-must (not (eqZ c (pos 0))) 4 (r .1) (yields-done (skew (suc a - 1) (suc (suc (a + d)) - suc a - 1) c))))))
     where
       inner : (a d : ℕ) → suc (suc (a + d)) - suc a - 1 ≡ d
       inner a d = omega arith
-  yields-step (section a w) h = yields-value (ap (λ i. section i w) (less-one a)) (yields-bind _ (yields-loop (λ _. ltb m 6) a (h .0) (lt→ltb m 6 (h .1)))
+  yields-step (section a w) h = yields-value (ap (λ i. section i w) (less-one a))
+      (yields-bind _ (yields-loop (λ _. ltb m 6) a (h .0) (lt→ltb m 6 (h .1)))
       (yields-bind _ (yields-natural (h .2)) (yields-nought (section (suc a - 1) w))))
 
 kind-range : (t : Step) → InRange 1 4 (kindOf t)
@@ -93,14 +102,17 @@ yields-steps m ts r l h = yields-counted (stepsFrom 1 m) stepWords ts (record { 
 arguments-small : (t : Step) (m : ℕ) → m ≤ 6 → StepThere m t → All Small (arguments t)
 arguments-small (exchange a) m l h = all-cons Small (omega arith) (all-cons Small (omega arith) (all-cons Small (omega arith) (all-nil Small)))
 arguments-small (reversal a) m l h = all-cons Small (omega arith) (all-cons Small (omega arith) (all-cons Small (omega arith) (all-nil Small)))
-arguments-small (skew a d c) m l h = let z = h .0 in let f = h .1 .high in all-cons Small (omega arith) (all-cons Small (omega arith) (all-cons Small (omega arith) (all-nil Small)))
-arguments-small (section a w) m l h = let v = h .2 .high in all-cons Small (omega arith) (all-cons Small (omega arith) (all-cons Small (omega arith) (all-nil Small)))
+arguments-small (skew a d c) m l h = let z = h .0 in let f = h .1 .high in all-cons Small (omega arith)
+    (all-cons Small (omega arith) (all-cons Small (omega arith) (all-nil Small)))
+arguments-small (section a w) m l h = let v = h .2 .high in all-cons Small (omega arith)
+    (all-cons Small (omega arith) (all-cons Small (omega arith) (all-nil Small)))
 
 steps-small : (ts : List Step) (m : ℕ) → InRange 1 6 m → StepsThere m ts → All Small (flatMap stepWords ts)
 unfolding flatMap
 steps-small [] m r h = all-nil Small
 steps-small (t ∷ ts) m r h = all-append Small (stepWords t) (flatMap stepWords ts)
-    (all-cons Small (let k = kind-range t .high in omega arith) (arguments-small t m (r .high) (h .0))) (steps-small ts (depthAfter t m) (depth-there t m r (h .0)) (h .1))
+    (all-cons Small (let k = kind-range t .high in omega arith) (arguments-small t m (r .high) (h .0)))
+    (steps-small ts (depthAfter t m) (depth-there t m r (h .0)) (h .1))
 
 -- ---- the ticket
 
@@ -109,7 +121,8 @@ few-loops T r = let u = r .nest .few-loops .low in let v = r .nest .few-loops .h
 
 ticket-small : (T : Ticket) → TicketRanges T → WellFormed (T .nest) → All Small (ticketWords T)
 unfolding ticketWords counted
-ticket-small T r w = let l = r .few-steps in all-append Small (nestSections (T .nest)) (counted stepWords (T .steps)) (nest-small (T .nest) (omega arith) (omega arith) (r .nest) w)
+ticket-small T r w = let l = r .few-steps in all-append Small (nestSections (T .nest)) (counted stepWords (T .steps))
+    (nest-small (T .nest) (omega arith) (omega arith) (r .nest) w)
     (all-cons Small (omega arith) (steps-small (T .steps) (length (T .nest .loops)) (few-loops T r) (r .steps)))
 
 pub ticket-decodes : (T : Ticket) → TicketRanges T → WellFormed (T .nest) → decode (bytesOf (ticketWords T)) ≡ accepted T
@@ -125,7 +138,8 @@ ticket-decodes T r w =
     let m = length-append us vs in
     ap (λ x. Answer._>>=_ x (λ t. accepted (t .value)))
     (bind-reads (nest 4 4) _ b 1 (yields-nest 4 4 N (r .nest) w .read b 1 (spells-left b 1 us vs s))
-    ∙ bind-reads (steps (length (N .loops))) _ b k (yields-steps (length (N .loops)) (T .steps) (few-loops T r) (r .few-steps) (r .steps) .read b k (spells-right b 1 us vs s))
+    ∙ bind-reads (steps (length (N .loops))) _ b k (yields-steps (length (N .loops)) (T .steps) (few-loops T r) (r .few-steps) (r .steps) .read b k
+    (spells-right b 1 us vs s))
     ∙ end-reads (done (record { nest = N; steps = T .steps })) b (k + length vs) (omega arith))
 
 -- ---- bytes back from the ticket
@@ -135,10 +149,12 @@ decode-bytes b {T} a e =
     let d = decoded b e in
     let n = d .whole in
     let m : (1 + length (ticketWords T) - 1) * 2 ≡ length b = omega arith in
-    spelled-bytes b 1 (ticketWords T) (omega arith) a (d .spelled) ∙ ap (bytesOf (ticketWords T) ++_) (ap (λ i. drop i b) m ∙ drop-length b) ∙ append-nil (bytesOf (ticketWords T))
+    spelled-bytes b 1 (ticketWords T) (omega arith) a (d .spelled) ∙ ap (bytesOf (ticketWords T) ++_) (ap (λ i. drop i b) m ∙ drop-length b)
+    ∙ append-nil (bytesOf (ticketWords T))
 
 -- the bytes that decode to a ticket
-pub decode-iff : (b : List ℕ) (T : Ticket) → All Byte b → (decode b ≡ accepted T) ↔ ((b ≡ bytesOf (ticketWords T)) × TicketRanges T × WellFormed (T .nest))
+pub decode-iff : (b : List ℕ) (T : Ticket) → All Byte b → (decode b ≡ accepted T) ↔
+    ((b ≡ bytesOf (ticketWords T)) × TicketRanges T × WellFormed (T .nest))
 decode-iff b T a = (λ e. (decode-bytes b a e, decode-ranges b e, decode-formed b e), λ h. ap decode (h .0) ∙ ticket-decodes T (h .1) (h .2))
 
 -- different bytes give different tickets

@@ -1,4 +1,4 @@
--- Words in bytes: a word that is there or torn; words that follow one another (`Spells`), joined and parted; the bytes of words
+-- Words in bytes: a word that is there or truncated; words that follow one another (`Spells`), joined and parted; the bytes of words
 -- spell them, and bytes that spell words are theirs.
 use mathlib.Core.Path.{_≡_, refl, sym, ap, ap₂, _∙_, subst}
 use mathlib.Core.List.{List, [], _∷_, _++_, flatMap, append-assoc, List·Memᴰ·head, List·Memᴰ·tail}
@@ -29,19 +29,19 @@ pub record Reaches (b : List ℕ) (k : ℕ) : Type 0 where
 pub reaches-first : (b : List ℕ) → Reaches b 1
 reaches-first b = record { first = omega arith; there = omega arith }
 
-pub record Torn (b : List ℕ) (k n p : ℕ) : Type 0 where
+pub record Truncated (b : List ℕ) (k n p : ℕ) : Type 0 where
   pub number : n ≡ 1
   pub place : p ≡ k
   pub short : length b < k * 2
 
-first-word : (b l : List ℕ) (k : ℕ) → 1 ≤ k → (k - 1) * 2 + length l ≡ length b → Leads (λ w. k * 2 ≤ length b) (Torn b k) (firstWord k l)
+first-word : (b l : List ℕ) (k : ℕ) → 1 ≤ k → (k - 1) * 2 + length l ≡ length b → Leads (λ w. k * 2 ≤ length b) (Truncated b k) (firstWord k l)
 unfolding firstWord
 first-word b [] k h e = record { number = refl; place = refl; short = omega arith }
 first-word b (lo ∷ []) k h e = record { number = refl; place = refl; short = omega arith }
 first-word b (lo ∷ hi ∷ rest) k h e = omega arith
 
--- word k is there, or it is torn
-pub word-there : (b : List ℕ) (k : ℕ) → Reaches b k → Leads (λ w. k * 2 ≤ length b) (Torn b k) (wordAt b k)
+-- word k is there, or it is truncated
+pub word-there : (b : List ℕ) (k : ℕ) → Reaches b k → Leads (λ w. k * 2 ≤ length b) (Truncated b k) (wordAt b k)
 unfolding wordAt
 word-there b k r = first-word b (drop ((k - 1) * 2) b) k (r .first) (simp length-drop (omega arith))
 
@@ -71,7 +71,7 @@ spells-right b k (u ∷ us) vs h = subst (λ j. Spells b j vs) (omega arith) (sp
 pub spells-reach : (b : List ℕ) (k : ℕ) (ws : List ℤ) → Reaches b k → Spells b k ws → Reaches b (k + length ws)
 spells-reach b k [] r h = subst (Reaches b) (omega arith) r
 spells-reach b k (w ∷ ws) r h =
-    let t : k * 2 ≤ length b = subst (Leads (λ w. k * 2 ≤ length b) (Torn b k)) (h .0) (word-there b k r) in
+    let t : k * 2 ≤ length b = subst (Leads (λ w. k * 2 ≤ length b) (Truncated b k)) (h .0) (word-there b k r) in
     subst (Reaches b) (omega arith) (spells-reach b (suc k) ws (record { first = omega arith; there = omega arith }) (h .1))
 
 -- ---- bytes of words
@@ -101,8 +101,11 @@ bytes-spell b rest k (w ∷ ws) h e s =
     let f : drop ((k - 1) * 2) b ≡ wordBytes w ++ (bytesOf ws ++ rest) = e ∙ append-assoc (wordBytes w) (bytesOf ws) rest in
     let n : (suc k - 1) * 2 ≡ (k - 1) * 2 + 2 = omega arith in
     let g : drop ((suc k - 1) * 2) b ≡ bytesOf ws ++ rest =
-    ap (λ i. drop i b) n ∙ sym (drop-drop 2 ((k - 1) * 2) b) ∙ ap (drop 2) f ∙ drop-at (wordBytes w) (bytesOf ws ++ rest) 2 (two w) in
-    (ap (firstWord k) f ∙ word-read k w (bytesOf ws ++ rest) (s w (List·Memᴰ·head refl)), bytes-spell b rest (suc k) ws (omega arith) g (λ x m. s x (List·Memᴰ·tail m)))
+    ap (λ i. drop i b) n ∙ sym (drop-drop 2 ((k - 1) * 2) b) ∙ ap (drop 2) f ∙ drop-at (wordBytes w) (bytesOf ws ++ rest) 2 (two w) in (
+      ap (firstWord k) f ∙ word-read k w (bytesOf ws ++ rest) (s w (List·Memᴰ·head refl)),
+      bytes-spell b rest (suc k) ws (omega arith) g
+          (λ x m. s x (List·Memᴰ·tail m)),
+    )
   where
     two : (w : ℤ) → length (wordBytes w) ≡ 2
     two w = unfold wordBytes in refl
@@ -126,15 +129,18 @@ word-back : (k : ℕ) (l : List ℕ) (w : ℤ) → All Byte l → firstWord k l 
 unfolding firstWord
 word-back k [] w h e = not-both (sym e)
 word-back k (lo ∷ []) w h e = not-both (sym e)
-word-back k (lo ∷ hi ∷ rest) w h e = ap (_++ rest) (sym (word-bytes lo hi (h lo (List·Memᴰ·head refl)) (h hi (List·Memᴰ·tail (List·Memᴰ·head refl)))) ∙ ap wordBytes (accepted-same e))
+word-back k (lo ∷ hi ∷ rest) w h e = ap (_++ rest) (sym (word-bytes lo hi (h lo (List·Memᴰ·head refl))
+    (h hi (List·Memᴰ·tail (List·Memᴰ·head refl)))) ∙ ap wordBytes (accepted-same e))
 
 -- bytes that spell words from number k on go on with the bytes of those words
-pub spelled-bytes : (b : List ℕ) (k : ℕ) (ws : List ℤ) → 1 ≤ k → All Byte b → Spells b k ws → drop ((k - 1) * 2) b ≡ bytesOf ws ++ drop ((k + length ws - 1) * 2) b
+pub spelled-bytes : (b : List ℕ) (k : ℕ) (ws : List ℤ) → 1 ≤ k → All Byte b → Spells b k ws
+    → drop ((k - 1) * 2) b ≡ bytesOf ws ++ drop ((k + length ws - 1) * 2) b
 unfolding bytesOf flatMap wordAt
 spelled-bytes b k [] h a s = let e : (k - 1) * 2 ≡ (k + 0 - 1) * 2 = omega arith in ap (λ n. drop n b) e
 spelled-bytes b k (w ∷ ws) h a s =
     let m : (k - 1) * 2 + 2 ≡ (suc k - 1) * 2 = omega arith in
     let n : (suc k + length ws - 1) * 2 ≡ (k + suc (length ws) - 1) * 2 = omega arith in
     word-back k (drop ((k - 1) * 2) b) w (all-drop Byte ((k - 1) * 2) b a) (s .0)
-    ∙ ap (wordBytes w ++_) (drop-drop 2 ((k - 1) * 2) b ∙ ap (λ i. drop i b) m ∙ spelled-bytes b (suc k) ws (omega arith) a (s .1) ∙ ap (λ i. bytesOf ws ++ drop i b) n)
+    ∙ ap (wordBytes w ++_) (drop-drop 2 ((k - 1) * 2) b ∙ ap (λ i. drop i b) m ∙ spelled-bytes b (suc k) ws (omega arith) a (s .1)
+    ∙ ap (λ i. bytesOf ws ++ drop i b) n)
     ∙ sym (append-assoc (wordBytes w) (bytesOf ws) (drop ((k + suc (length ws) - 1) * 2) b))

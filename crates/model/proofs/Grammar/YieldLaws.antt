@@ -25,7 +25,8 @@ pub record Yields {A : Type 0} (r : Reader A) (ws : List ℤ) (v : A) : Type 0 w
 
 -- ---- readers joined
 
-pub bind-reads : {A B : Type 0} (m : Reader A) (g : A → Reader B) (b : List ℕ) (k : ℕ) {r : Read A} → m b k ≡ accepted r → (m >>= g) b k ≡ g (r .value) b (r .next)
+pub bind-reads : {A B : Type 0} (m : Reader A) (g : A → Reader B) (b : List ℕ) (k : ℕ) {r : Read A} → m b k ≡ accepted r
+    → (m >>= g) b k ≡ g (r .value) b (r .next)
 unfolding _>>=_ Answer._>>=_
 bind-reads m g b k e = ap (λ x. Answer._>>=_ x (λ r. g (r .value) b (r .next))) e
 
@@ -39,7 +40,8 @@ pub yields-done : {A : Type 0} (a : A) → Yields (done a) [] a
 unfolding done
 yields-done a = record { read = λ b k s. ap (λ n. accepted (record { value = a; next = n })) (sym (add-zero k)) }
 
-pub yields-bind : {A B : Type 0} {m : Reader A} (g : A → Reader B) {us vs : List ℤ} {a : A} {c : B} → Yields m us a → Yields (g a) vs c → Yields (m >>= g) (us ++ vs) c
+pub yields-bind : {A B : Type 0} {m : Reader A} (g : A → Reader B) {us vs : List ℤ} {a : A} {c : B} → Yields m us a → Yields (g a) vs c
+    → Yields (m >>= g) (us ++ vs) c
 yields-bind {m = m} g {us = us} {vs = vs} {a = a} {c = c} y z = record {
   read = λ b k s.
       bind-reads m g b k (y .read b k (spells-left b k us vs s)) ∙ z .read b (k + length us) (spells-right b k us vs s)
@@ -71,7 +73,10 @@ module _ {A : Type 0} {r : Reader A} {ws : List ℤ} {v : A} where
 
 pub yields-word : (w : ℤ) → Yields word (alone w) w
 unfolding word Answer._>>=_
-yields-word w = record { read = λ b k s. ap (λ x. Answer._>>=_ x (λ v. accepted (record { value = v; next = suc k }))) (s .0) ∙ ap (λ n. accepted (record { value = w; next = n })) (sym (add-one k)) }
+yields-word w = record {
+  read = λ b k s. ap (λ x. Answer._>>=_ x (λ v. accepted (record { value = v; next = suc k }))) (s .0)
+      ∙ ap (λ n. accepted (record { value = w; next = n })) (sym (add-one k));
+}
 
 pub natural-between : (lo hi n : ℕ) → InRange lo hi n → T (between (pos lo) (pos hi) (pos n))
 unfolding between
@@ -84,7 +89,8 @@ small-between (negsuc n) h = and-intro (leb n 32766) true (le→leb n 32766 (ome
 
 pub yields-count : {lo hi n : ℕ} → InRange lo hi n → Yields (count lo hi) (one n) n
 unfolding count
-yields-count {lo} {hi} {n} r = yields-bind _ (yields-word (pos n)) (yields-must (between (pos lo) (pos hi) (pos n)) 3 (natural-between lo hi n r) (yields-done n))
+yields-count {lo} {hi} {n} r = yields-bind _ (yields-word (pos n)) (yields-must (between (pos lo) (pos hi) (pos n)) 3 (natural-between lo hi n r)
+    (yields-done n))
 
 pub yields-within : (lo hi w : ℤ) → T (between lo hi w) → Yields (within lo hi) (alone w) w
 unfolding within
@@ -100,12 +106,14 @@ yields-number z h = yields-within (negsuc 32766) (pos 32767) z (small-between z 
 
 -- ---- lists
 
-pub yields-times : {A : Type 0} {r : Reader A} (f : A → List ℤ) (l : List A) → All (λ a. Yields r (f a) a) l → Yields (times (length l) r) (flatMap f l) l
+pub yields-times : {A : Type 0} {r : Reader A} (f : A → List ℤ) (l : List A) → All (λ a. Yields r (f a) a) l
+    → Yields (times (length l) r) (flatMap f l) l
 unfolding times flatMap
 yields-times f [] h = yields-done []
 yields-times f (a ∷ l) h = yields-bind _ (h a (List·Memᴰ·head refl)) (yields-last (a ∷_) (yields-times f l (λ x m. h x (List·Memᴰ·tail m))))
 
 -- after its count
-pub yields-counted : {A : Type 0} (g : ℕ → Reader (List A)) (f : A → List ℤ) {lo hi : ℕ} (l : List A) → InRange lo hi (length l) → Yields (g (length l)) (flatMap f l) l → Yields (count lo hi >>= g) (counted f l) l
+pub yields-counted : {A : Type 0} (g : ℕ → Reader (List A)) (f : A → List ℤ) {lo hi : ℕ} (l : List A) → InRange lo hi (length l)
+    → Yields (g (length l)) (flatMap f l) l → Yields (count lo hi >>= g) (counted f l) l
 unfolding counted
 yields-counted g f l r y = yields-bind g (yields-count r) y

@@ -82,7 +82,8 @@ module _ (A : Accesses) (ps : List (List ℤ)) (l : Line) where
   occurs-shows h =
       let r = any-some (λ p. any (λ q. has p q) ps) ps h in
       let s = any-some (λ q. has (r .0) q) ps (r .2) in
-      let a = and-both (comesFirst (source (r .0)) (sink (s .0))) (conflictOf (l .kind) A (source (r .0)) (sink (s .0)) && sameBy sameSign (signs (r .0) (s .0)) (l .vector)) (s .2) in
+      let a = and-both (comesFirst (source (r .0)) (sink (s .0))) (conflictOf (l .kind) A (source (r .0)) (sink (s .0)) && sameBy sameSign
+      (signs (r .0) (s .0)) (l .vector)) (s .2) in
       let b = and-both (conflictOf (l .kind) A (source (r .0)) (sink (s .0))) (sameBy sameSign (signs (r .0) (s .0)) (l .vector)) (a .1) in
       record {
         early = r .0;
@@ -97,7 +98,8 @@ module _ (A : Accesses) (ps : List (List ℤ)) (l : Line) where
   shows-occurs : Shows A ps l → T (occurs A ps l)
   unfolding occurs
   shows-occurs r = some-any (λ p. any (λ q. has p q) ps) ps (r .early-there) (some-any (λ q. has (r .early) q) ps (r .late-there)
-      (and-intro (comesFirst (source (r .early)) (sink (r .late))) (conflictOf (l .kind) A (source (r .early)) (sink (r .late)) && sameBy sameSign (signs (r .early) (r .late)) (l .vector)) (r .first)
+      (and-intro (comesFirst (source (r .early)) (sink (r .late))) (conflictOf (l .kind) A (source (r .early)) (sink (r .late)) && sameBy sameSign
+      (signs (r .early) (r .late)) (l .vector)) (r .first)
       (and-intro (conflictOf (l .kind) A (source (r .early)) (sink (r .late))) (sameBy sameSign (signs (r .early) (r .late)) (l .vector)) (r .clash)
       (equal-test (sameBy sameSign) vectors-decide (signs (r .early) (r .late)) (l .vector) (r .vector)))))
 
@@ -139,7 +141,8 @@ pub record Clash (k : Kind) (ss : List Statement) (i j : Instance) : Type 0 wher
   pub meet : element (i .iteration) early ≡ element (j .iteration) late
 
 module _ (ss : List Statement) where
-  source-elements : (k : Kind) (i : Instance) → sourceOf k (accesses ss) i ≡ map (element (i .iteration)) (sourceAccesses k (bodyAt ss (i .statement)))
+  source-elements : (k : Kind) (i : Instance) → sourceOf k (accesses ss) i ≡ map (element (i .iteration))
+      (sourceAccesses k (bodyAt ss (i .statement)))
   unfolding accesses
   source-elements flow i = refl
   source-elements anti i = refl
@@ -154,12 +157,14 @@ module _ (ss : List Statement) where
   pub clash-exact : (k : Kind) (i j : Instance) → T (conflictOf k (accesses ss) i j) ↔ Clash k ss i j
   clash-exact k i j = (
     λ h. let r = conflictOf-shared (accesses ss) i j k h in
-        let a = Memᴰ·of-map (element (i .iteration)) (sourceAccesses k (bodyAt ss (i .statement))) (subst (Mem (r .0)) (source-elements k i) (r .1)) in
+        let a = Memᴰ·of-map (element (i .iteration)) (sourceAccesses k (bodyAt ss (i .statement))) (subst (Mem (r .0)) (source-elements k i) (r .1))
+        in
         let b = Memᴰ·of-map (element (j .iteration)) (sinkAccesses k (bodyAt ss (j .statement))) (subst (Mem (r .0)) (sink-elements k j) (r .2)) in
         record { early = a .0; late = b .0; of-source = a .1; of-sink = b .1; meet = a .2 ∙ sym (b .2) },
     λ c. shared-conflictOf (accesses ss) i j k
         (subst (Mem (element (i .iteration) (c .early))) (sym (source-elements k i)) (Memᴰ·map (element (i .iteration)) (c .of-source)))
-        (subst (Mem (element (i .iteration) (c .early))) (sym (sink-elements k j)) (Memᴰ·cast (c .meet) (Memᴰ·map (element (j .iteration)) (c .of-sink)))),
+        (subst (Mem (element (i .iteration) (c .early))) (sym (sink-elements k j))
+        (Memᴰ·cast (c .meet) (Memᴰ·map (element (j .iteration)) (c .of-sink)))),
   )
 
 -- ---- kinds merged
@@ -183,7 +188,8 @@ module _ (A : Accesses) (n d : ℕ) (ps : List (List ℤ)) (o : Ordered Earlier 
           let i = source A ps l (s .early) in
           let j = sink A ps l (s .late) in
           Memᴰ·cast (sym (s .vector ∙ r .2)) (directions-mem A (instances n ps) i j
-          (comesFirst-precedes n ps o i j (mem-instances n ps i (h .0 .source) (s .early-there)) (mem-instances n ps j (h .0 .sink) (s .late-there)) (s .first))
+          (comesFirst-precedes n ps o i j (mem-instances n ps i (h .0 .source) (s .early-there)) (mem-instances n ps j (h .0 .sink) (s .late-there))
+          (s .first))
           (kind-conflict A i j (l .kind) (s .clash)))
 
       from : Mem v (directions A (instances n ps)) → Mem v (map (λ l. l .vector) (lines A n d ps))
@@ -197,6 +203,20 @@ module _ (A : Accesses) (n d : ℕ) (ps : List (List ℤ)) (o : Ordered Earlier 
           let k = conflict-kind A i j (r .3) in
           let l : Line = record { kind = k .0; source = i .statement; sink = j .statement; vector = signs (i .iteration) (j .iteration) } in
           Memᴰ·cast (r .4) (Memᴰ·map (λ l. l .vector) (line-exact A n d ps l .1 (
-            record { source = a .0; sink = c .0; signs = signs-length (i .iteration) (j .iteration) (sized (i .iteration) (a .1) ∙ sym (sized (j .iteration) (c .1))) ∙ sized (i .iteration) (a .1) },
-            record { early = i .iteration; late = j .iteration; early-there = a .1; late-there = c .1; first = precedes-comesFirst n ps o i j (r .2); clash = k .1; vector = refl },
+            record {
+              source = a .0;
+              sink = c .0;
+              signs = signs-length (i .iteration) (j .iteration)
+                  (sized (i .iteration) (a .1) ∙ sym (sized (j .iteration) (c .1))) ∙ sized (i .iteration) (a .1);
+            },
+            record {
+              early = i .iteration;
+              late = j .iteration;
+              early-there = a .1;
+              late-there = c .1;
+              first = precedes-comesFirst n ps o i j
+                  (r .2);
+              clash = k .1;
+              vector = refl;
+            },
           )))

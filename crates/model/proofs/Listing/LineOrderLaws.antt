@@ -154,10 +154,12 @@ module _ (n d : ℕ) where
   unfolding allLines
   mem-allLines l a b e = mem-flatMap ofSource (upFrom 0 n) (mem-upFrom 0 n (omega arith) (omega arith))
       (mem-flatMap (ofSink (l .source)) (upFrom 0 n) (mem-upFrom 0 n (omega arith) (omega arith))
-      (mem-flatMap (ofKind (l .source) (l .sink)) kinds (every-kind (l .kind)) (Memᴰ·map (lineOf (l .kind) (l .source) (l .sink)) (mem-signVectors d (l .vector) e))))
+      (mem-flatMap (ofKind (l .source) (l .sink)) kinds (every-kind (l .kind)) (Memᴰ·map (lineOf (l .kind) (l .source) (l .sink))
+      (mem-signVectors d (l .vector) e))))
 
   kind-ordered : (s t : ℕ) (k : Kind) → Ordered LineBefore (ofKind s t k)
-  kind-ordered s t k = ordered-map (lineOf k s t) LineBefore (signVectors d) VectorBefore (signVectors-ordered d) (λ v w _ _ h. inr (refl, inr (refl, inr (refl, h))))
+  kind-ordered s t k = ordered-map (lineOf k s t) LineBefore (signVectors d) VectorBefore (signVectors-ordered d)
+      (λ v w _ _ h. inr (refl, inr (refl, inr (refl, h))))
 
   sink-ordered : (s t : ℕ) → Ordered LineBefore (ofSink s t)
   sink-ordered s t = ordered-flatMap (ofKind s t) (λ k l. kindRank k < kindRank l) LineBefore kinds kinds-ordered (λ k _. kind-ordered s t k)
@@ -166,7 +168,8 @@ module _ (n d : ℕ) where
 
   source-ordered : (s : ℕ) → Ordered LineBefore (ofSource s)
   source-ordered s = ordered-flatMap (ofSink s) _<_ LineBefore (upFrom 0 n) (upFrom-ordered 0 n) (λ t _. sink-ordered s t)
-      (λ t u _ _ h l m a b. let x = sink-mem s t a in let y = sink-mem s u b in let e = x .1 in let f = y .1 in inr (x .0 ∙ sym (y .0), inl (omega arith)))
+      (λ t u _ _ h l m a b. let x = sink-mem s t a in let y = sink-mem s u b in let e = x .1 in let f = y .1 in inr
+      (x .0 ∙ sym (y .0), inl (omega arith)))
 
   pub allLines-ordered : Ordered LineBefore (allLines n d)
   unfolding allLines

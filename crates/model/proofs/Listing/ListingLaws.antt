@@ -68,19 +68,20 @@ module _ (N : Nest) where
           )
 
       from-dependence : Fitting (length (N .statements)) (length (N .loops)) l × Dependence N l → Mem l (linesOf N)
-      from-dependence h = let r = h .1 in line-exact (accesses (N .statements)) (length (N .statements)) (length (N .loops)) (iterations (N .loops)) l .1 (
-        h .0,
-        record {
-          early = r .early;
-          late = r .late;
-          early-there = r .early-there;
-          late-there = r .late-there;
-          first = before-comesFirst (source (r .early)) (sink (r .late)) (r .order);
-          clash = clash-exact (N .statements) (l .kind) (source (r .early)) (sink (r .late)) .1
-              (record { early = r .from; late = r .to; of-source = r .from-there; of-sink = r .to-there; meet = r .meet });
-          vector = r .vector;
-        },
-      )
+      from-dependence h = let r = h .1 in line-exact (accesses (N .statements)) (length (N .statements)) (length (N .loops)) (iterations (N .loops))
+          l .1 (
+            h .0,
+            record {
+              early = r .early;
+              late = r .late;
+              early-there = r .early-there;
+              late-there = r .late-there;
+              first = before-comesFirst (source (r .early)) (sink (r .late)) (r .order);
+              clash = clash-exact (N .statements) (l .kind) (source (r .early)) (sink (r .late)) .1
+                  (record { early = r .from; late = r .to; of-source = r .from-there; of-sink = r .to-there; meet = r .meet });
+              vector = r .vector;
+            },
+          )
 
   pub linesOf-ordered : Ordered LineBefore (linesOf N)
   unfolding linesOf
@@ -92,4 +93,5 @@ module _ (N : Nest) where
 
   pub linesOf-merged : (v : List Sign) → Mem v (map (λ l. l .vector) (linesOf N)) ↔ Mem v (directionsOf N)
   unfolding linesOf directionsOf
-  linesOf-merged v = merged (accesses (N .statements)) (length (N .statements)) (length (N .loops)) (iterations (N .loops)) (iterations-rise (N .loops)) (iterations-length (N .loops)) v
+  linesOf-merged v = merged (accesses (N .statements)) (length (N .statements)) (length (N .loops)) (iterations (N .loops))
+      (iterations-rise (N .loops)) (iterations-length (N .loops)) v

@@ -32,10 +32,12 @@ module _ (made : ℕ → ℤ) where
   storeAll-keeps : (k : ℕ) (es : List Element) (s : State) (x : Element) → (Mem x es → ⊥) → storeAll made k es s x ≡ s x
   unfolding storeAll
   storeAll-keeps k [] s x h = refl
-  storeAll-keeps k (e ∷ es) s x h = storeAll-keeps (suc k) es (store e (made k) s) x (λ m. h (List·Memᴰ·tail m)) ∙ store-other e (made k) s x (λ q. h (List·Memᴰ·head q))
+  storeAll-keeps k (e ∷ es) s x h = storeAll-keeps (suc k) es (store e (made k) s) x (λ m. h (List·Memᴰ·tail m))
+      ∙ store-other e (made k) s x (λ q. h (List·Memᴰ·head q))
 
   -- an element that is written has a value that does not depend on the rest of the state
-  storeAll-depends : (k : ℕ) (es : List Element) (s s′ : State) (x : Element) → Mem x es ⊎ (s x ≡ s′ x) → storeAll made k es s x ≡ storeAll made k es s′ x
+  storeAll-depends : (k : ℕ) (es : List Element) (s s′ : State) (x : Element) → Mem x es ⊎ (s x ≡ s′ x)
+      → storeAll made k es s x ≡ storeAll made k es s′ x
   unfolding storeAll
   storeAll-depends k [] s s′ x (inl m) = absurd (List·Memᴰ·not-nil m)
   storeAll-depends k [] s s′ x (inr p) = p
@@ -75,10 +77,13 @@ module _ (A : Accesses) (rules : Rules) (i j : Instance) (free : Apart A i j) (s
 
   commute-at : (x : Element) → Mem x (A .writes i) ⊎ (Mem x (A .writes i) → ⊥) → Mem x (A .writes j) ⊎ (Mem x (A .writes j) → ⊥)
       → perform A rules i (perform A rules j s) x ≡ perform A rules j (perform A rules i s) x
-  commute-at x (inl w) d = perform-depends A rules i (perform A rules j s) s x i-sees (inl w) ∙ sym (perform-keeps A rules j (perform A rules i s) x (free .output-free x w))
-  commute-at x (inr f) (inl w) = perform-keeps A rules i (perform A rules j s) x f ∙ sym (perform-depends A rules j (perform A rules i s) s x j-sees (inl w))
+  commute-at x (inl w) d = perform-depends A rules i (perform A rules j s) s x i-sees (inl w)
+      ∙ sym (perform-keeps A rules j (perform A rules i s) x (free .output-free x w))
+  commute-at x (inr f) (inl w) = perform-keeps A rules i (perform A rules j s) x f
+      ∙ sym (perform-depends A rules j (perform A rules i s) s x j-sees (inl w))
   commute-at x (inr f) (inr g) =
-      perform-keeps A rules i (perform A rules j s) x f ∙ perform-keeps A rules j s x g ∙ sym (perform-keeps A rules j (perform A rules i s) x g ∙ perform-keeps A rules i s x f)
+      perform-keeps A rules i (perform A rules j s) x f ∙ perform-keeps A rules j s x g
+      ∙ sym (perform-keeps A rules j (perform A rules i s) x g ∙ perform-keeps A rules i s x f)
 
   pub apart-commute : perform A rules i (perform A rules j s) ≡ perform A rules j (perform A rules i s)
   apart-commute = fun-ext λ x. commute-at x (mem-cases same same-decides x (A .writes i)) (mem-cases same same-decides x (A .writes j))
@@ -94,7 +99,8 @@ free-apart A i j free = record {
 
 -- instances that do not conflict commute
 abbrev pub Commutes : Accesses → Rules → Type 0
-Commutes A rules = (i j : Instance) → (T (conflict A i j) → ⊥) → (s : State) → perform A rules i (perform A rules j s) ≡ perform A rules j (perform A rules i s)
+Commutes A rules = (i j : Instance) → (T (conflict A i j) → ⊥) → (s : State)
+    → perform A rules i (perform A rules j s) ≡ perform A rules j (perform A rules i s)
 
 pub commute : (A : Accesses) (rules : Rules) → Commutes A rules
 commute A rules i j free = apart-commute A rules i j (free-apart A i j free)
@@ -105,4 +111,5 @@ pub reordering : (A : Accesses) (rules : Rules) → Commutes A rules → (xs ys 
     → ((a b : Instance) → Precedes xs a b → T (conflict A a b) → Precedes ys a b)
     → (s : State) → run (perform A rules) xs s ≡ run (perform A rules) ys s
 reordering A rules commutes xs ys d d′ e keep = run-reordered (perform A rules) (λ i j. T (conflict A i j)) commutes (Precedes xs) (Precedes ys)
-    (precedes-irrefl xs d) (precedes-irrefl ys d′) xs ys (precedes-ordered xs) (precedes-ordered ys) e (λ a b _ _ p q c. precedes-asym ys d′ a b (keep a b p c) q)
+    (precedes-irrefl xs d) (precedes-irrefl ys d′) xs ys (precedes-ordered xs) (precedes-ordered ys) e
+    (λ a b _ _ p q c. precedes-asym ys d′ a b (keep a b p c) q)

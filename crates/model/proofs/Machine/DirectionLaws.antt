@@ -19,16 +19,20 @@ module _ (A : Accesses) where
 
   mem-from : (i j : Instance) (xs : List Instance) → Mem j xs → T (conflict A i j) → Mem (signs (i .iteration) (j .iteration)) (vectorsFrom A i xs)
   unfolding vectorsFrom
-  mem-from i j (k ∷ xs) (List·Memᴰ·head e) c = Memᴰ·append-left (vectorsFrom A i xs) (subst (λ z. Mem (signs (i .iteration) (j .iteration)) (one i z)) e (here c))
+  mem-from i j (k ∷ xs) (List·Memᴰ·head e) c = Memᴰ·append-left (vectorsFrom A i xs)
+      (subst (λ z. Mem (signs (i .iteration) (j .iteration)) (one i z)) e (here c))
     where
       here : T (conflict A i j) → Mem (signs (i .iteration) (j .iteration)) (one i j)
-      here c = subst (λ b. Mem (signs (i .iteration) (j .iteration)) (cond b (signs (i .iteration) (j .iteration) ∷ []) [])) (sym (T-true (conflict A i j) c)) (List·Memᴰ·head refl)
+      here c = subst (λ b. Mem (signs (i .iteration) (j .iteration)) (cond b (signs (i .iteration) (j .iteration) ∷ []) []))
+          (sym (T-true (conflict A i j) c)) (List·Memᴰ·head refl)
   mem-from i j (k ∷ xs) (List·Memᴰ·tail m) c = Memᴰ·append-right (one i k) (mem-from i j xs m c)
 
-  pub directions-mem : (xs : List Instance) (i j : Instance) → Precedes xs i j → T (conflict A i j) → Mem (signs (i .iteration) (j .iteration)) (directions A xs)
+  pub directions-mem : (xs : List Instance) (i j : Instance) → Precedes xs i j → T (conflict A i j)
+      → Mem (signs (i .iteration) (j .iteration)) (directions A xs)
   unfolding directions
   directions-mem [] i j p c = absurd p
-  directions-mem (k ∷ xs) i j (inl p) c = Memᴰ·append-left (directions A xs) (subst (λ z. Mem (signs (i .iteration) (j .iteration)) (vectorsFrom A z xs)) (p .0) (mem-from i j xs (p .1) c))
+  directions-mem (k ∷ xs) i j (inl p) c = Memᴰ·append-left (directions A xs) (subst
+      (λ z. Mem (signs (i .iteration) (j .iteration)) (vectorsFrom A z xs)) (p .0) (mem-from i j xs (p .1) c))
   directions-mem (k ∷ xs) i j (inr p) c = Memᴰ·append-right (vectorsFrom A k xs) (directions-mem xs i j p c)
 
   -- ---- and nothing else is
@@ -43,7 +47,8 @@ module _ (A : Accesses) where
       (List·Memᴰ·append-cases (one i k) m)
     where
       here : Mem v (one i k) → T (conflict A i k) × (v ≡ signs (i .iteration) (k .iteration))
-      here = cond-cases (λ l. Mem v l → T (conflict A i k) × (v ≡ signs (i .iteration) (k .iteration))) (conflict A i k) (signs (i .iteration) (k .iteration) ∷ []) []
+      here = cond-cases (λ l. Mem v l → T (conflict A i k) × (v ≡ signs (i .iteration) (k .iteration))) (conflict A i k)
+          (signs (i .iteration) (k .iteration) ∷ []) []
           (λ e n. (true-T (conflict A i k) e, List·Memᴰ·eq-of-singleton n)) (λ _ n. absurd (List·Memᴰ·not-nil n))
 
   pub mem-directions : (xs : List Instance) (v : List Sign) → Mem v (directions A xs)

@@ -26,7 +26,8 @@ same-decides = record { equal = equal-when; itself = passes }
         λ t. record { array = eqb→eq (e .array) (f .array) (r .0) t; subscripts = subscripts-decide .equal (e .subscripts) (f .subscripts) (r .1) t }
 
     passes : (e : Element) → T (same e e)
-    passes e = and-intro (eqb (e .array) (e .array)) (sameBy eqZ (e .subscripts) (e .subscripts)) (eqb-refl (e .array)) (subscripts-decide .itself (e .subscripts))
+    passes e = and-intro (eqb (e .array) (e .array)) (sameBy eqZ (e .subscripts) (e .subscripts)) (eqb-refl (e .array))
+        (subscripts-decide .itself (e .subscripts))
 
 -- ---- an element of both lists
 

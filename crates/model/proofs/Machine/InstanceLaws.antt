@@ -26,7 +26,8 @@ use Rattle.model.proofs.Points.EarlierLaws.{earlier-irreflexive, earlie
 body-mem : (k n : ℕ) (p : List ℤ) (i : Instance) → Mem i (body k n p) → (k ≤ i .statement) × (i .statement < k + n) × (i .iteration ≡ p)
 unfolding body
 body-mem k zero p i m = absurd (List·Memᴰ·not-nil m)
-body-mem k (suc n) p i (List·Memᴰ·head e) = let s = ap (λ (j : Instance). j .statement) e in (omega arith, omega arith, ap (λ (j : Instance). j .iteration) e)
+body-mem k (suc n) p i (List·Memᴰ·head e) = let s = ap (λ (j : Instance). j .statement) e
+    in (omega arith, omega arith, ap (λ (j : Instance). j .iteration) e)
 body-mem k (suc n) p i (List·Memᴰ·tail m) = let r = body-mem (suc k) n p i m in (omega arith, omega arith, r .2)
 
 mem-body : (k n : ℕ) (p : List ℤ) (i : Instance) → k ≤ i .statement → i .statement < k + n → i .iteration ≡ p → Mem i (body k n p)
@@ -53,7 +54,8 @@ unfolding body
 body-rises k zero p = tt
 body-rises k (suc n) p = (λ i m. let r = body-mem (suc k) n p i m in (sym (r .2), r .0), body-rises (suc k) n p)
 
-rises-precedes : (k n : ℕ) (p : List ℤ) (i j : Instance) → Mem i (body k n p) → Mem j (body k n p) → i .statement < j .statement → Precedes (body k n p) i j
+rises-precedes : (k n : ℕ) (p : List ℤ) (i j : Instance) → Mem i (body k n p) → Mem j (body k n p) → i .statement < j .statement
+    → Precedes (body k n p) i j
 rises-precedes k n p i j m l h = related-precedes Rises rises-irreflexive rises-transitive (body k n p) (body-rises k n p) m l
     ((body-mem k n p i m) .2 ∙ sym ((body-mem k n p j l) .2), h)
 
@@ -61,7 +63,8 @@ rises-precedes k n p i j m l h = related-precedes Rises rises-irreflexive rises-
 
 pub instances-mem : (n : ℕ) (ps : List (List ℤ)) (i : Instance) → Mem i (instances n ps) → (i .statement < n) × Mem (i .iteration) ps
 unfolding instances
-instances-mem n ps i m = let r = flatMap-mem (body 0 n) ps m in let b = body-mem 0 n (r .0) i (r .2) in let h = b .1 in (omega arith, Memᴰ·cast (b .2) (r .1))
+instances-mem n ps i m = let r = flatMap-mem (body 0 n) ps m in let b = body-mem 0 n (r .0) i (r .2) in let h = b .1
+    in (omega arith, Memᴰ·cast (b .2) (r .1))
 
 pub mem-instances : (n : ℕ) (ps : List (List ℤ)) (i : Instance) → i .statement < n → Mem (i .iteration) ps → Mem i (instances n ps)
 unfolding instances
@@ -85,7 +88,8 @@ instances-distinct n ps d = distinct-flatMap (body 0 n) ps d
 abbrev pub Before : (List ℤ → List ℤ) → Instance → Instance → Type 0
 Before key i j = Earlier (key (i .iteration)) (key (j .iteration)) ⊎ Rises i j
 
-pub instances-ordered : (key : List ℤ → List ℤ) (n : ℕ) (ps : List (List ℤ)) → Ordered (λ p q. Earlier (key p) (key q)) ps → Ordered (Before key) (instances n ps)
+pub instances-ordered : (key : List ℤ → List ℤ) (n : ℕ) (ps : List (List ℤ)) → Ordered (λ p q. Earlier (key p) (key q)) ps
+    → Ordered (Before key) (instances n ps)
 unfolding instances
 instances-ordered key n ps o = ordered-flatMap (body 0 n) (λ p q. Earlier (key p) (key q)) (Before key) ps o
     (λ p m. ordered-imp Rises (body 0 n p) (body-rises 0 n p) (λ i j _ _ r. inr r))
@@ -99,14 +103,16 @@ module _ (n : ℕ) (ps : List (List ℤ)) (i j : Instance) where
       (λ r. inl (subst₂ (Precedes ps) (sym ((body-mem 0 n (r .0) i (r .3)) .2)) (sym ((body-mem 0 n (r .1) j (r .4)) .2)) (r .2)))
       (flatMap-precedes (body 0 n) ps i j p)
 
-  pub precede-instances : Mem i (instances n ps) → Mem j (instances n ps) → Precedes ps (i .iteration) (j .iteration) ⊎ Rises i j → Precedes (instances n ps) i j
+  pub precede-instances : Mem i (instances n ps) → Mem j (instances n ps) → Precedes ps (i .iteration) (j .iteration) ⊎ Rises i j
+      → Precedes (instances n ps) i j
   unfolding instances
   precede-instances m l (inl p) = let a = (instances-mem n ps i m) .0 in let b = (instances-mem n ps j l) .0 in
       precedes-flatMap-across (body 0 n) ps (i .iteration) (j .iteration) i j p
       (mem-body 0 n (i .iteration) i (omega arith) (omega arith) refl) (mem-body 0 n (j .iteration) j (omega arith) (omega arith) refl)
   precede-instances m l (inr r) = let a = instances-mem n ps i m in let h = r .1 in let b = (instances-mem n ps j l) .0 in
       precedes-flatMap-in (body 0 n) ps i j (a .1)
-      (rises-precedes 0 n (i .iteration) i j (mem-body 0 n (i .iteration) i (omega arith) (omega arith) refl) (mem-body 0 n (i .iteration) j (omega arith) (omega arith) (sym (r .0))) h)
+      (rises-precedes 0 n (i .iteration) i j (mem-body 0 n (i .iteration) i (omega arith) (omega arith) refl)
+      (mem-body 0 n (i .iteration) j (omega arith) (omega arith) (sym (r .0))) h)
 
 -- ---- which of two comes first
 

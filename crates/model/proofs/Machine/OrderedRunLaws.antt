@@ -34,7 +34,8 @@ module _ (A : Accesses) (rules : Rules) (commutes : Commutes A rules) (n : ℕ) 
       → NoneBackwards A fwd (instances n ps)
       → (s : State) (x : Element) → exec A rules (instances n ps) s x ≡ exec A rules (instances n (map back qs)) s x
   ordered-run o o′ e inverse none s x = ap (λ (t : State). t x)
-      (reordering A rules commutes xs ys (ordered-distinct (Before whole) (before-irreflexive whole) xs old) (ordered-distinct (Before fwd) (before-irreflexive fwd) ys new) same kept s)
+      (reordering A rules commutes xs ys (ordered-distinct (Before whole) (before-irreflexive whole) xs old)
+      (ordered-distinct (Before fwd) (before-irreflexive fwd) ys new) same kept s)
     where
       xs : List Instance
       xs = instances n ps
@@ -46,7 +47,8 @@ module _ (A : Accesses) (rules : Rules) (commutes : Commutes A rules) (n : ℕ) 
       old = instances-ordered whole n ps o
 
       new : Ordered (Before fwd) ys
-      new = instances-ordered fwd n (map back qs) (ordered-map back (λ p q. Earlier (fwd p) (fwd q)) qs Earlier o′ (λ p q m l h. subst₂ Earlier (sym (inverse p m)) (sym (inverse q l)) h))
+      new = instances-ordered fwd n (map back qs) (ordered-map back (λ p q. Earlier (fwd p) (fwd q)) qs Earlier o′
+          (λ p q m l h. subst₂ Earlier (sym (inverse p m)) (sym (inverse q l)) h))
 
       same : SameMembers xs ys
       same = instances-members n ps (map back qs) e
@@ -65,4 +67,5 @@ module _ (A : Accesses) (rules : Rules) (commutes : Commutes A rules) (n : ℕ) 
   pub new-run : (A′ : Accesses) → All (NamesAlike A A′ back) qs → Ordered Earlier ps → Ordered Earlier qs → SameMembers ps (map back qs)
       → ((q : List ℤ) → Mem q qs → fwd (back q) ≡ q) → NoneBackwards A fwd (instances n ps)
       → (s : State) (x : Element) → exec A rules (instances n ps) s x ≡ exec A′ (originally back rules) (instances n qs) s x
-  new-run A′ alike o o′ e inverse none s x = ordered-run o o′ e inverse none s x ∙ sym (ap (λ (t : State). t x) (run-same A A′ back rules n qs alike s))
+  new-run A′ alike o o′ e inverse none s x = ordered-run o o′ e inverse none s x
+      ∙ sym (ap (λ (t : State). t x) (run-same A A′ back rules n qs alike s))

@@ -38,7 +38,8 @@ module _ {I S : Type 0} (step : I → S → S) (Conflict : I → I → Type 0)
           (List·Memᴰ·cases-cons (e .from y (Memᴰ·append-left (x ∷ q) m)))
 
       absent : (y : I) → y ≡ x → Mem y (p ++ q) → ⊥
-      absent y eq m = ⊎-elim (λ n. irreflexive′ x (subst (λ z. R′ z x) eq (ordered-front R′ p x q o′ y n))) (λ n. irreflexive′ x (subst (R′ x) eq (ordered-back R′ p x q o′ y n)))
+      absent y eq m = ⊎-elim (λ n. irreflexive′ x (subst (λ z. R′ z x) eq (ordered-front R′ p x q o′ y n)))
+          (λ n. irreflexive′ x (subst (R′ x) eq (ordered-back R′ p x q o′ y n)))
           (List·Memᴰ·append-cases p m)
 
       rest-same : SameMembers xs (p ++ q)
@@ -47,7 +48,8 @@ module _ {I S : Type 0} (step : I → S → S) (Conflict : I → I → Type 0)
         from = λ y m. ⊎-elim (λ eq. absurd (absent y eq m)) (λ n. n) (List·Memᴰ·cases-cons (e .from y (mem-skip x p q m)));
       }
 
-    pub run-reordered : (xs ys : List I) → Ordered R xs → Ordered R′ ys → SameMembers xs ys → Kept Conflict R R′ xs → (s : S) → run step xs s ≡ run step ys s
+    pub run-reordered : (xs ys : List I) → Ordered R xs → Ordered R′ ys → SameMembers xs ys → Kept Conflict R R′ xs → (s : S)
+        → run step xs s ≡ run step ys s
     unfolding run
     run-reordered [] [] o o′ e kept s = refl
     run-reordered [] (y ∷ ys) o o′ e kept s = absurd (List·Memᴰ·not-nil (e .from y (List·Memᴰ·head refl)))
@@ -57,5 +59,6 @@ module _ {I S : Type 0} (step : I → S → S) (Conflict : I → I → Type 0)
         let q = c .back in
         let o″ : Ordered R′ (p ++ x ∷ q) = subst (Ordered R′) (c .eq) o′ in
         let e′ : SameMembers (x ∷ xs) (p ++ x ∷ q) = subst (SameMembers (x ∷ xs)) (c .eq) e in
-        run-reordered xs (p ++ q) (o .1) (ordered-drop R′ p x q o″) (rest-same x xs p q o o″ e′) (λ a b m n. kept a b (List·Memᴰ·tail m) (List·Memᴰ·tail n)) (step x s)
+        run-reordered xs (p ++ q) (o .1) (ordered-drop R′ p x q o″) (rest-same x xs p q o o″ e′)
+        (λ a b m n. kept a b (List·Memᴰ·tail m) (List·Memᴰ·tail n)) (step x s)
         ∙ sym (ap (λ l. run step l s) (c .eq) ∙ run-front x p q (free x xs p q o o″ e′ kept) s)

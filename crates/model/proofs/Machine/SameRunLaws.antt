@@ -27,7 +27,8 @@ module _ (A A′ : Accesses) (back : List ℤ → List ℤ) (rules : Rules) wher
   unfolding body run
   body-same q h j zero s = refl
   body-same q h j (suc n) s =
-      ap (run (perform A′ (originally back rules)) (body (suc j) n q)) (perform-same q h j s) ∙ body-same q h (suc j) n (perform A rules (instanceAt j (back q)) s)
+      ap (run (perform A′ (originally back rules)) (body (suc j) n q)) (perform-same q h j s)
+      ∙ body-same q h (suc j) n (perform A rules (instanceAt j (back q)) s)
 
   pub run-same : (n : ℕ) (qs : List (List ℤ)) → All (NamesAlike A A′ back) qs → (s : State)
       → run (perform A′ (originally back rules)) (instances n qs) s ≡ run (perform A rules) (instances n (map back qs)) s

@@ -18,7 +18,7 @@ use Rattle.lists.proofs.TestLaws.{true-T, T-true, false-not-T, not-T-false, or-
 use Rattle.model.specs.Answer.{accepted, refused, require, _>>_}
 use Rattle.model.specs.Ticket.{Access, Statement}
 use Rattle.model.specs.Grammar.{extents}
-use Rattle.model.specs.Bounds.{subscriptAt, outside, strays, accessesOf, inArrays}
+use Rattle.model.specs.Bounds.{subscriptAt, outside, violates, accessesOf, inArrays}
 use Rattle.model.proofs.Answers.CheckLaws.{FirstBad, firstBad-map, checks-accepted, checks-refused, accepted-checks, refused-checks}
 
 -- ---- subscripts and extents
@@ -41,11 +41,13 @@ unfolding outside
 outside-off [] xs h = absurd h
 outside-off (n ∷ ns) [] h = absurd h
 outside-off (n ∷ ns) (x ∷ xs) h = ⊎-elim (λ g. record { dimension = 0; extent = omega arith; subscript = omega arith; off = here g })
-    (λ g. let r = outside-off ns xs g in let a = r .extent in let b = r .subscript in record { dimension = suc (r .dimension); extent = omega arith; subscript = omega arith; off = r .off })
+    (λ g. let r = outside-off ns xs g in let a = r .extent in let b = r .subscript
+    in record { dimension = suc (r .dimension); extent = omega arith; subscript = omega arith; off = r .off })
     (or-cases (ltZ x (pos 0) || leZ (pos n) x) (outside ns xs) h)
   where
     here : T (ltZ x (pos 0) || leZ (pos n) x) → Off n x
-    here g = ⊎-elim (λ t. inl (test-lt {a = x} {b = pos 0} (T-true (ltZ x (pos 0)) t))) (λ t. inr (test-le {a = pos n} {b = x} (T-true (leZ (pos n) x) t))) (or-cases (ltZ x (pos 0)) (leZ (pos n) x) g)
+    here g = ⊎-elim (λ t. inl (test-lt {a = x} {b = pos 0} (T-true (ltZ x (pos 0)) t)))
+        (λ t. inr (test-le {a = pos n} {b = x} (T-true (leZ (pos n) x) t))) (or-cases (ltZ x (pos 0)) (leZ (pos n) x) g)
 
 pub off-outside : (ns : List ℕ) (xs : List ℤ) → OffAt ns xs → T (outside ns xs)
 unfolding outside
@@ -64,12 +66,16 @@ off-outside ns xs r = go ns xs (r .dimension) (r .extent) (r .subscript) (r .off
 -- no subscript is off
 pub inside-on : (ns : List ℕ) (xs : List ℤ) → outside ns xs ≡ false → (i : ℕ) → i < length ns → i < length xs → On (getD ns i 0) (getD xs i (pos 0))
 inside-on ns xs e i a b =
-    let never : Off (getD ns i 0) (getD xs i (pos 0)) → ⊥ = λ o. false-not-T (outside ns xs) e (off-outside ns xs (record { dimension = i; extent = a; subscript = b; off = o })) in
-    (⊎-elim (λ h. h) (λ h. absurd (never (inl h))) (≤ℤ-or-<ℤ (pos 0) (getD xs i (pos 0))), ⊎-elim (λ h. absurd (never (inr h))) (λ h. h) (≤ℤ-or-<ℤ (pos (getD ns i 0)) (getD xs i (pos 0))))
+    let never : Off (getD ns i 0) (getD xs i (pos 0)) → ⊥ = λ o. false-not-T (outside ns xs) e
+    (off-outside ns xs (record { dimension = i; extent = a; subscript = b; off = o })) in (
+      ⊎-elim (λ h. h) (λ h. absurd (never (inl h))) (≤ℤ-or-<ℤ (pos 0) (getD xs i (pos 0))),
+      ⊎-elim (λ h. absurd (never (inr h))) (λ h. h)
+          (≤ℤ-or-<ℤ (pos (getD ns i 0)) (getD xs i (pos 0))),
+    )
 
 -- ---- the accesses of a statement, at all points
 
-pub record Strays (as′ : List (List ℕ)) (ps : List (List ℤ)) (s : Statement) : Type 0 where
+pub record Violates (as′ : List (List ℕ)) (ps : List (List ℤ)) (s : Statement) : Type 0 where
   pub point : List ℤ
   pub reached : Mem point ps
   pub access : Access
@@ -78,35 +84,48 @@ pub record Strays (as′ : List (List ℕ)) (ps : List (List ℤ)) (s : Statemen
 
 -- every subscript at every point from 0 to its extent − 1
 abbrev pub Stays : List (List ℕ) → List (List ℤ) → Statement → Type 0
-Stays as′ ps s = (p : List ℤ) → Mem p ps → (a : Access) → Mem a (accessesOf s) → (i : ℕ) → i < length (extents as′ (a .array)) → i < length (a .subscripts)
+Stays as′ ps s = (p : List ℤ) → Mem p ps → (a : Access) → Mem a (accessesOf s) → (i : ℕ) → i < length (extents as′ (a .array))
+    → i < length (a .subscripts)
     → On (getD (extents as′ (a .array)) i 0) (getD (map (subscriptAt p) (a .subscripts)) i (pos 0))
 
 module _ (as′ : List (List ℕ)) (ps : List (List ℤ)) where
-  abbrev someStrays : Statement → Bool
-  someStrays s = any (λ p. any (strays as′ p) (accessesOf s)) ps
+  abbrev someViolates : Statement → Bool
+  someViolates s = any (λ p. any (violates as′ p) (accessesOf s)) ps
 
-  test-strays : (s : Statement) → T (someStrays s) → Strays as′ ps s
-  unfolding strays
-  test-strays s h =
-      let r = any-some (λ p. any (strays as′ p) (accessesOf s)) ps h in
-      let q = any-some (strays as′ (r .0)) (accessesOf s) (r .2) in
-      record { point = r .0; reached = r .1; access = q .0; of = q .1; off = outside-off (extents as′ (q .0 .array)) (map (subscriptAt (r .0)) (q .0 .subscripts)) (q .2) }
+  test-violates : (s : Statement) → T (someViolates s) → Violates as′ ps s
+  unfolding violates
+  test-violates s h =
+      let r = any-some (λ p. any (violates as′ p) (accessesOf s)) ps h in
+      let q = any-some (violates as′ (r .0)) (accessesOf s) (r .2) in
+      record {
+        point = r .0;
+        reached = r .1;
+        access = q .0;
+        of = q .1;
+        off = outside-off (extents as′ (q .0 .array))
+            (map (subscriptAt (r .0)) (q .0 .subscripts)) (q .2);
+      }
 
-  strays-test : (s : Statement) → Strays as′ ps s → T (someStrays s)
-  unfolding strays
-  strays-test s r = some-any (λ p. any (strays as′ p) (accessesOf s)) ps (r .reached)
-      (some-any (strays as′ (r .point)) (accessesOf s) (r .of) (off-outside (extents as′ (r .access .array)) (map (subscriptAt (r .point)) (r .access .subscripts)) (r .off)))
+  violates-test : (s : Statement) → Violates as′ ps s → T (someViolates s)
+  unfolding violates
+  violates-test s r = some-any (λ p. any (violates as′ p) (accessesOf s)) ps (r .reached)
+      (some-any (violates as′ (r .point)) (accessesOf s) (r .of) (off-outside (extents as′ (r .access .array))
+      (map (subscriptAt (r .point)) (r .access .subscripts)) (r .off)))
 
-  never-strays : (s : Statement) → (T (someStrays s) → ⊥) → (p : List ℤ) → Mem p ps → (a : Access) → Mem a (accessesOf s) → strays as′ p a ≡ false
-  never-strays s h p i a j = not-T-false (strays as′ p a) (λ t. h (some-any (λ p. any (strays as′ p) (accessesOf s)) ps i (some-any (strays as′ p) (accessesOf s) j t)))
+  never-violates : (s : Statement) → (T (someViolates s) → ⊥) → (p : List ℤ) → Mem p ps → (a : Access) → Mem a (accessesOf s)
+      → violates as′ p a ≡ false
+  never-violates s h p i a j = not-T-false (violates as′ p a) (λ t. h (some-any (λ p. any (violates as′ p) (accessesOf s)) ps i
+      (some-any (violates as′ p) (accessesOf s) j t)))
 
-  test-stays : (s : Statement) → (T (someStrays s) → ⊥) → Stays as′ ps s
-  unfolding strays
-  test-stays s h p i a j d g l = inside-on (extents as′ (a .array)) (map (subscriptAt p) (a .subscripts)) (never-strays s h p i a j) d g (rw length-map l)
+  test-stays : (s : Statement) → (T (someViolates s) → ⊥) → Stays as′ ps s
+  unfolding violates
+  test-stays s h p i a j d g l = inside-on (extents as′ (a .array)) (map (subscriptAt p) (a .subscripts)) (never-violates s h p i a j) d g
+      (rw length-map l)
 
   -- ---- the statements of a body, from number k on
 
-  checks : (k : ℕ) (s : Statement) (ss : List Statement) → inArrays as′ ps k (s ∷ ss) ≡ require (not (someStrays s)) 9 k >> inArrays as′ ps (suc k) ss
+  checks : (k : ℕ) (s : Statement) (ss : List Statement) → inArrays as′ ps k (s ∷ ss) ≡ require (not (someViolates s)) 9 k >> inArrays as′ ps
+      (suc k) ss
   unfolding inArrays
   checks k s ss = refl
 
@@ -116,20 +135,22 @@ module _ (as′ : List (List ℕ)) (ps : List (List ℤ)) where
 
   -- as tests, then subscript by subscript
   pub arrays-inside : (k : ℕ) (ss : List Statement) → inArrays as′ ps k ss ≡ accepted tt
-      → (s : Statement) → Mem s ss → (p : List ℤ) → Mem p ps → (a : Access) → Mem a (accessesOf s) → strays as′ p a ≡ false
-  arrays-inside k ss e s m = never-strays s (checks-accepted 9 someStrays (inArrays as′ ps) ends checks k ss e s m)
+      → (s : Statement) → Mem s ss → (p : List ℤ) → Mem p ps → (a : Access) → Mem a (accessesOf s) → violates as′ p a ≡ false
+  arrays-inside k ss e s m = never-violates s (checks-accepted 9 someViolates (inArrays as′ ps) ends checks k ss e s m)
 
   pub arrays-accepted : (k : ℕ) (ss : List Statement) → inArrays as′ ps k ss ≡ accepted tt → All (Stays as′ ps) ss
-  arrays-accepted k ss e s m = test-stays s (checks-accepted 9 someStrays (inArrays as′ ps) ends checks k ss e s m)
+  arrays-accepted k ss e s m = test-stays s (checks-accepted 9 someViolates (inArrays as′ ps) ends checks k ss e s m)
 
-  -- the first statement with an access that strays
-  pub arrays-refused : (k : ℕ) (ss : List Statement) {n p : ℕ} → inArrays as′ ps k ss ≡ refused n p → (n ≡ 9) × FirstBad (Strays as′ ps) (Stays as′ ps) k ss p
-  arrays-refused k ss e = let r = checks-refused 9 someStrays (inArrays as′ ps) ends checks k ss e in
-      (r .0, firstBad-map (Strays as′ ps) (Stays as′ ps) test-strays test-stays (r .1))
+  -- the first statement with an access out of bounds
+  pub arrays-refused : (k : ℕ) (ss : List Statement) {n p : ℕ} → inArrays as′ ps k ss ≡ refused n p → (n ≡ 9)
+      × FirstBad (Violates as′ ps) (Stays as′ ps) k ss p
+  arrays-refused k ss e = let r = checks-refused 9 someViolates (inArrays as′ ps) ends checks k ss e in
+      (r .0, firstBad-map (Violates as′ ps) (Stays as′ ps) test-violates test-stays (r .1))
 
-  pub accepted-arrays : (k : ℕ) (ss : List Statement) → All (λ s. Strays as′ ps s → ⊥) ss → inArrays as′ ps k ss ≡ accepted tt
-  accepted-arrays k ss h = accepted-checks 9 someStrays (inArrays as′ ps) ends checks k ss (λ s m t. h s m (test-strays s t))
+  pub accepted-arrays : (k : ℕ) (ss : List Statement) → All (λ s. Violates as′ ps s → ⊥) ss → inArrays as′ ps k ss ≡ accepted tt
+  accepted-arrays k ss h = accepted-checks 9 someViolates (inArrays as′ ps) ends checks k ss (λ s m t. h s m (test-violates s t))
 
   pub refused-arrays : (k : ℕ) (front : List Statement) (s : Statement) (back : List Statement)
-      → All (λ t. Strays as′ ps t → ⊥) front → Strays as′ ps s → inArrays as′ ps k (front ++ s ∷ back) ≡ refused 9 (k + length front)
-  refused-arrays k front s back h g = refused-checks 9 someStrays (inArrays as′ ps) ends checks k front s back (λ u m t. h u m (test-strays u t)) (strays-test s g)
+      → All (λ t. Violates as′ ps t → ⊥) front → Violates as′ ps s → inArrays as′ ps k (front ++ s ∷ back) ≡ refused 9 (k + length front)
+  refused-arrays k front s back h g = refused-checks 9 someViolates (inArrays as′ ps) ends checks k front s back
+      (λ u m t. h u m (test-violates u t)) (violates-test s g)

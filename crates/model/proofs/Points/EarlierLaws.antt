@@ -45,7 +45,8 @@ earlier-transitive (x ∷ p) [] r h k = absurd h
 earlier-transitive (x ∷ p) (y ∷ q) [] h k = absurd k
 earlier-transitive (x ∷ p) (y ∷ q) (z ∷ r) h k = ⊎-elim
     (λ l. earlier-first x z p r (⊎-elim (λ m. omega zarith) (λ m. let e = m .0 in omega zarith) (earlier-cases y z q r k)))
-    (λ l. ⊎-elim (λ m. let e = l .0 in earlier-first x z p r (omega zarith)) (λ m. earlier-rest x z p r (l .0 ∙ m .0) (earlier-transitive p q r (l .1) (m .1))) (earlier-cases y z q r k))
+    (λ l. ⊎-elim (λ m. let e = l .0 in earlier-first x z p r (omega zarith)) (λ m. earlier-rest x z p r (l .0 ∙ m .0)
+    (earlier-transitive p q r (l .1) (m .1))) (earlier-cases y z q r k))
     (earlier-cases x y p q h)
 
 pub earlier-asymmetric : (p q : List ℤ) → Earlier p q → Earlier q p → ⊥
@@ -59,7 +60,8 @@ earlier-total (x ∷ p) (y ∷ q) e = go (sign x y) (sign-means x y) (earlier-to
   where
     go : (s : Sign) → Means s x y → (p ≡ q) ⊎ (Earlier p q ⊎ Earlier q p) → (x ∷ p ≡ y ∷ q) ⊎ (Earlier (x ∷ p) (y ∷ q) ⊎ Earlier (y ∷ q) (x ∷ p))
     go less m r = inr (inl (earlier-first x y p q m))
-    go equal m r = ⊎-elim (λ f. inl (ap₂ _∷_ m f)) (λ c. inr (⊎-elim (λ h. inl (earlier-rest x y p q m h)) (λ h. inr (earlier-rest y x q p (sym m) h)) c)) r
+    go equal m r = ⊎-elim (λ f. inl (ap₂ _∷_ m f)) (λ c. inr (⊎-elim (λ h. inl (earlier-rest x y p q m h))
+        (λ h. inr (earlier-rest y x q p (sym m) h)) c)) r
     go greater m r = inr (inr (earlier-first y x q p m))
 
 -- a vector points backwards exactly if the second point comes first

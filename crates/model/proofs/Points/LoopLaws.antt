@@ -64,7 +64,8 @@ pub mem-ints : (a : ℤ) (n : ℕ) (x : ℤ) → a ≤ℤ x → x <ℤ (a +ℤ p
 unfolding ints
 mem-ints a zero x h g = absurd (omega (zarith, add-fact a (pos 0)))
 mem-ints a (suc n) x h g = ⊎-elim (λ q. List·Memᴰ·head (≤ℤ-antisym q h))
-    (λ q. List·Memᴰ·tail (mem-ints (a +ℤ pos 1) n x (omega (zarith, add-fact a (pos 1))) (omega (zarith, add-fact a (pos 1), add-fact (a +ℤ pos 1) (pos n), add-fact a (pos (suc n))))))
+    (λ q. List·Memᴰ·tail (mem-ints (a +ℤ pos 1) n x (omega (zarith, add-fact a (pos 1)))
+    (omega (zarith, add-fact a (pos 1), add-fact (a +ℤ pos 1) (pos n), add-fact a (pos (suc n))))))
     (≤ℤ-or-<ℤ x a)
 
 pub ints-rise : (a : ℤ) (n : ℕ) → Ordered _<ℤ_ (ints a n)
@@ -87,7 +88,8 @@ module _ (L : Loop) (r : Runs L) (outer : List ℤ) (i : ℤ) where
   unfolding firstIndex
   first-iff =
       let f : Limit → ℤ = λ l. ceilDiv (value l outer) (pos (l .multiplier)) in
-      let a = all-map f (AtLeast outer i) (λ a. a ≤ℤ i) (L .lower) (λ l m. ceil-iff (value l outer) (pos (l .multiplier)) i (let h = r .positive-lower l m in omega zarith)) in
+      let a = all-map f (AtLeast outer i) (λ a. a ≤ℤ i) (L .lower) (λ l m. ceil-iff (value l outer) (pos (l .multiplier)) i
+      (let h = r .positive-lower l m in omega zarith)) in
       let b = largest-iff i (map f (L .lower)) (λ e. r .some-lower (map-eq-nil-iff f .0 e)) in
       (λ h. b .0 (a .0 h), λ h. a .1 (b .1 h))
 
@@ -95,7 +97,8 @@ module _ (L : Loop) (r : Runs L) (outer : List ℤ) (i : ℤ) where
   unfolding lastIndex
   last-iff =
       let f : Limit → ℤ = λ l. floorDiv (value l outer) (pos (l .multiplier)) in
-      let a = all-map f (AtMost outer i) (λ a. i ≤ℤ a) (L .upper) (λ l m. floor-iff (value l outer) (pos (l .multiplier)) i (let h = r .positive-upper l m in omega zarith)) in
+      let a = all-map f (AtMost outer i) (λ a. i ≤ℤ a) (L .upper) (λ l m. floor-iff (value l outer) (pos (l .multiplier)) i
+      (let h = r .positive-upper l m in omega zarith)) in
       let b = smallest-iff i (map f (L .upper)) (λ e. r .some-upper (map-eq-nil-iff f .0 e)) in
       (λ h. b .0 (a .0 h), λ h. a .1 (b .1 h))
 

@@ -31,7 +31,8 @@ unfolding points
 points-inside [] r outer [] = (λ m. tt, λ m. List·Memᴰ·head refl)
 points-inside [] r outer (i ∷ y) = (λ m. absurd (⊎-elim cons≢nil List·Memᴰ·not-nil (List·Memᴰ·cases-cons m)), λ o. absurd o)
 points-inside (L ∷ N) r outer [] = (
-  λ m. let q = flatMap-mem (from N outer) (indices L outer) m in absurd (cons≢nil (Memᴰ·of-map (λ y. q .0 ∷ y) (points N (outer ++ (q .0 ∷ []))) (q .2) .2)),
+  λ m. let q = flatMap-mem (from N outer) (indices L outer) m in absurd (cons≢nil
+      (Memᴰ·of-map (λ y. q .0 ∷ y) (points N (outer ++ (q .0 ∷ []))) (q .2) .2)),
   λ o. absurd o,
 )
 points-inside (L ∷ N) r outer (i ∷ y) =
@@ -65,14 +66,17 @@ pub points-rise : (N : List Loop) (outer : List ℤ) → Ordered Earlier (points
 unfolding points
 points-rise [] outer = (λ y m. absurd (List·Memᴰ·not-nil m), tt)
 points-rise (L ∷ N) outer = ordered-flatMap (from N outer) _<ℤ_ Earlier (indices L outer) (indices-rise L outer)
-    (λ i _. ordered-map (λ y. i ∷ y) Earlier (points N (outer ++ (i ∷ []))) Earlier (points-rise N (outer ++ (i ∷ []))) (λ p q _ _ h. earlier-rest i i p q refl h))
-    (λ i j _ _ h u v m n. let a = Memᴰ·of-map (λ y. i ∷ y) (points N (outer ++ (i ∷ []))) m in let b = Memᴰ·of-map (λ y. j ∷ y) (points N (outer ++ (j ∷ []))) n in
+    (λ i _. ordered-map (λ y. i ∷ y) Earlier (points N (outer ++ (i ∷ []))) Earlier (points-rise N (outer ++ (i ∷ [])))
+    (λ p q _ _ h. earlier-rest i i p q refl h))
+    (λ i j _ _ h u v m n. let a = Memᴰ·of-map (λ y. i ∷ y) (points N (outer ++ (i ∷ []))) m in let b = Memᴰ·of-map (λ y. j ∷ y)
+    (points N (outer ++ (j ∷ []))) n in
     subst₂ Earlier (a .2) (b .2) (earlier-first i j (a .0) (b .0) h))
 
 pub points-distinct : (N : List Loop) (outer : List ℤ) → Distinct (points N outer)
 points-distinct N outer = ordered-distinct Earlier earlier-irreflexive (points N outer) (points-rise N outer)
 
-pub points-total : {p q : List ℤ} (N : List Loop) (outer : List ℤ) → Mem p (points N outer) → Mem q (points N outer) → (p ≡ q) ⊎ (Earlier p q ⊎ Earlier q p)
+pub points-total : {p q : List ℤ} (N : List Loop) (outer : List ℤ) → Mem p (points N outer) → Mem q (points N outer) → (p ≡ q)
+    ⊎ (Earlier p q ⊎ Earlier q p)
 points-total {p} {q} N outer m n = earlier-total p q (points-length N outer p m ∙ sym (points-length N outer q n))
 
 -- ---- partial points and iterations

@@ -13,11 +13,11 @@ use Rattle.lists.specs.Membership.{Mem, All}
 use Rattle.model.specs.Answer.{accepted}
 use Rattle.model.specs.Ticket.{Loop}
 use Rattle.model.specs.Points.{partialPoints, iterations}
-use Rattle.model.specs.Bounds.{lastOf, space, sprawl}
+use Rattle.model.specs.Bounds.{lastOf, space, newSpace}
 use Rattle.model.specs.Inside.{Inside}
 use Rattle.model.specs.Shape.{Runs}
 use Rattle.model.proofs.Points.PointLaws.{inside-length, partial-inside, iterations-inside}
-use Rattle.model.proofs.Points.BoundLaws.{Passes, space-accepted, sprawl-accepted}
+use Rattle.model.proofs.Points.BoundLaws.{Passes, space-accepted, new-space-accepted}
 
 inside-take : (k : ℕ) (N : List Loop) (outer y : List ℤ) → Inside N outer y → Inside (take k N) outer (take k y)
 inside-take zero N outer y i = tt
@@ -48,5 +48,5 @@ module _ (N : List Loop) (r : All Runs N) where
   pub space-within : space N ≡ accepted tt → All (Within 32767) (iterations N)
   space-within e = indices-within 32767 4096 (space-accepted N e)
 
-  pub sprawl-within : sprawl N ≡ accepted tt → All (Within 100000) (iterations N)
-  sprawl-within e = indices-within 100000 65536 (sprawl-accepted N e)
+  pub new-space-within : newSpace N ≡ accepted tt → All (Within 100000) (iterations N)
+  new-space-within e = indices-within 100000 65536 (new-space-accepted N e)

@@ -31,7 +31,7 @@ use Rattle.model.proofs.Machine.CommuteLaws.{commute}
 use Rattle.model.proofs.Machine.OrderedRunLaws.{NoneBackwards, new-run}
 use Rattle.model.proofs.Store.PlaceLaws.{Valid}
 use Rattle.model.proofs.Store.StoreLaws.{stateOf, stateOf-shown, run-shows}
-use Rattle.model.proofs.Store.NewStoreLaws.{NoneStrays, instances-in-store, new-store}
+use Rattle.model.proofs.Store.NewStoreLaws.{NoneViolates, instances-in-store, new-store}
 use Rattle.model.proofs.Verdict.JudgeLaws.{StepsPass}
 use Rattle.model.proofs.Verdict.VerdictLaws.{admitted-accepted, admit-accepted, judgeTicket-accepted, judged-accepted}
 use Rattle.model.proofs.Verdict.EntryLaws.{judge-accepted, HandedOut, write-accepted}
@@ -65,14 +65,18 @@ module _ (ts : List Step) (proper : All Proper ts) (N : Nest) (formed : WellForm
   none-backwards : NoneBackwards (accesses (N .statements)) (forwardAll ts) (order N)
   unfolding directionsOf
   none-backwards i j h c =
-      pass-forwards ts proper (directionsOf N) N pass (i .iteration) (j .iteration) (pair-lengths N i j h) (directions-mem (accesses (N .statements)) (order N) i j h c) (pair-forwards N i j h)
+      pass-forwards ts proper (directionsOf N) N pass (i .iteration) (j .iteration) (pair-lengths N i j h)
+      (directions-mem (accesses (N .statements)) (order N) i j h c) (pair-forwards N i j h)
 
   equal : (rules : Rules) (s : State) (x : Element)
-      → exec (accesses (N .statements)) rules (order N) s x ≡ exec (accesses (M .statements)) (originally (undoAll ts) rules) (instances n (iterations (M .loops))) s x
+      → exec (accesses (N .statements)) rules (order N) s x ≡ exec (accesses (M .statements)) (originally (undoAll ts) rules)
+      (instances n (iterations (M .loops))) s x
   unfolding M n
   equal rules s x =
-      new-run (accesses (N .statements)) rules (commute (accesses (N .statements)) rules) n (forwardAll ts) (undoAll ts) (iterations (N .loops)) (iterations (M .loops)) (accesses (M .statements)) alike
-      (iterations-rise (N .loops)) (iterations-rise (M .loops)) (all-steps-keep-points ts proper N formed) (taken-back ts proper N formed) none-backwards s x
+      new-run (accesses (N .statements)) rules (commute (accesses (N .statements)) rules) n (forwardAll ts) (undoAll ts) (iterations (N .loops))
+      (iterations (M .loops)) (accesses (M .statements)) alike
+      (iterations-rise (N .loops)) (iterations-rise (M .loops)) (all-steps-keep-points ts proper N formed) (taken-back ts proper N formed)
+      none-backwards s x
 
   order-new : instances n (iterations (M .loops)) ≡ order M
   unfolding M n
@@ -88,7 +92,8 @@ module _ (ts : List Step) (proper : All Proper ts) (N : Nest) (formed : WellForm
   }
 
   -- under the ticket's own rules, on the words
-  pub same-store : All (NoneStrays (N .arrays) (iterations (N .loops))) (N .statements) → (w : List ℕ) → length w ≡ total (N .arrays) → runNest (nestAfterAll ts N) w ≡ runNest N w
+  pub same-store : All (NoneViolates (N .arrays) (iterations (N .loops))) (N .statements) → (w : List ℕ) → length w ≡ total (N .arrays)
+      → runNest (nestAfterAll ts N) w ≡ runNest N w
   unfolding runNest M n
   same-store stay w l =
       ap (λ as′. run (performOn as′ (M .statements)) (order M) w) (arrays-kept ts N)
@@ -105,7 +110,7 @@ pub record Accepted (d : Answer Ticket) (j : Judged) : Type 0 where
   pub formed : WellFormed (j .ticket .nest)
   pub proper : All Proper (j .ticket .steps)
   pub pass : StepsPass (j .ticket .steps) (directionsOf (j .ticket .nest)) (j .ticket .nest)
-  pub stay : All (NoneStrays (j .ticket .nest .arrays) (iterations (j .ticket .nest .loops))) (j .ticket .nest .statements)
+  pub stay : All (NoneViolates (j .ticket .nest .arrays) (iterations (j .ticket .nest .loops))) (j .ticket .nest .statements)
   pub new : j .new ≡ nestAfterAll (j .ticket .steps) (j .ticket .nest)
 
 pub judged-gives : (d : Answer Ticket) → Sound d → {j : Judged} → judgedOf d ≡ accepted j → Accepted d j
@@ -120,13 +125,15 @@ judged-gives d sound {j} e =
       formed = sound .formed (a .0);
       proper = sound-proper d sound (a .0);
       pass = v .1 .0;
-      stay = λ s m p i c k t. false-not-T _ (arrays-inside (T .nest .arrays) (iterations (T .nest .loops)) 1 (T .nest .statements) (b .1) s m p i c k) t;
+      stay = λ s m p i c k t. false-not-T _ (arrays-inside (T .nest .arrays) (iterations (T .nest .loops)) 1 (T .nest .statements) (b .1) s m p i c
+          k) t;
       new = refl;
     })
 
 pub judged-promise : (d : Answer Ticket) → Sound d → {j : Judged} → judgedOf d ≡ accepted j → Promise (j .ticket .steps) (j .ticket .nest) (j .new)
 judged-promise d sound {j} e = let a = judged-gives d sound e in
-    subst (Promise (j .ticket .steps) (j .ticket .nest)) (sym (a .new)) (promise (j .ticket .steps) (a .proper) (j .ticket .nest) (a .formed) (a .pass))
+    subst (Promise (j .ticket .steps) (j .ticket .nest)) (sym (a .new)) (promise (j .ticket .steps) (a .proper) (j .ticket .nest) (a .formed)
+    (a .pass))
 
 -- ---- the count that judge answers
 
@@ -137,7 +144,8 @@ judge-counts d e = let r = judge-accepted d e in (r .0, r .1, r .2 ∙ ap length
 -- ---- what write hands out
 
 pub write-hands : (d : Answer Ticket) → Sound d → (buffer : List ℕ) {c : ℕ} → writeOf d buffer .answer ≡ accepted c
-    → (j : Judged) × (judgedOf d ≡ accepted j) × HandedOut (encode (j .new)) buffer c (writeOf d buffer .memory) × (decodeNest (encode (j .new)) ≡ accepted (j .new))
+    → (j : Judged) × (judgedOf d ≡ accepted j) × HandedOut (encode (j .new)) buffer c (writeOf d buffer .memory)
+    × (decodeNest (encode (j .new)) ≡ accepted (j .new))
 write-hands d sound buffer e = let r = write-accepted d buffer e in (r .0, r .1, r .2, judged-written d sound (r .1))
 
 -- ---- the store that run leaves
@@ -147,7 +155,8 @@ pub record Left (N : Nest) (words memory : List ℕ) : Type 0 where
   -- word for word what the old order leaves
   pub as-old : memory ≡ runNest N words
   -- and what the plain machine leaves, fed the words and the ticket's own rules
-  pub as-plain : (e : Element) → Valid (N .arrays) e → exec (accesses (N .statements)) (ownRules (N .statements)) (order N) (stateOf (N .arrays) words) e ≡ pos (getD memory (placeOf (N .arrays) e) 0)
+  pub as-plain : (e : Element) → Valid (N .arrays) e → exec (accesses (N .statements)) (ownRules (N .statements)) (order N)
+      (stateOf (N .arrays) words) e ≡ pos (getD memory (placeOf (N .arrays) e) 0)
   pub size : length memory ≡ length words
 
 pub run-leaves : (d : Answer Ticket) → Sound d → (words : List ℕ) {c : ℕ} → runOf d words .answer ≡ accepted c
@@ -158,9 +167,11 @@ run-leaves d sound words e =
     let j = r .0 in
     let N = j .ticket .nest in
     let a = judged-gives d sound (r .1 .verdict) in
-    let old : runOf d words .memory ≡ runNest N words = r .3 ∙ ap (λ M. runNest M words) (a .new) ∙ same-store (j .ticket .steps) (a .proper) N (a .formed) (a .pass) (a .stay) words (r .1 .right) in
+    let old : runOf d words .memory ≡ runNest N words = r .3 ∙ ap (λ M. runNest M words) (a .new)
+    ∙ same-store (j .ticket .steps) (a .proper) N (a .formed) (a .pass) (a .stay) words (r .1 .right) in
     let s = run-shows (N .arrays) (N .statements) (order N) words (stateOf (N .arrays) words)
-    (instances-in-store (N .arrays) (length (N .loops)) (N .statements) (iterations (N .loops)) (a .formed .fits) (a .stay)) (stateOf-shown (N .arrays) words (r .1 .right)) in (
+    (instances-in-store (N .arrays) (length (N .loops)) (N .statements) (iterations (N .loops)) (a .formed .fits) (a .stay))
+    (stateOf-shown (N .arrays) words (r .1 .right)) in (
       j,
       r .1 .verdict,
       record {

@@ -20,7 +20,7 @@ use Rattle.lists.specs.Membership.{Mem}
 use Rattle.model.proofs.Answers.CheckLaws.{FirstBad}
 use Rattle.model.proofs.Grammar.GrammarLaws.{Sound}
 use Rattle.model.proofs.Points.BoundLaws.{Overrun}
-use Rattle.model.proofs.Points.ArrayLaws.{Strays, Stays}
+use Rattle.model.proofs.Points.ArrayLaws.{Violates, Stays}
 use Rattle.model.proofs.Quick.QuickLaws.{quick-sound}
 use Rattle.model.proofs.Verdict.JudgeLaws.{Rejected, StepsPass}
 use Rattle.model.proofs.Verdict.VerdictLaws.{made, admitted-accepted, admitted-refused, admit-accepted, admit-refused, judgeTicket-refused, judged-refused}
@@ -32,10 +32,11 @@ pub data NotAdmitted (Why : ℕ → ℕ → Type 0) (d : Answer Ticket) (n p : �
   -- 1 to 6: a word of the ticket
   grammar : Why n p → NotAdmitted Why d n p
   -- 7 and 8: a far index, or more than 4096 partial points, at the first loop that has either
-  crowded : (T : Ticket) → d ≡ accepted T → Overrun 7 8 32767 4096 (T .nest .loops) 1 (length (T .nest .loops)) n p → NotAdmitted Why d n p
+  many : (T : Ticket) → d ≡ accepted T → Overrun 7 8 32767 4096 (T .nest .loops) 1 (length (T .nest .loops)) n p → NotAdmitted Why d n p
   -- 9: an iteration, an access and a subscript off its extent, and no earlier statement has one
   off : (T : Ticket) → d ≡ accepted T → space (T .nest .loops) ≡ accepted tt → n ≡ 9
-      → FirstBad (Strays (T .nest .arrays) (iterations (T .nest .loops))) (Stays (T .nest .arrays) (iterations (T .nest .loops))) 1 (T .nest .statements) p → NotAdmitted Why d n p
+      → FirstBad (Violates (T .nest .arrays) (iterations (T .nest .loops))) (Stays (T .nest .arrays) (iterations (T .nest .loops))) 1
+      (T .nest .statements) p → NotAdmitted Why d n p
 
 -- 1 to 13
 pub data Because (Why : ℕ → ℕ → Type 0) (d : Answer Ticket) (n p : ℕ) : Type 0 where
@@ -43,18 +44,18 @@ pub data Because (Why : ℕ → ℕ → Type 0) (d : Answer Ticket) (n p : ℕ) 
   -- 10 to 12: the first step that does not pass, and why
   step : (T : Ticket) → admitOf d ≡ accepted T → Rejected 1 (T .steps) (directionsOf (T .nest)) (T .nest) n p → Because Why d n p
   -- 13: every step passes, and the new nest has a far index or too many partial points
-  sprawl : (T : Ticket) → admitOf d ≡ accepted T → StepsPass (T .steps) (directionsOf (T .nest)) (T .nest)
+  newSpace : (T : Ticket) → admitOf d ≡ accepted T → StepsPass (T .steps) (directionsOf (T .nest)) (T .nest)
       → Overrun 13 13 100000 65536 (made T .loops) 1 (length (made T .loops)) n p → Because Why d n p
 
 module _ (Why : ℕ → ℕ → Type 0) (d : Answer Ticket) (why : (n p : ℕ) → d ≡ refused n p → Why n p) where
   pub admit-because : {n p : ℕ} → admitOf d ≡ refused n p → NotAdmitted Why d n p
   admit-because {n} {p} e = ⊎-elim (λ f. grammar (why n p f))
-      (λ r. ⊎-elim (λ f. crowded (r .0) (r .1) f) (λ f. off (r .0) (r .1) (f .0) (f .1 .0) (f .1 .1)) (admitted-refused (r .0 .nest) (r .2)))
+      (λ r. ⊎-elim (λ f. many (r .0) (r .1) f) (λ f. off (r .0) (r .1) (f .0) (f .1 .0) (f .1 .1)) (admitted-refused (r .0 .nest) (r .2)))
       (admit-refused d e)
 
   pub judged-because : {n p : ℕ} → judgedOf d ≡ refused n p → Because Why d n p
   judged-because e = ⊎-elim (λ f. notAdmitted (admit-because f))
-      (λ r. ⊎-elim (λ f. step (r .0) (r .1) f) (λ f. sprawl (r .0) (r .1) (f .0) (f .1)) (judgeTicket-refused (r .0) (r .2)))
+      (λ r. ⊎-elim (λ f. step (r .0) (r .1) f) (λ f. newSpace (r .0) (r .1) (f .0) (f .1)) (judgeTicket-refused (r .0) (r .2)))
       (judged-refused d e)
 
   pub judge-because : {n p : ℕ} → judgeOf d ≡ refused n p → Because Why d n p
@@ -67,7 +68,8 @@ module _ (Why : ℕ → ℕ → Type 0) (d : Answer Ticket) (why : (n p : ℕ) �
   write-because buffer e = let r = write-refused d buffer e in (r .0, ⊎-elim (λ f. inl (judged-because f)) inr (r .1))
 
   pub list-because : (buffer : List ℕ) {n p : ℕ} → listOf d buffer .answer ≡ refused n p
-      → (listOf d buffer .memory ≡ buffer) × (NotAdmitted Why d n p ⊎ ((T : Ticket) × (admitOf d ≡ accepted T) × Short (listing (T .nest)) buffer n p))
+      → (listOf d buffer .memory ≡ buffer) × (NotAdmitted Why d n p
+      ⊎ ((T : Ticket) × (admitOf d ≡ accepted T) × Short (listing (T .nest)) buffer n p))
   list-because buffer e = let r = list-refused d buffer e in (r .0, ⊎-elim (λ f. inl (admit-because f)) inr (r .1))
 
   pub run-because : (words : List ℕ) {n p : ℕ} → runOf d words .answer ≡ refused n p
@@ -75,7 +77,8 @@ module _ (Why : ℕ → ℕ → Type 0) (d : Answer Ticket) (why : (n p : ℕ) �
   run-because words e = let r = run-refused d words e in (r .0, ⊎-elim (λ f. inl (judged-because f)) inr (r .1))
 
   pub quick-because : (a b : ℕ) {n p : ℕ} → quickOf d a b ≡ refused n p
-      → NotAdmitted Why d n p ⊎ ((T : Ticket) × (admitOf d ≡ accepted T) × (NoAccess (allAccesses (T .nest)) a n p ⊎ NoAccess (allAccesses (T .nest)) b n p))
+      → NotAdmitted Why d n p ⊎ ((T : Ticket) × (admitOf d ≡ accepted T)
+      × (NoAccess (allAccesses (T .nest)) a n p ⊎ NoAccess (allAccesses (T .nest)) b n p))
   quick-because a b e = ⊎-elim (λ f. inl (admit-because f)) inr (quick-refused d a b e)
 
 module _ (d : Answer Ticket) where
@@ -88,7 +91,8 @@ module _ (d : Answer Ticket) where
     pub second : Access
     pub first-number : accessNumber (allAccesses (ticket .nest)) a ≡ accepted first
     pub second-number : accessNumber (allAccesses (ticket .nest)) b ≡ accepted second
-    pub never : (p q : List ℤ) → Mem p (iterations (ticket .nest .loops)) → Mem q (iterations (ticket .nest .loops)) → element p first ≡ element q second → ⊥
+    pub never : (p q : List ℤ) → Mem p (iterations (ticket .nest .loops)) → Mem q (iterations (ticket .nest .loops))
+        → element p first ≡ element q second → ⊥
 
   pub apart-never : Sound d → (a b : ℕ) → quickOf d a b ≡ accepted apart → NeverMeet a b
   apart-never sound a b e =
@@ -101,5 +105,6 @@ module _ (d : Answer Ticket) where
         second = r .2;
         first-number = r .4;
         second-number = r .5;
-        never = quick-sound (r .0 .nest) (sound .formed (t .0)) (admitted-accepted (r .0 .nest) (t .1) .0) (r .1) (r .2) (accessNumber-mem (allAccesses (r .0 .nest)) a (r .4)) (sym (r .6));
+        never = quick-sound (r .0 .nest) (sound .formed (t .0)) (admitted-accepted (r .0 .nest) (t .1) .0) (r .1) (r .2)
+            (accessNumber-mem (allAccesses (r .0 .nest)) a (r .4)) (sym (r .6));
       }

@@ -32,19 +32,23 @@ use Rattle.model.proofs.Verdict.JudgeLaws.{StepsPass, ten-exact}
 
 -- ---- a pair of points through steps
 
-pub carried : (ts : List Step) → All Proper ts → (vs : List (List Sign)) (p q : List ℤ) → length p ≡ length q → Mem (signs p q) vs → Mem (signs (forwardAll ts p) (forwardAll ts q)) (vectorsAfterAll ts vs)
+pub carried : (ts : List Step) → All Proper ts → (vs : List (List Sign)) (p q : List ℤ) → length p ≡ length q → Mem (signs p q) vs
+    → Mem (signs (forwardAll ts p) (forwardAll ts q)) (vectorsAfterAll ts vs)
 unfolding forwardAll vectorsAfterAll
 carried [] h vs p q e m = m
 carried (t ∷ ts) h vs p q e m =
-    carried ts (λ u i. h u (List·Memᴰ·tail i)) (vectorsAfter t vs) (forward t p) (forward t q) (step-length t p q e) (vectors-after t (h t (List·Memᴰ·head refl)) vs p q e m)
+    carried ts (λ u i. h u (List·Memᴰ·tail i)) (vectorsAfter t vs) (forward t p) (forward t q) (step-length t p q e)
+    (vectors-after t (h t (List·Memᴰ·head refl)) vs p q e m)
 
-pub pass-forwards : (ts : List Step) → All Proper ts → (vs : List (List Sign)) (N : Nest) → StepsPass ts vs N → (p q : List ℤ) → length p ≡ length q → Mem (signs p q) vs
+pub pass-forwards : (ts : List Step) → All Proper ts → (vs : List (List Sign)) (N : Nest) → StepsPass ts vs N → (p q : List ℤ) → length p ≡ length q
+    → Mem (signs p q) vs
     → (T (backwards (signs p q)) → ⊥) → T (backwards (signs (forwardAll ts p) (forwardAll ts q))) → ⊥
 unfolding forwardAll
 pass-forwards [] h vs N s p q e m f = f
 pass-forwards (t ∷ ts) h vs N s p q e m f =
     let c = vectors-after t (h t (List·Memᴰ·head refl)) vs p q e m in
-    pass-forwards ts (λ u i. h u (List·Memᴰ·tail i)) (vectorsAfter t vs) _ (s .1) (forward t p) (forward t q) (step-length t p q e) c (s .0 .forwards (signs (forward t p) (forward t q)) c)
+    pass-forwards ts (λ u i. h u (List·Memᴰ·tail i)) (vectorsAfter t vs) _ (s .1) (forward t p) (forward t q) (step-length t p q e) c
+    (s .0 .forwards (signs (forward t p) (forward t q)) c)
 
 -- ---- steps whose tables give one vector
 
@@ -74,7 +78,8 @@ record Had (R : List ℤ → List ℤ → Type 0) (f : List ℤ → List ℤ) (v
   has : v ≡ signs (f source) (f sink)
 
 module _ (R : List ℤ → List ℤ → Type 0) where
-  traced : (ts : List Step) → All Turns ts → (f : List ℤ → List ℤ) → ((p q : List ℤ) → R p q → length (f p) ≡ length (f q)) → (vs : List (List Sign)) → All (Had R f) vs
+  traced : (ts : List Step) → All Turns ts → (f : List ℤ → List ℤ) → ((p q : List ℤ) → R p q → length (f p) ≡ length (f q))
+      → (vs : List (List Sign)) → All (Had R f) vs
       → (w : List Sign) → Mem w (vectorsAfterAll ts vs) → Had R (λ p. forwardAll ts (f p)) w
   unfolding forwardAll vectorsAfterAll vectorsAfter
   traced [] h f l vs a w m = a w m
@@ -85,7 +90,8 @@ module _ (R : List ℤ → List ℤ → Type 0) where
         source = b .source;
         sink = b .sink;
         pair = b .pair;
-        has = List·Memᴰ·eq-of-singleton (subst (Mem u) (ap (vectors t) (b .has) ∙ turns-signs t turns (f (b .source)) (f (b .sink)) (l (b .source) (b .sink) (b .pair))) (g .2));
+        has = List·Memᴰ·eq-of-singleton (subst (Mem u) (ap (vectors t) (b .has)
+            ∙ turns-signs t turns (f (b .source)) (f (b .sink)) (l (b .source) (b .sink) (b .pair))) (g .2));
       }) w m
 
 -- ---- one step more
@@ -118,14 +124,16 @@ module _ (N : Nest) where
   pub pair-forwards : (i j : Instance) → Precedes (order N) i j → T (backwards (signs (i .iteration) (j .iteration))) → ⊥
   pair-forwards i j h b =
       let l : Earlier (j .iteration) (i .iteration) = subst T (backwards-earlier (i .iteration) (j .iteration)) b in
-      go l (ordered-precedes (Before whole) (order N) (instances-ordered whole (length (N .statements)) (iterations (N .loops)) (iterations-rise (N .loops))) i j h)
+      go l (ordered-precedes (Before whole) (order N) (instances-ordered whole (length (N .statements)) (iterations (N .loops))
+      (iterations-rise (N .loops))) i j h)
     where
       go : Earlier (j .iteration) (i .iteration) → Before whole i j → ⊥
       go l (inl e) = earlier-asymmetric (i .iteration) (j .iteration) e l
       go l (inr e) = earlier-irreflexive (i .iteration) (subst (λ p. Earlier p (i .iteration)) (sym (e .0)) l)
 
   Conflicting : List ℤ → List ℤ → Type 0
-  Conflicting p q = (i : Instance) × (j : Instance) × Precedes (order N) i j × T (conflict (accesses (N .statements)) i j) × (p ≡ i .iteration) × (q ≡ j .iteration)
+  Conflicting p q = (i : Instance) × (j : Instance) × Precedes (order N) i j × T (conflict (accesses (N .statements)) i j) × (p ≡ i .iteration)
+      × (q ≡ j .iteration)
 
   -- a step that is reached when all steps so far exchange or reverse
   module _ (front : List Step) (t : Step) (turns : All Turns (front ++ t ∷ [])) (pass : StepsPass front (directionsOf N) N) where
@@ -144,13 +152,16 @@ module _ (N : Nest) where
     unfolding Conflicting
     same-lengths p q c = ap length (c .4) ∙ pair-lengths (c .0) (c .1) (c .2) ∙ sym (ap length (c .5))
 
-    in-directions : (i j : Instance) → Precedes (order N) i j → T (conflict (accesses (N .statements)) i j) → Mem (signs (i .iteration) (j .iteration)) (directionsOf N)
+    in-directions : (i j : Instance) → Precedes (order N) i j → T (conflict (accesses (N .statements)) i j)
+        → Mem (signs (i .iteration) (j .iteration)) (directionsOf N)
     unfolding directionsOf
     in-directions i j h c = directions-mem (accesses (N .statements)) (order N) i j h c
 
-    still-kept : (i j : Instance) → Precedes (order N) i j → T (conflict (accesses (N .statements)) i j) → Earlier (forwardAll front (j .iteration)) (forwardAll front (i .iteration)) → ⊥
+    still-kept : (i j : Instance) → Precedes (order N) i j → T (conflict (accesses (N .statements)) i j)
+        → Earlier (forwardAll front (j .iteration)) (forwardAll front (i .iteration)) → ⊥
     still-kept i j h c e =
-        pass-forwards front within-front (directionsOf N) N pass (i .iteration) (j .iteration) (pair-lengths i j h) (in-directions i j h c) (pair-forwards i j h)
+        pass-forwards front within-front (directionsOf N) N pass (i .iteration) (j .iteration) (pair-lengths i j h) (in-directions i j h c)
+        (pair-forwards i j h)
         (subst T (sym (backwards-earlier (forwardAll front (i .iteration)) (forwardAll front (j .iteration)))) e)
 
     had-trade : (v : List Sign) → T (backwards v) → Had Conflicting (forwardAll (front ++ t ∷ [])) v → Trade front t
@@ -173,7 +184,8 @@ module _ (N : Nest) where
     back-trade b =
         let r = points-back (vectorsAfter t (vectorsAfterAll front (directionsOf N))) b in
         had-trade (r .vector) (r .back)
-        (traced Conflicting (front ++ t ∷ []) turns (λ p. p) same-lengths (directionsOf N) all-had (r .vector) (subst (Mem (r .vector)) (sym (after-snoc front t (directionsOf N))) (r .there)))
+        (traced Conflicting (front ++ t ∷ []) turns (λ p. p) same-lengths (directionsOf N) all-had (r .vector)
+        (subst (Mem (r .vector)) (sym (after-snoc front t (directionsOf N))) (r .there)))
 
     trade-back : Trade front t → T (somePointsBack (vectorsAfter t (vectorsAfterAll front (directionsOf N))))
     trade-back r =
@@ -183,9 +195,11 @@ module _ (N : Nest) where
         back-points (vectorsAfter t (vectorsAfterAll front (directionsOf N))) (record {
           vector = signs (fwd p) (fwd q);
           there = subst (Mem (signs (fwd p) (fwd q))) (after-snoc front t (directionsOf N))
-              (carried (front ++ t ∷ []) proper (directionsOf N) p q (pair-lengths (r .source) (r .sink) (r .before)) (in-directions (r .source) (r .sink) (r .before) (r .clash)));
+              (carried (front ++ t ∷ []) proper (directionsOf N) p q (pair-lengths (r .source) (r .sink) (r .before))
+              (in-directions (r .source) (r .sink) (r .before) (r .clash)));
           back = subst T (sym (backwards-earlier (fwd p) (fwd q))) (r .traded);
         })
 
-    pub ten-trades : (k : ℕ) (back : List Step) → (judgeSteps k (front ++ t ∷ back) (directionsOf N) N ≡ refused 10 (k + length front)) ↔ Trade front t
+    pub ten-trades : (k : ℕ) (back : List Step) → (judgeSteps k (front ++ t ∷ back) (directionsOf N) N ≡ refused 10 (k + length front)) ↔ Trade
+        front t
     ten-trades k back = let e = ten-exact k front t back (directionsOf N) N pass in (λ h. back-trade (e .0 h), λ r. e .1 (trade-back r))

@@ -18,7 +18,8 @@ use Rattle.model.proofs.Promise.PromiseLaws.{Promise, Left, judged-prom
 
 -- one of the three accepts
 abbrev pub SomeAccepts : Answer Ticket → List ℕ → List ℕ → Type 0
-SomeAccepts d buffer words = ((c : ℕ) × (judgeOf d ≡ accepted c)) ⊎ (((c : ℕ) × (writeOf d buffer .answer ≡ accepted c)) ⊎ ((c : ℕ) × (runOf d words .answer ≡ accepted c)))
+SomeAccepts d buffer words = ((c : ℕ) × (judgeOf d ≡ accepted c))
+    ⊎ (((c : ℕ) × (writeOf d buffer .answer ≡ accepted c)) ⊎ ((c : ℕ) × (runOf d words .answer ≡ accepted c)))
 
 pub record Whole (d : Answer Ticket) (buffer words : List ℕ) (j : Judged) : Type 0 where
   pub verdict : judgedOf d ≡ accepted j
@@ -27,7 +28,8 @@ pub record Whole (d : Answer Ticket) (buffer words : List ℕ) (j : Judged) : Ty
   -- judge counts these iterations
   pub counts : judgeOf d ≡ accepted (length (iterations (j .ticket .nest .loops)))
   -- what write hands out is that nest
-  pub written : {c : ℕ} → writeOf d buffer .answer ≡ accepted c → HandedOut (encode (j .new)) buffer c (writeOf d buffer .memory) × (decodeNest (encode (j .new)) ≡ accepted (j .new))
+  pub written : {c : ℕ} → writeOf d buffer .answer ≡ accepted c → HandedOut (encode (j .new)) buffer c (writeOf d buffer .memory)
+      × (decodeNest (encode (j .new)) ≡ accepted (j .new))
   -- what run leaves is the store that the old order leaves
   pub left : {c : ℕ} → runOf d words .answer ≡ accepted c → Left (j .ticket .nest) words (runOf d words .memory)
 
@@ -39,7 +41,8 @@ module _ (d : Answer Ticket) (sound : Sound d) (buffer words : List ℕ) where
     orders = judged-promise d sound e;
     counts = ap (_>>= (λ (k : Judged). accepted (length (iterations (k .ticket .nest .loops))))) e;
     written = λ {c} h. let w = write-hands d sound buffer h in
-        subst (λ (k : Judged). HandedOut (encode (k .new)) buffer c (writeOf d buffer .memory) × (decodeNest (encode (k .new)) ≡ accepted (k .new))) (accepted-same (sym (w .1) ∙ e)) (w .2, w .3);
+        subst (λ (k : Judged). HandedOut (encode (k .new)) buffer c (writeOf d buffer .memory) × (decodeNest (encode (k .new)) ≡ accepted (k .new)))
+        (accepted-same (sym (w .1) ∙ e)) (w .2, w .3);
     left = λ h. let r = run-leaves d sound words h in
         subst (λ (k : Judged). Left (k .ticket .nest) words (runOf d words .memory)) (accepted-same (sym (r .1) ∙ e)) (r .2);
   }
@@ -47,5 +50,6 @@ module _ (d : Answer Ticket) (sound : Sound d) (buffer words : List ℕ) where
   pub accepted-whole : SomeAccepts d buffer words → (j : Judged) × Whole d buffer words j
   accepted-whole h =
       ⊎-elim (λ q. let r = judge-counts d (q .1) in (r .0, whole (r .1)))
-      (λ p. ⊎-elim (λ q. let r = write-hands d sound buffer (q .1) in (r .0, whole (r .1))) (λ q. let r = run-leaves d sound words (q .1) in (r .0, whole (r .1))) p)
+      (λ p. ⊎-elim (λ q. let r = write-hands d sound buffer (q .1) in (r .0, whole (r .1)))
+      (λ q. let r = run-leaves d sound words (q .1) in (r .0, whole (r .1))) p)
       h

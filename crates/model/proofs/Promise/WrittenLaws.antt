@@ -83,7 +83,8 @@ counts-after-all : (ts : List Step) (N : Nest) → StepsThere (length (N .loops)
 unfolding nestAfterAll nestAfter
 counts-after-all [] N h c = c
 counts-after-all (t ∷ ts) N h c =
-    counts-after-all ts (nestAfter t N) (subst (λ m. StepsThere m ts) (sym (depth-after t (N .loops) (there t _ (h .0)))) (h .1)) (counts-after t N (h .0) c)
+    counts-after-all ts (nestAfter t N) (subst (λ m. StepsThere m ts) (sym (depth-after t (N .loops) (there t _ (h .0)))) (h .1))
+    (counts-after t N (h .0) c)
 
 ranges-counts : {d m : ℕ} {N : Nest} → d ≤ 6 → NestRanges d m N → NestCounts N
 ranges-counts h r = record {
@@ -93,7 +94,14 @@ ranges-counts h r = record {
   room = r .room;
   few-statements = r .few-statements;
   statements = λ s i. let q = r .statements s i in
-      record { rule = q .rule; constant = q .constant; one-write = q .one-write; few-reads = q .few-reads; copy-reads = q .copy-reads; copy-constant = q .copy-constant };
+      record {
+        rule = q .rule;
+        constant = q .constant;
+        one-write = q .one-write;
+        few-reads = q .few-reads;
+        copy-reads = q .copy-reads;
+        copy-constant = q .copy-constant;
+      };
 }
 
 -- ---- limits and subscripts of small numbers
@@ -115,8 +123,10 @@ unfolding loopNumbers
 loop-ranges L r f s = record {
   few-lower = some (L .lower) (r .some-lower) (f .0);
   few-upper = some (L .upper) (r .some-upper) (f .1);
-  lower = λ l i. limit-ranges l (r .positive-lower l i) (λ x j. s x (Memᴰ·append-left (flatMap limitNumbers (L .upper)) (mem-flatMap limitNumbers (L .lower) i j)));
-  upper = λ l i. limit-ranges l (r .positive-upper l i) (λ x j. s x (Memᴰ·append-right (flatMap limitNumbers (L .lower)) (mem-flatMap limitNumbers (L .upper) i j)));
+  lower = λ l i. limit-ranges l (r .positive-lower l i) (λ x j. s x (Memᴰ·append-left (flatMap limitNumbers (L .upper))
+      (mem-flatMap limitNumbers (L .lower) i j)));
+  upper = λ l i. limit-ranges l (r .positive-upper l i) (λ x j. s x (Memᴰ·append-right (flatMap limitNumbers (L .lower))
+      (mem-flatMap limitNumbers (L .upper) i j)));
 }
 
 access-ranges : (a : Access) → All Small (accessNumbers a) → AccessRanges a
@@ -145,12 +155,14 @@ nest-ranges : (N : Nest) → NestCounts N → WellFormed N → Few (N .loops) �
 unfolding nestNumbers
 nest-ranges N c w f s = record {
   few-loops = c .few-loops;
-  loops = λ L i. loop-ranges L (w .runs L i) (f L i) (λ x j. s x (Memᴰ·append-left (flatMap statementNumbers (N .statements)) (mem-flatMap loopNumbers (N .loops) i j)));
+  loops = λ L i. loop-ranges L (w .runs L i) (f L i) (λ x j. s x (Memᴰ·append-left (flatMap statementNumbers (N .statements))
+      (mem-flatMap loopNumbers (N .loops) i j)));
   few-arrays = c .few-arrays;
   arrays = c .arrays;
   room = c .room;
   few-statements = c .few-statements;
-  statements = λ t i. statement-ranges t (c .statements t i) (λ x j. s x (Memᴰ·append-right (flatMap loopNumbers (N .loops)) (mem-flatMap statementNumbers (N .statements) i j)));
+  statements = λ t i. statement-ranges t (c .statements t i) (λ x j. s x (Memᴰ·append-right (flatMap loopNumbers (N .loops))
+      (mem-flatMap statementNumbers (N .statements) i j)));
 }
 
 -- ---- the new nest
@@ -162,11 +174,13 @@ module _ (T : Ticket) (r : TicketRanges T) (w : WellFormed (T .nest)) where
   pub new-ranges : (vs : List (List Sign)) → StepsPass (T .steps) vs (T .nest) → NestRanges 6 16 (nestAfterAll (T .steps) (T .nest))
   new-ranges vs = from (T .steps) (counts-after-all (T .steps) (T .nest) (r .steps) (ranges-counts (omega arith) (r .nest))) new-formed
     where
-      from : (ts : List Step) → NestCounts (nestAfterAll ts (T .nest)) → WellFormed (nestAfterAll ts (T .nest)) → StepsPass ts vs (T .nest) → NestRanges 6 16 (nestAfterAll ts (T .nest))
+      from : (ts : List Step) → NestCounts (nestAfterAll ts (T .nest)) → WellFormed (nestAfterAll ts (T .nest)) → StepsPass ts vs (T .nest)
+          → NestRanges 6 16 (nestAfterAll ts (T .nest))
       from [] c f h = unfold nestAfterAll in ranges-wider (omega arith) (omega arith) (r .nest)
       from (t ∷ ts) c f h = let q = passes-final t ts vs (T .nest) h in nest-ranges (nestAfterAll (t ∷ ts) (T .nest)) c f (q .0) (q .1)
 
-  pub new-written : (vs : List (List Sign)) → StepsPass (T .steps) vs (T .nest) → decodeNest (encode (nestAfterAll (T .steps) (T .nest))) ≡ accepted (nestAfterAll (T .steps) (T .nest))
+  pub new-written : (vs : List (List Sign)) → StepsPass (T .steps) vs (T .nest)
+      → decodeNest (encode (nestAfterAll (T .steps) (T .nest))) ≡ accepted (nestAfterAll (T .steps) (T .nest))
   new-written vs h = encode-decodes (nestAfterAll (T .steps) (T .nest)) new-formed (new-ranges vs h)
 
 -- of an accepted ticket, however it was read

@@ -54,8 +54,10 @@ module _ (rs : List Range) (d : Subscript) (xs : List ℤ) (inn : InRanges rs xs
   all-divide =
       let g = gcdOf (d .coefficients) in
       let s = dot-divides (pos g) (d .coefficients) xs (λ c m. dvd-int c (gcdOf-divides (d .coefficients) c m)) in
-      let e : pos 0 -ℤ dot (d .coefficients) xs ≡ d .constant = by (d .constant ∷ dot (d .coefficients) xs ∷ []) (λ c s. c ⊕ s ≐ # 0 ⟶ # 0 ⊖ s ≐ c) (omega arith) zero-sum in
-      true-T (eqb (natAbs (d .constant) % g) 0) (eq-eqb (natAbs (d .constant) % g) 0 (mod-eq-zero-of-dvd g (int-dvd (subst (λ z. pos g ∣ℤ z) e (∣-sub (∣-zero (pos g)) s)))))
+      let e : pos 0 -ℤ dot (d .coefficients) xs ≡ d .constant = by (d .constant ∷ dot (d .coefficients) xs ∷ []) (λ c s. c ⊕ s ≐ # 0 ⟶ # 0 ⊖ s ≐ c)
+      (omega arith) zero-sum in
+      true-T (eqb (natAbs (d .constant) % g) 0) (eq-eqb (natAbs (d .constant) % g) 0
+      (mod-eq-zero-of-dvd g (int-dvd (subst (λ z. pos g ∣ℤ z) e (∣-sub (∣-zero (pos g)) s)))))
 
   never-zero : T (neverZero rs d) → ⊥
   unfolding neverZero
@@ -64,21 +66,26 @@ module _ (rs : List Range) (d : Subscript) (xs : List ℤ) (inn : InRanges rs xs
       let hi = greatest-sum (d .coefficients) rs xs inn in
       ⊎-elim (λ t. T-not (divides (gcdOf (d .coefficients)) (d .constant)) t all-divide)
       (λ t. ⊎-elim (λ u. let a = below (pos 0) (d .constant +ℤ leastSum (d .coefficients) rs) u in
-      <ℤ-irrefl {a = pos 0} (by (d .constant ∷ dot (d .coefficients) xs ∷ leastSum (d .coefficients) rs ∷ []) (λ c s l. c ⊕ s ≐ # 0 ⟶ l ⊑ s ⟶ # 0 ⊏ c ⊕ l ⟶ # 0 ⊏ # 0) (omega arith) zero-sum lo a))
+      <ℤ-irrefl {a = pos 0} (by (d .constant ∷ dot (d .coefficients) xs ∷ leastSum (d .coefficients) rs ∷ [])
+      (λ c s l. c ⊕ s ≐ # 0 ⟶ l ⊑ s ⟶ # 0 ⊏ c ⊕ l ⟶ # 0 ⊏ # 0) (omega arith) zero-sum lo a))
       (λ u. let a = below (d .constant +ℤ greatestSum (d .coefficients) rs) (pos 0) u in
-      <ℤ-irrefl {a = pos 0} (by (d .constant ∷ dot (d .coefficients) xs ∷ greatestSum (d .coefficients) rs ∷ []) (λ c s l. c ⊕ s ≐ # 0 ⟶ s ⊑ l ⟶ c ⊕ l ⊏ # 0 ⟶ # 0 ⊏ # 0) (omega arith) zero-sum hi a))
+      <ℤ-irrefl {a = pos 0} (by (d .constant ∷ dot (d .coefficients) xs ∷ greatestSum (d .coefficients) rs ∷ [])
+      (λ c s l. c ⊕ s ≐ # 0 ⟶ s ⊑ l ⟶ c ⊕ l ⊏ # 0 ⟶ # 0 ⊏ # 0) (omega arith) zero-sum hi a))
       (or-cases (ltZ (pos 0) (d .constant +ℤ leastSum (d .coefficients) rs)) (ltZ (d .constant +ℤ greatestSum (d .coefficients) rs) (pos 0)) t))
-      (or-cases (not (divides (gcdOf (d .coefficients)) (d .constant))) (ltZ (pos 0) (d .constant +ℤ leastSum (d .coefficients) rs) || ltZ (d .constant +ℤ greatestSum (d .coefficients) rs) (pos 0)) h)
+      (or-cases (not (divides (gcdOf (d .coefficients)) (d .constant))) (ltZ (pos 0) (d .constant +ℤ leastSum (d .coefficients) rs) || ltZ
+      (d .constant +ℤ greatestSum (d .coefficients) rs) (pos 0)) h)
 
 -- ---- two subscripts, at two free iterations
 
-pub difference-value : (f g : Subscript) (p q : List ℤ) → length (f .coefficients) ≡ length p → subscriptAt (p ++ q) (difference f g) ≡ subscriptAt p f -ℤ subscriptAt q g
+pub difference-value : (f g : Subscript) (p q : List ℤ) → length (f .coefficients) ≡ length p
+    → subscriptAt (p ++ q) (difference f g) ≡ subscriptAt p f -ℤ subscriptAt q g
 unfolding subscriptAt affine difference
 difference-value f g p q e = rw (dot-append (f .coefficients) (map negℤ (g .coefficients)) p q e, dot-neg (g .coefficients) q)
     (lin (f .constant ∷ g .constant ∷ dot (f .coefficients) p ∷ dot (g .coefficients) q ∷ []) (λ c d s t. c ⊖ d ⊕ (s ⊕ ⊝ t) ≐ (c ⊕ s) ⊖ (d ⊕ t)) tt)
 
 module _ (rs : List Range) (p q : List ℤ) (hp : InRanges rs p) (hq : InRanges rs q) where
-  some-apart : (fs gs : List Subscript) → All (λ f. length (f .coefficients) ≡ length p) fs → map (subscriptAt p) fs ≡ map (subscriptAt q) gs → T (someApart rs fs gs) → ⊥
+  some-apart : (fs gs : List Subscript) → All (λ f. length (f .coefficients) ≡ length p) fs → map (subscriptAt p) fs ≡ map (subscriptAt q) gs
+      → T (someApart rs fs gs) → ⊥
   unfolding someApart
   some-apart [] gs w e h = h
   some-apart (f ∷ fs) [] w e h = h
@@ -86,7 +93,8 @@ module _ (rs : List Range) (p q : List ℤ) (hp : InRanges rs p) (hq : InRanges 
       let s : subscriptAt p f ≡ subscriptAt q g = cc in
       let z : subscriptAt p f -ℤ subscriptAt q g ≡ pos 0 = by (subscriptAt p f ∷ subscriptAt q g ∷ []) (λ a b. a ≐ b ⟶ a ⊖ b ≐ # 0) (omega arith) s in
       ⊎-elim
-      (λ t. never-zero (rs ++ rs) (difference f g) (p ++ q) (ranges-append rs rs p q hp hq) (difference-value f g p q (w f (List·Memᴰ·head refl)) ∙ z) t)
+      (λ t. never-zero (rs ++ rs) (difference f g) (p ++ q) (ranges-append rs rs p q hp hq)
+      (difference-value f g p q (w f (List·Memᴰ·head refl)) ∙ z) t)
       (λ t. some-apart fs gs (λ k m. w k (List·Memᴰ·tail m)) (cc) t)
       (or-cases (neverZero (rs ++ rs) (difference f g)) (someApart rs fs gs) h)
 
@@ -107,7 +115,8 @@ apart-sound N r u v w h p q ip wp iq wq e =
     let a = below (s .0 .greatest) (s .0 .least) (s .2) in let b = range-filled (ranges N) p hp (s .1) in omega zarith)
     (λ o. some-apart (ranges N) p q hp hq (u .subscripts) (v .subscripts) wide (ap (λ (x : Element). x .subscripts) e) o)
     (or-cases (any (λ r. ltZ (r .greatest) (r .least)) (ranges N)) (someApart (ranges N) (u .subscripts) (v .subscripts)) t))
-    (or-cases (not (eqb (u .array) (v .array))) (any (λ r. ltZ (r .greatest) (r .least)) (ranges N) || someApart (ranges N) (u .subscripts) (v .subscripts)) h)
+    (or-cases (not (eqb (u .array) (v .array))) (any (λ r. ltZ (r .greatest) (r .least)) (ranges N) || someApart (ranges N) (u .subscripts)
+    (v .subscripts)) h)
 
 -- ---- the accesses of an admitted nest
 
@@ -123,7 +132,8 @@ module _ (N : Nest) (w : WellFormed N) where
       → (p q : List ℤ) → Mem p (iterations (N .loops)) → Mem q (iterations (N .loops)) → element p u ≡ element q v → ⊥
   unfolding quickTest
   quick-sound e u v m t p q i j = apart-sound (N .loops) (w .runs) u v (all-wide u m) (says-apart (isApart (N .loops) u v) t)
-      p q (iterations-inside (N .loops) (w .runs) p .0 i) (space-within (N .loops) (w .runs) e p i) (iterations-inside (N .loops) (w .runs) q .0 j) (space-within (N .loops) (w .runs) e q j)
+      p q (iterations-inside (N .loops) (w .runs) p .0 i) (space-within (N .loops) (w .runs) e p i) (iterations-inside (N .loops) (w .runs) q .0 j)
+      (space-within (N .loops) (w .runs) e q j)
     where
       says-apart : (b : Bool) → cond b apart perhaps ≡ apart → T b
       says-apart true e = tt

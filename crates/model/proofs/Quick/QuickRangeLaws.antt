@@ -28,7 +28,8 @@ cut-le y x h k = let m = minZ (pos 32767) y in max-iff (negsuc 32766) m x .1 (k,
 
 le-cut : (y x : ℤ) → x ≤ℤ y → x ≤ℤ pos 32767 → x ≤ℤ cut y
 unfolding cut
-le-cut y x h k = let m = minZ (pos 32767) y in ≤ℤ-trans (min-iff (pos 32767) y x .1 (k, h)) (max-iff (negsuc 32766) m (maxZ (negsuc 32766) m) .0 (≤ℤ-refl (maxZ (negsuc 32766) m)) .1)
+le-cut y x h k = let m = minZ (pos 32767) y in ≤ℤ-trans (min-iff (pos 32767) y x .1 (k, h))
+    (max-iff (negsuc 32766) m (maxZ (negsuc 32766) m) .0 (≤ℤ-refl (maxZ (negsuc 32766) m)) .1)
 
 -- ---- sums over ranges
 
@@ -98,11 +99,13 @@ module _ (rs : List Range) (outer : List ℤ) (inn : InRanges rs outer) (x : ℤ
   -- an index within its limits is so before the range is cut
   pub largest-low : (L : Loop) → Runs L → InLimits L outer x → largest (map leastOf (L .lower)) ≤ℤ x
   largest-low L r h = largest-iff x (map leastOf (L .lower)) (λ e. r .some-lower (map-eq-nil-iff leastOf .0 e)) .0 (λ y m.
-      let q = Memᴰ·of-map leastOf (L .lower) m in subst (λ y. y ≤ℤ x) (q .2) (limit-low (q .0) (r .positive-lower (q .0) (q .1)) (h .low (q .0) (q .1))))
+      let q = Memᴰ·of-map leastOf (L .lower) m in subst (λ y. y ≤ℤ x) (q .2) (limit-low (q .0) (r .positive-lower (q .0) (q .1))
+      (h .low (q .0) (q .1))))
 
   pub smallest-high : (L : Loop) → Runs L → InLimits L outer x → x ≤ℤ smallest (map greatestOf (L .upper))
   smallest-high L r h = smallest-iff x (map greatestOf (L .upper)) (λ e. r .some-upper (map-eq-nil-iff greatestOf .0 e)) .0 (λ y m.
-      let q = Memᴰ·of-map greatestOf (L .upper) m in subst (λ y. x ≤ℤ y) (q .2) (limit-high (q .0) (r .positive-upper (q .0) (q .1)) (h .high (q .0) (q .1))))
+      let q = Memᴰ·of-map greatestOf (L .upper) m in subst (λ y. x ≤ℤ y) (q .2) (limit-high (q .0) (r .positive-upper (q .0) (q .1))
+      (h .high (q .0) (q .1))))
 
   in-range : (L : Loop) → Runs L → InLimits L outer x → negsuc 32766 ≤ℤ x → x ≤ℤ pos 32767 → InRange (rangeOf rs L) x
   unfolding rangeOf
@@ -111,7 +114,8 @@ module _ (rs : List Range) (outer : List ℤ) (inn : InRanges rs outer) (x : ℤ
     high = le-cut (smallest (map greatestOf (L .upper))) x (smallest-high L r h) hi;
   }
 
-in-ranges-from : (N : List Loop) (rs : List Range) (outer y : List ℤ) → All Runs N → InRanges rs outer → Inside N outer y → Within 32767 y → InRanges (rangesFrom rs N) (outer ++ y)
+in-ranges-from : (N : List Loop) (rs : List Range) (outer y : List ℤ) → All Runs N → InRanges rs outer → Inside N outer y → Within 32767 y
+    → InRanges (rangesFrom rs N) (outer ++ y)
 unfolding rangesFrom
 in-ranges-from [] rs outer [] r h i w = rw (append-nil outer) h
 in-ranges-from [] rs outer (x ∷ y) r h i w = absurd i
@@ -120,7 +124,8 @@ in-ranges-from (L ∷ N) rs outer (x ∷ y) r h i w =
     let s = size-le x 32767 (w .0) in
     let k = in-range rs outer h x L (r L (List·Memᴰ·head refl)) (i .0) (s .0) (s .1) in
     subst (InRanges (rangesFrom (rs ++ (rangeOf rs L ∷ [])) N)) (append-assoc outer (x ∷ []) y)
-    (in-ranges-from N (rs ++ (rangeOf rs L ∷ [])) (outer ++ (x ∷ [])) y (λ M m. r M (List·Memᴰ·tail m)) (ranges-append rs (rangeOf rs L ∷ []) outer (x ∷ []) h (k, tt)) (i .1) (w .1))
+    (in-ranges-from N (rs ++ (rangeOf rs L ∷ [])) (outer ++ (x ∷ [])) y (λ M m. r M (List·Memᴰ·tail m))
+    (ranges-append rs (rangeOf rs L ∷ []) outer (x ∷ []) h (k, tt)) (i .1) (w .1))
 
 -- every index of an iteration is in its loop's range
 pub in-ranges : (N : List Loop) (p : List ℤ) → All Runs N → Inside N [] p → Within 32767 p → InRanges (ranges N) p

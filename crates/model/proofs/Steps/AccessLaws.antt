@@ -43,10 +43,13 @@ pub accesses-after : (t : Step) (N : Nest) → WellFormed N → (k : ℕ) (p : L
     → SameElements (accesses (nestAfter t N .statements)) (accesses (N .statements)) k (forward t p) p
 unfolding accesses nestAfter statementAfter
 accesses-after t N f k p e =
-    let fits : FitsAll (N .arrays) (length p) (bodyAt (N .statements) k) = subst (λ n. FitsAll (N .arrays) n (bodyAt (N .statements) k)) (sym e) (body-fits (N .arrays) (length (N .loops)) (N .statements) (f .fits) k) in
+    let fits : FitsAll (N .arrays) (length p) (bodyAt (N .statements) k) = subst (λ n. FitsAll (N .arrays) n (bodyAt (N .statements) k)) (sym e)
+    (body-fits (N .arrays) (length (N .loops)) (N .statements) (f .fits) k) in
     record {
-      reads = ap (λ (s : Statement). map (element (forward t p)) (s .reads)) (body-after t (N .statements) k) ∙ elements-after t p (N .arrays) (bodyAt (N .statements) k .reads) (fits .reads);
-      writes = ap (λ (s : Statement). map (element (forward t p)) (s .writes)) (body-after t (N .statements) k) ∙ elements-after t p (N .arrays) (bodyAt (N .statements) k .writes) (fits .writes);
+      reads = ap (λ (s : Statement). map (element (forward t p)) (s .reads)) (body-after t (N .statements) k)
+          ∙ elements-after t p (N .arrays) (bodyAt (N .statements) k .reads) (fits .reads);
+      writes = ap (λ (s : Statement). map (element (forward t p)) (s .writes)) (body-after t (N .statements) k)
+          ∙ elements-after t p (N .arrays) (bodyAt (N .statements) k .writes) (fits .writes);
     }
 
 pub accesses-after-all : (ts : List Step) → All Proper ts → (N : Nest) → WellFormed N → (k : ℕ) (p : List ℤ) → length p ≡ length (N .loops)
@@ -55,11 +58,13 @@ unfolding nestAfterAll forwardAll
 accesses-after-all [] h N f k p e = record { reads = refl; writes = refl }
 accesses-after-all (t ∷ ts) h N f k p e =
     let here = accesses-after t N f k p e in
-    let rest = accesses-after-all ts (λ u m. h u (List·Memᴰ·tail m)) (nestAfter t N) (well-formed-after t (h t (List·Memᴰ·head refl)) N f) k (forward t p) (unfold nestAfter in sym (loops-length t (N .loops) p (sym e))) in
+    let rest = accesses-after-all ts (λ u m. h u (List·Memᴰ·tail m)) (nestAfter t N) (well-formed-after t (h t (List·Memᴰ·head refl)) N f) k
+    (forward t p) (unfold nestAfter in sym (loops-length t (N .loops) p (sym e))) in
     record { reads = rest .reads ∙ here .reads; writes = rest .writes ∙ here .writes }
 
 -- from an iteration of the new nest
-pub accesses-undone : (ts : List Step) → All Proper ts → (N : Nest) → WellFormed N → (k : ℕ) (q : List ℤ) → Mem q (iterations (nestAfterAll ts N .loops))
+pub accesses-undone : (ts : List Step) → All Proper ts → (N : Nest) → WellFormed N → (k : ℕ) (q : List ℤ)
+    → Mem q (iterations (nestAfterAll ts N .loops))
     → SameElements (accesses (nestAfterAll ts N .statements)) (accesses (N .statements)) k q (undoAll ts q)
 accesses-undone ts h N f k q m =
     let r = steps-keep-points ts h N f m in

@@ -35,24 +35,30 @@ module _ (a : ℕ) (outer : List ℤ) (len : length outer ≡ a) where
   value-last : (l : Limit) (i : ℤ) → length (l .coefficients) ≡ suc a → value l (outer ++ (i ∷ [])) ≡ keptValue l +ℤ outerCoefficient a l *ℤ i
   unfolding value affine kept outerCoefficient
   value-last l i e = ap (λ d. l .constant +ℤ d) (dot-last (l .coefficients) outer i (e ∙ ap suc (sym len))) ∙ rw len
-      (lin (l .constant ∷ dot (take a (l .coefficients)) outer ∷ getD (l .coefficients) a (pos 0) ∷ i ∷ []) (λ c d b i. c ⊕ (d ⊕ b ⊗ i) ≐ c ⊕ d ⊕ b ⊗ i) tt)
+      (lin (l .constant ∷ dot (take a (l .coefficients)) outer ∷ getD (l .coefficients) a (pos 0) ∷ i ∷ [])
+      (λ c d b i. c ⊕ (d ⊕ b ⊗ i) ≐ c ⊕ d ⊕ b ⊗ i) tt)
 
   value-combined : (c : ℤ) (l m : Limit) → length (l .coefficients) ≡ suc a → length (m .coefficients) ≡ a
       → value (combined a c l m) outer ≡ pos (m .multiplier) *ℤ keptValue l +ℤ c *ℤ value m outer
   unfolding value affine combined kept
   value-combined c l m e f =
-      ap (λ d. pos (m .multiplier) *ℤ l .constant +ℤ c *ℤ m .constant +ℤ d) (dot-mixed (pos (m .multiplier)) c (take a (l .coefficients)) (m .coefficients) outer (length-kept a l e ∙ sym f))
+      ap (λ d. pos (m .multiplier) *ℤ l .constant +ℤ c *ℤ m .constant +ℤ d) (dot-mixed (pos (m .multiplier)) c (take a (l .coefficients))
+      (m .coefficients) outer (length-kept a l e ∙ sym f))
       ∙ lin (pos (m .multiplier) ∷ l .constant ∷ c ∷ m .constant ∷ dot (take a (l .coefficients)) outer ∷ dot (m .coefficients) outer ∷ [])
       (λ q k c n d e. q ⊗ k ⊕ c ⊗ n ⊕ (q ⊗ d ⊕ c ⊗ e) ≐ q ⊗ (k ⊕ d) ⊕ c ⊗ (n ⊕ e)) tt
 
-  value-positive : (n : ℕ) (l : Limit) (j : ℤ) → length (l .coefficients) ≡ suc a → value (solvedPositive a n l) (outer ++ (j ∷ [])) ≡ negℤ (keptValue l) +ℤ pos (l .multiplier) *ℤ j
+  value-positive : (n : ℕ) (l : Limit) (j : ℤ) → length (l .coefficients) ≡ suc a
+      → value (solvedPositive a n l) (outer ++ (j ∷ [])) ≡ negℤ (keptValue l) +ℤ pos (l .multiplier) *ℤ j
   unfolding value affine solvedPositive kept
   value-positive n l j e =
-      ap (λ d. negℤ (l .constant) +ℤ d) (dot-more (map negℤ (take a (l .coefficients))) (pos (l .multiplier)) outer j (length-map (take a (l .coefficients)) negℤ ∙ length-kept a l e ∙ sym len)
+      ap (λ d. negℤ (l .constant) +ℤ d) (dot-more (map negℤ (take a (l .coefficients))) (pos (l .multiplier)) outer j
+      (length-map (take a (l .coefficients)) negℤ ∙ length-kept a l e ∙ sym len)
       ∙ ap (λ d. d +ℤ pos (l .multiplier) *ℤ j) (dot-neg (take a (l .coefficients)) outer))
-      ∙ lin (l .constant ∷ dot (take a (l .coefficients)) outer ∷ pos (l .multiplier) ∷ j ∷ []) (λ c d p j. ⊝ c ⊕ (⊝ d ⊕ p ⊗ j) ≐ ⊝ (c ⊕ d) ⊕ p ⊗ j) tt
+      ∙ lin (l .constant ∷ dot (take a (l .coefficients)) outer ∷ pos (l .multiplier) ∷ j ∷ []) (λ c d p j. ⊝ c ⊕ (⊝ d ⊕ p ⊗ j) ≐ ⊝ (c ⊕ d) ⊕ p ⊗ j)
+      tt
 
-  value-negative : (n : ℕ) (l : Limit) (j : ℤ) → length (l .coefficients) ≡ suc a → value (solvedNegative a n l) (outer ++ (j ∷ [])) ≡ keptValue l -ℤ pos (l .multiplier) *ℤ j
+  value-negative : (n : ℕ) (l : Limit) (j : ℤ) → length (l .coefficients) ≡ suc a
+      → value (solvedNegative a n l) (outer ++ (j ∷ [])) ≡ keptValue l -ℤ pos (l .multiplier) *ℤ j
   unfolding value affine solvedNegative kept
   value-negative n l j e =
       ap (λ d. l .constant +ℤ d) (dot-more (take a (l .coefficients)) (negℤ (pos (l .multiplier))) outer j (length-kept a l e ∙ sym len))
@@ -83,22 +89,32 @@ module _ (a : ℕ) (outer : List ℤ) (len : length outer ≡ a) where
     module _ (I : Loop) (o : InLimits I outer i) (sl : Sized a (I .lower)) (su : Sized a (I .upper)) where
       pub lower-outer : (c : ℤ) → Lower c → All (AtLeast outer j) (outerPart a (I .lower) (I .upper) c l)
       unfolding outerPart combined kept
-      lower-outer (pos zero) h = all-cons (AtLeast outer j) (lin (pos (l .multiplier) ∷ keptValue l ∷ i ∷ j ∷ []) (λ p r i j. r ⊕ # 0 ⊗ i ⊑ p ⊗ j ⟶ r ⊑ p ⊗ j) tt h) (all-nil (AtLeast outer j))
-      lower-outer (pos (suc n)) h = λ x t. let r = Memᴰ·of-map (combined a (pos (suc n)) l) (I .lower) t in let m = r .0 in subst (AtLeast outer j) (r .2) (rw (value-combined (pos (suc n)) l m size (sl m (r .1)))
-          (lin (pos (l .multiplier) ∷ pos (m .multiplier) ∷ pos (suc n) ∷ keptValue l ∷ value m outer ∷ i ∷ j ∷ []) (λ p q c r v i j. q ▹ r ⊕ c ⊗ i ⊑ p ⊗ j ⟹ c ▹ v ⊑ q ⊗ i ⟹ q ⊗ r ⊕ c ⊗ v ⊑ p ⊗ q ⊗ j) tt
+      lower-outer (pos zero) h = all-cons (AtLeast outer j) (lin (pos (l .multiplier) ∷ keptValue l ∷ i ∷ j ∷ [])
+          (λ p r i j. r ⊕ # 0 ⊗ i ⊑ p ⊗ j ⟶ r ⊑ p ⊗ j) tt h) (all-nil (AtLeast outer j))
+      lower-outer (pos (suc n)) h = λ x t. let r = Memᴰ·of-map (combined a (pos (suc n)) l) (I .lower) t in let m = r .0 in subst (AtLeast outer j)
+          (r .2) (rw (value-combined (pos (suc n)) l m size (sl m (r .1)))
+          (lin (pos (l .multiplier) ∷ pos (m .multiplier) ∷ pos (suc n) ∷ keptValue l ∷ value m outer ∷ i ∷ j ∷ [])
+          (λ p q c r v i j. q ▹ r ⊕ c ⊗ i ⊑ p ⊗ j ⟹ c ▹ v ⊑ q ⊗ i ⟹ q ⊗ r ⊕ c ⊗ v ⊑ p ⊗ q ⊗ j) tt
           (omega zarith) h (omega zarith) (o .low m (r .1))))
-      lower-outer (negsuc n) h = λ x t. let r = Memᴰ·of-map (combined a (negsuc n) l) (I .upper) t in let m = r .0 in subst (AtLeast outer j) (r .2) (rw (value-combined (negsuc n) l m size (su m (r .1)))
-          (lin (pos (l .multiplier) ∷ pos (m .multiplier) ∷ pos (suc n) ∷ keptValue l ∷ value m outer ∷ i ∷ j ∷ []) (λ p q c r v i j. q ▹ r ⊕ ⊝ c ⊗ i ⊑ p ⊗ j ⟹ c ▹ q ⊗ i ⊑ v ⟹ q ⊗ r ⊕ ⊝ c ⊗ v ⊑ p ⊗ q ⊗ j) tt
+      lower-outer (negsuc n) h = λ x t. let r = Memᴰ·of-map (combined a (negsuc n) l) (I .upper) t in let m = r .0 in subst (AtLeast outer j) (r .2)
+          (rw (value-combined (negsuc n) l m size (su m (r .1)))
+          (lin (pos (l .multiplier) ∷ pos (m .multiplier) ∷ pos (suc n) ∷ keptValue l ∷ value m outer ∷ i ∷ j ∷ [])
+          (λ p q c r v i j. q ▹ r ⊕ ⊝ c ⊗ i ⊑ p ⊗ j ⟹ c ▹ q ⊗ i ⊑ v ⟹ q ⊗ r ⊕ ⊝ c ⊗ v ⊑ p ⊗ q ⊗ j) tt
           (omega zarith) h (omega zarith) (o .high m (r .1))))
 
       pub upper-outer : (c : ℤ) → Upper c → All (AtMost outer j) (outerPart a (I .upper) (I .lower) c l)
       unfolding outerPart combined kept
-      upper-outer (pos zero) h = all-cons (AtMost outer j) (lin (pos (l .multiplier) ∷ keptValue l ∷ i ∷ j ∷ []) (λ p r i j. p ⊗ j ⊑ r ⊕ # 0 ⊗ i ⟶ p ⊗ j ⊑ r) tt h) (all-nil (AtMost outer j))
-      upper-outer (pos (suc n)) h = λ x t. let r = Memᴰ·of-map (combined a (pos (suc n)) l) (I .upper) t in let m = r .0 in subst (AtMost outer j) (r .2) (rw (value-combined (pos (suc n)) l m size (su m (r .1)))
-          (lin (pos (l .multiplier) ∷ pos (m .multiplier) ∷ pos (suc n) ∷ keptValue l ∷ value m outer ∷ i ∷ j ∷ []) (λ p q c r v i j. q ▹ p ⊗ j ⊑ r ⊕ c ⊗ i ⟹ c ▹ q ⊗ i ⊑ v ⟹ p ⊗ q ⊗ j ⊑ q ⊗ r ⊕ c ⊗ v) tt
+      upper-outer (pos zero) h = all-cons (AtMost outer j) (lin (pos (l .multiplier) ∷ keptValue l ∷ i ∷ j ∷ [])
+          (λ p r i j. p ⊗ j ⊑ r ⊕ # 0 ⊗ i ⟶ p ⊗ j ⊑ r) tt h) (all-nil (AtMost outer j))
+      upper-outer (pos (suc n)) h = λ x t. let r = Memᴰ·of-map (combined a (pos (suc n)) l) (I .upper) t in let m = r .0 in subst (AtMost outer j)
+          (r .2) (rw (value-combined (pos (suc n)) l m size (su m (r .1)))
+          (lin (pos (l .multiplier) ∷ pos (m .multiplier) ∷ pos (suc n) ∷ keptValue l ∷ value m outer ∷ i ∷ j ∷ [])
+          (λ p q c r v i j. q ▹ p ⊗ j ⊑ r ⊕ c ⊗ i ⟹ c ▹ q ⊗ i ⊑ v ⟹ p ⊗ q ⊗ j ⊑ q ⊗ r ⊕ c ⊗ v) tt
           (omega zarith) h (omega zarith) (o .high m (r .1))))
-      upper-outer (negsuc n) h = λ x t. let r = Memᴰ·of-map (combined a (negsuc n) l) (I .lower) t in let m = r .0 in subst (AtMost outer j) (r .2) (rw (value-combined (negsuc n) l m size (sl m (r .1)))
-          (lin (pos (l .multiplier) ∷ pos (m .multiplier) ∷ pos (suc n) ∷ keptValue l ∷ value m outer ∷ i ∷ j ∷ []) (λ p q c r v i j. q ▹ p ⊗ j ⊑ r ⊕ ⊝ c ⊗ i ⟹ c ▹ v ⊑ q ⊗ i ⟹ p ⊗ q ⊗ j ⊑ q ⊗ r ⊕ ⊝ c ⊗ v) tt
+      upper-outer (negsuc n) h = λ x t. let r = Memᴰ·of-map (combined a (negsuc n) l) (I .lower) t in let m = r .0 in subst (AtMost outer j) (r .2)
+          (rw (value-combined (negsuc n) l m size (sl m (r .1)))
+          (lin (pos (l .multiplier) ∷ pos (m .multiplier) ∷ pos (suc n) ∷ keptValue l ∷ value m outer ∷ i ∷ j ∷ [])
+          (λ p q c r v i j. q ▹ p ⊗ j ⊑ r ⊕ ⊝ c ⊗ i ⟹ c ▹ v ⊑ q ⊗ i ⟹ p ⊗ q ⊗ j ⊑ q ⊗ r ⊕ ⊝ c ⊗ v) tt
           (omega zarith) h (omega zarith) (o .low m (r .1))))
 
     -- solved for I, both ways
@@ -114,23 +130,35 @@ module _ (a : ℕ) (outer : List ℤ) (len : length outer ≡ a) where
 
     lower-positive : (n : ℕ) → Lower (pos n) ↔ Most (solvedPositive a n l)
     unfolding solvedPositive
-    lower-positive n = rw (value-positive n l j size)
-        (lin (atoms n) (λ p c r i j. r ⊕ c ⊗ i ⊑ p ⊗ j ⟶ c ⊗ i ⊑ ⊝ r ⊕ p ⊗ j) tt, lin (atoms n) (λ p c r i j. c ⊗ i ⊑ ⊝ r ⊕ p ⊗ j ⟶ r ⊕ c ⊗ i ⊑ p ⊗ j) tt)
+    lower-positive n = rw (value-positive n l j size) (
+      lin (atoms n) (λ p c r i j. r ⊕ c ⊗ i ⊑ p ⊗ j ⟶ c ⊗ i ⊑ ⊝ r ⊕ p ⊗ j) tt,
+      lin (atoms n)
+          (λ p c r i j. c ⊗ i ⊑ ⊝ r ⊕ p ⊗ j ⟶ r ⊕ c ⊗ i ⊑ p ⊗ j) tt,
+    )
 
     upper-positive : (n : ℕ) → Upper (pos n) ↔ Least (solvedPositive a n l)
     unfolding solvedPositive
-    upper-positive n = rw (value-positive n l j size)
-        (lin (atoms n) (λ p c r i j. p ⊗ j ⊑ r ⊕ c ⊗ i ⟶ ⊝ r ⊕ p ⊗ j ⊑ c ⊗ i) tt, lin (atoms n) (λ p c r i j. ⊝ r ⊕ p ⊗ j ⊑ c ⊗ i ⟶ p ⊗ j ⊑ r ⊕ c ⊗ i) tt)
+    upper-positive n = rw (value-positive n l j size) (
+      lin (atoms n) (λ p c r i j. p ⊗ j ⊑ r ⊕ c ⊗ i ⟶ ⊝ r ⊕ p ⊗ j ⊑ c ⊗ i) tt,
+      lin (atoms n)
+          (λ p c r i j. ⊝ r ⊕ p ⊗ j ⊑ c ⊗ i ⟶ p ⊗ j ⊑ r ⊕ c ⊗ i) tt,
+    )
 
     lower-negative : (n : ℕ) → Lower (negsuc n) ↔ Least (solvedNegative a (suc n) l)
     unfolding solvedNegative
-    lower-negative n = rw (value-negative (suc n) l j size)
-        (lin (atoms (suc n)) (λ p c r i j. r ⊕ ⊝ c ⊗ i ⊑ p ⊗ j ⟶ r ⊖ p ⊗ j ⊑ c ⊗ i) tt, lin (atoms (suc n)) (λ p c r i j. r ⊖ p ⊗ j ⊑ c ⊗ i ⟶ r ⊕ ⊝ c ⊗ i ⊑ p ⊗ j) tt)
+    lower-negative n = rw (value-negative (suc n) l j size) (
+      lin (atoms (suc n)) (λ p c r i j. r ⊕ ⊝ c ⊗ i ⊑ p ⊗ j ⟶ r ⊖ p ⊗ j ⊑ c ⊗ i) tt,
+      lin (atoms (suc n))
+          (λ p c r i j. r ⊖ p ⊗ j ⊑ c ⊗ i ⟶ r ⊕ ⊝ c ⊗ i ⊑ p ⊗ j) tt,
+    )
 
     upper-negative : (n : ℕ) → Upper (negsuc n) ↔ Most (solvedNegative a (suc n) l)
     unfolding solvedNegative
-    upper-negative n = rw (value-negative (suc n) l j size)
-        (lin (atoms (suc n)) (λ p c r i j. p ⊗ j ⊑ r ⊕ ⊝ c ⊗ i ⟶ c ⊗ i ⊑ r ⊖ p ⊗ j) tt, lin (atoms (suc n)) (λ p c r i j. c ⊗ i ⊑ r ⊖ p ⊗ j ⟶ p ⊗ j ⊑ r ⊕ ⊝ c ⊗ i) tt)
+    upper-negative n = rw (value-negative (suc n) l j size) (
+      lin (atoms (suc n)) (λ p c r i j. p ⊗ j ⊑ r ⊕ ⊝ c ⊗ i ⟶ c ⊗ i ⊑ r ⊖ p ⊗ j) tt,
+      lin (atoms (suc n))
+          (λ p c r i j. c ⊗ i ⊑ r ⊖ p ⊗ j ⟶ p ⊗ j ⊑ r ⊕ ⊝ c ⊗ i) tt,
+    )
 
     pub lower-inner : (c : ℤ) → Lower c → All Least (whenNegative a c l) × All Most (whenPositive a c l)
     unfolding whenNegative whenPositive
@@ -146,14 +174,18 @@ module _ (a : ℕ) (outer : List ℤ) (len : length outer ≡ a) where
 
     -- back from both parts
 
-    pub lower-back : (s o : List Limit) (c : ℤ) → All (AtLeast outer j) (outerPart a s o c l) → All Least (whenNegative a c l) → All Most (whenPositive a c l) → Lower c
+    pub lower-back : (s o : List Limit) (c : ℤ) → All (AtLeast outer j) (outerPart a s o c l) → All Least (whenNegative a c l)
+        → All Most (whenPositive a c l) → Lower c
     unfolding outerPart whenNegative whenPositive kept
-    lower-back s o (pos zero) h u d = lin (pos (l .multiplier) ∷ keptValue l ∷ i ∷ j ∷ []) (λ p r i j. r ⊑ p ⊗ j ⟶ r ⊕ # 0 ⊗ i ⊑ p ⊗ j) tt (h (kept a l) (List·Memᴰ·head refl))
+    lower-back s o (pos zero) h u d = lin (pos (l .multiplier) ∷ keptValue l ∷ i ∷ j ∷ []) (λ p r i j. r ⊑ p ⊗ j ⟶ r ⊕ # 0 ⊗ i ⊑ p ⊗ j) tt
+        (h (kept a l) (List·Memᴰ·head refl))
     lower-back s o (pos (suc n)) h u d = lower-positive (suc n) .1 (d (solvedPositive a (suc n) l) (List·Memᴰ·head refl))
     lower-back s o (negsuc n) h u d = lower-negative n .1 (u (solvedNegative a (suc n) l) (List·Memᴰ·head refl))
 
-    pub upper-back : (s o : List Limit) (c : ℤ) → All (AtMost outer j) (outerPart a s o c l) → All Least (whenPositive a c l) → All Most (whenNegative a c l) → Upper c
+    pub upper-back : (s o : List Limit) (c : ℤ) → All (AtMost outer j) (outerPart a s o c l) → All Least (whenPositive a c l)
+        → All Most (whenNegative a c l) → Upper c
     unfolding outerPart whenNegative whenPositive kept
-    upper-back s o (pos zero) h u d = lin (pos (l .multiplier) ∷ keptValue l ∷ i ∷ j ∷ []) (λ p r i j. p ⊗ j ⊑ r ⟶ p ⊗ j ⊑ r ⊕ # 0 ⊗ i) tt (h (kept a l) (List·Memᴰ·head refl))
+    upper-back s o (pos zero) h u d = lin (pos (l .multiplier) ∷ keptValue l ∷ i ∷ j ∷ []) (λ p r i j. p ⊗ j ⊑ r ⟶ p ⊗ j ⊑ r ⊕ # 0 ⊗ i) tt
+        (h (kept a l) (List·Memᴰ·head refl))
     upper-back s o (pos (suc n)) h u d = upper-positive (suc n) .1 (u (solvedPositive a (suc n) l) (List·Memᴰ·head refl))
     upper-back s o (negsuc n) h u d = upper-negative n .1 (d (solvedNegative a (suc n) l) (List·Memᴰ·head refl))

@@ -16,13 +16,14 @@ use Rattle.model.specs.Limits.{outerCoefficient, widened, newOuter, newI
 use Rattle.model.specs.Shape.{Sized, Shaped}
 use Rattle.model.proofs.Steps.SubscriptLaws.{dot-swapped}
 use Rattle.model.proofs.Steps.InsideLaws.{same-least, same-most, deep-at, under-inside}
-use Rattle.model.proofs.Steps.TidyLaws.{tidy-limits}
+use Rattle.model.proofs.Steps.DeduplicatedLaws.{deduplicated-limits}
 use Rattle.model.proofs.Steps.ExchangePartLaws.{positivePart, negativePart, outer-lower, outer-upper, inner-lower, inner-upper}
 use Rattle.model.proofs.Steps.CombineLaws.{Lower, Upper, value-widened, lower-is, upper-is, lower-outer, upper-outer, lower-inner, upper-inner, lower-back, upper-back}
 
 -- ---- the two loops
 
-module _ (a : ℕ) (outer : List ℤ) (len : length outer ≡ a) (I J : Loop) (sl : Sized a (I .lower)) (su : Sized a (I .upper)) (tl : Sized (suc a) (J .lower)) (tu : Sized (suc a) (J .upper)) (i j : ℤ) where
+module _ (a : ℕ) (outer : List ℤ) (len : length outer ≡ a) (I J : Loop) (sl : Sized a (I .lower)) (su : Sized a (I .upper))
+    (tl : Sized (suc a) (J .lower)) (tu : Sized (suc a) (J .upper)) (i j : ℤ) where
   abbrev inner : List ℤ
   inner = outer ++ (j ∷ [])
 
@@ -31,10 +32,12 @@ module _ (a : ℕ) (outer : List ℤ) (len : length outer ≡ a) (I J : Loop) (s
   widened-multiplier m = refl
 
   keep-lower : All (AtLeast outer i) (I .lower) ↔ All (AtLeast inner i) (map widened (I .lower))
-  keep-lower = all-map widened (AtLeast outer i) (AtLeast inner i) (I .lower) (λ m e. same-least outer inner i m (widened m) (widened-multiplier m) (value-widened a outer len m j (sl m e)))
+  keep-lower = all-map widened (AtLeast outer i) (AtLeast inner i) (I .lower) (λ m e. same-least outer inner i m (widened m) (widened-multiplier m)
+      (value-widened a outer len m j (sl m e)))
 
   keep-upper : All (AtMost outer i) (I .upper) ↔ All (AtMost inner i) (map widened (I .upper))
-  keep-upper = all-map widened (AtMost outer i) (AtMost inner i) (I .upper) (λ m e. same-most outer inner i m (widened m) (widened-multiplier m) (value-widened a outer len m j (su m e)))
+  keep-upper = all-map widened (AtMost outer i) (AtMost inner i) (I .upper) (λ m e. same-most outer inner i m (widened m) (widened-multiplier m)
+      (value-widened a outer len m j (su m e)))
 
   exchange-to : InLimits I outer i → InLimits J (outer ++ (i ∷ [])) j → InLimits (newOuter a I J) outer j × InLimits (newInner a I J) inner i
   exchange-to g h = (
@@ -68,14 +71,17 @@ module _ (a : ℕ) (outer : List ℤ) (len : length outer ≡ a) (I J : Loop) (s
       let high = inner-upper (AtMost inner i) a I J .0 (h .high) in (
         record { low = keep-lower .1 (low .0); high = keep-upper .1 (high .0) },
         record {
-          low = λ l m. lower-is a outer len i j l (tl l m) .1 (lower-back a outer len i j l (tl l m) (I .lower) (I .upper) (outerCoefficient a l) (first l m) (low .1 .0 l m) (high .1 .0 l m));
-          high = λ l m. upper-is a outer len i j l (tu l m) .1 (upper-back a outer len i j l (tu l m) (I .upper) (I .lower) (outerCoefficient a l) (last l m) (low .1 .1 l m) (high .1 .1 l m));
+          low = λ l m. lower-is a outer len i j l (tl l m) .1 (lower-back a outer len i j l (tl l m) (I .lower) (I .upper) (outerCoefficient a l)
+              (first l m) (low .1 .0 l m) (high .1 .0 l m));
+          high = λ l m. upper-is a outer len i j l (tu l m) .1 (upper-back a outer len i j l (tu l m) (I .upper) (I .lower) (outerCoefficient a l)
+              (last l m) (low .1 .1 l m) (high .1 .1 l m));
         },
       )
 
 -- ---- in the nest
 
-exchange-at : (a : ℕ) (outer y : List ℤ) (N : List Loop) → length outer ≡ a → Shaped a N → Inside N outer y ↔ Inside (exchangeAt a N) outer (swapped y)
+exchange-at : (a : ℕ) (outer y : List ℤ) (N : List Loop) → length outer ≡ a → Shaped a N
+    → Inside N outer y ↔ Inside (exchangeAt a N) outer (swapped y)
 unfolding exchangeAt swapped
 exchange-at a outer [] [] e s = Iff·rfl
 exchange-at a outer (i ∷ []) [] e s = Iff·rfl
@@ -86,12 +92,16 @@ exchange-at a outer (i ∷ j ∷ y) (I ∷ []) e s = (λ o. absurd (o .1), λ o.
 exchange-at a outer [] (I ∷ J ∷ N) e s = Iff·rfl
 exchange-at a outer (i ∷ []) (I ∷ J ∷ N) e s = (λ o. absurd (o .1), λ o. absurd (o .1))
 exchange-at a outer (i ∷ j ∷ y) (I ∷ J ∷ N) e s =
-    let d = deep-at swapped (i ∷ j ∷ []) (j ∷ i ∷ []) (λ z ds. dot-swapped ds (i ∷ j ∷ z)) a outer y N e (subst (λ k. Shaped k N) (omega arith) (s .1 .1)) in
-    let d′ : Inside N (outer ++ (i ∷ []) ++ (j ∷ [])) y ↔ Inside (deeper (under a swapped) N) (outer ++ (j ∷ []) ++ (i ∷ [])) y = rw (append-assoc outer (i ∷ []) (j ∷ []), append-assoc outer (j ∷ []) (i ∷ [])) d in
-    let t = tidy-limits (newOuter a I J) outer j in
-    let u = tidy-limits (newInner a I J) (outer ++ (j ∷ [])) i in (
-      λ o. let r = exchange-to a outer e I J (s .0 .0) (s .0 .1) (s .1 .0 .0) (s .1 .0 .1) i j (o .0) (o .1 .0) in (t .0 (r .0), (u .0 (r .1), d′ .0 (o .1 .1))),
-      λ o. let r = exchange-from a outer e I J (s .0 .0) (s .0 .1) (s .1 .0 .0) (s .1 .0 .1) i j (t .1 (o .0)) (u .1 (o .1 .0)) in (r .0, (r .1, d′ .1 (o .1 .1))),
+    let d = deep-at swapped (i ∷ j ∷ []) (j ∷ i ∷ []) (λ z ds. dot-swapped ds (i ∷ j ∷ z)) a outer y N e
+    (subst (λ k. Shaped k N) (omega arith) (s .1 .1)) in
+    let d′ : Inside N (outer ++ (i ∷ []) ++ (j ∷ [])) y ↔ Inside (deeper (under a swapped) N) (outer ++ (j ∷ []) ++ (i ∷ [])) y = rw
+    (append-assoc outer (i ∷ []) (j ∷ []), append-assoc outer (j ∷ []) (i ∷ [])) d in
+    let t = deduplicated-limits (newOuter a I J) outer j in
+    let u = deduplicated-limits (newInner a I J) (outer ++ (j ∷ [])) i in (
+      λ o. let r = exchange-to a outer e I J (s .0 .0) (s .0 .1) (s .1 .0 .0) (s .1 .0 .1) i j (o .0) (o .1 .0)
+          in (t .0 (r .0), (u .0 (r .1), d′ .0 (o .1 .1))),
+      λ o. let r = exchange-from a outer e I J (s .0 .0) (s .0 .1) (s .1 .0 .0) (s .1 .0 .1) i j (t .1 (o .0)) (u .1 (o .1 .0))
+          in (r .0, (r .1, d′ .1 (o .1 .1))),
     )
 
 pub exchange-inside : (a : ℕ) (y : List ℤ) (N : List Loop) → Shaped 0 N → Inside N [] y ↔ Inside (under a (exchangeAt a) N) [] (under a swapped y)

@@ -47,10 +47,12 @@ module _ (P : Limit → Type 0) (a : ℕ) (I J : Loop) where
       let all = append-iff P (map widened ls) rest in
       (λ h. (all .0 h .0, each .0 (both .0 (all .0 h .1))), λ h. all .1 (h .0, both .1 (each .1 (h .1))))
 
-  pub inner-lower : All P (newInner a I J .lower) ↔ (All P (map widened (I .lower)) × (Each (negativePart a) (J .lower) × Each (positivePart a) (J .upper)))
+  pub inner-lower : All P (newInner a I J .lower) ↔ (All P (map widened (I .lower))
+      × (Each (negativePart a) (J .lower) × Each (positivePart a) (J .upper)))
   unfolding newInner
   inner-lower = three (negativePart a) (positivePart a) (I .lower)
 
-  pub inner-upper : All P (newInner a I J .upper) ↔ (All P (map widened (I .upper)) × (Each (positivePart a) (J .lower) × Each (negativePart a) (J .upper)))
+  pub inner-upper : All P (newInner a I J .upper) ↔ (All P (map widened (I .upper))
+      × (Each (positivePart a) (J .lower) × Each (negativePart a) (J .upper)))
   unfolding newInner
   inner-upper = three (positivePart a) (negativePart a) (I .upper)

@@ -35,7 +35,8 @@ module _ (outer outer′ : List ℤ) (i : ℤ) (l k : Limit) (e : k .multiplier 
 
 pub under-inside-from : (f : List ℤ → List ℤ) (G : List Loop → List Loop) (base : List ℤ) (d : ℕ)
     → ((z y : List ℤ) (N : List Loop) → length z ≡ d → Shaped (length base + d) N → Inside N (base ++ z) y ↔ Inside (G N) (base ++ z) (f y))
-    → (n : ℕ) (z y : List ℤ) (N : List Loop) → length z + n ≡ d → Shaped (length base + length z) N → Inside N (base ++ z) y ↔ Inside (under n G N) (base ++ z) (under n f y)
+    → (n : ℕ) (z y : List ℤ) (N : List Loop) → length z + n ≡ d → Shaped (length base + length z) N
+    → Inside N (base ++ z) y ↔ Inside (under n G N) (base ++ z) (under n f y)
 unfolding under
 under-inside-from f G base d h zero z y N e s = h z y N (omega arith) (subst (λ k. Shaped k N) (omega arith) s)
 under-inside-from f G base d h (suc n) z [] [] e s = Iff·rfl
@@ -43,7 +44,8 @@ under-inside-from f G base d h (suc n) z [] (L ∷ N) e s = Iff·rfl
 under-inside-from f G base d h (suc n) z (i ∷ y) [] e s = Iff·rfl
 under-inside-from f G base d h (suc n) z (i ∷ y) (L ∷ N) e s =
     let len : length (z ++ (i ∷ [])) ≡ suc (length z) = simp length-append (omega arith) in
-    Iff·and Iff·rfl (rw (append-assoc base z (i ∷ [])) (under-inside-from f G base d h n (z ++ (i ∷ [])) y N (omega arith) (subst (λ k. Shaped k N) (omega arith) (s .1))))
+    Iff·and Iff·rfl (rw (append-assoc base z (i ∷ [])) (under-inside-from f G base d h n (z ++ (i ∷ [])) y N (omega arith)
+    (subst (λ k. Shaped k N) (omega arith) (s .1))))
 
 pub under-inside : (f : List ℤ → List ℤ) (G : List Loop → List Loop) (a : ℕ)
     → ((outer y : List ℤ) (N : List Loop) → length outer ≡ a → Shaped a N → Inside N outer y ↔ Inside (G N) outer (f y))
@@ -57,7 +59,8 @@ module _ (g : List ℤ → List ℤ) where
   unfolding onCoefficients
   deep-multiplier l = refl
 
-  deep-value : (outer outer′ : List ℤ) (l : Limit) → dot (g (l .coefficients)) outer′ ≡ dot (l .coefficients) outer → value (onCoefficients g l) outer′ ≡ value l outer
+  deep-value : (outer outer′ : List ℤ) (l : Limit) → dot (g (l .coefficients)) outer′ ≡ dot (l .coefficients) outer
+      → value (onCoefficients g l) outer′ ≡ value l outer
   unfolding onCoefficients value affine
   deep-value outer outer′ l e = ap (λ d. l .constant +ℤ d) e
 
@@ -65,8 +68,10 @@ module _ (g : List ℤ → List ℤ) where
       → (L : Loop) (i : ℤ) → Sized n (L .lower) → Sized n (L .upper) → InLimits L outer i ↔ InLimits (onLimits (onCoefficients g) L) outer′ i
   unfolding onLimits
   deep-limits outer outer′ n h L i s t = limits-iff
-      (all-map (onCoefficients g) (AtLeast outer i) (AtLeast outer′ i) (L .lower) (λ l m. same-least outer outer′ i l (onCoefficients g l) (deep-multiplier l) (deep-value outer outer′ l (h (l .coefficients) (s l m)))))
-      (all-map (onCoefficients g) (AtMost outer i) (AtMost outer′ i) (L .upper) (λ l m. same-most outer outer′ i l (onCoefficients g l) (deep-multiplier l) (deep-value outer outer′ l (h (l .coefficients) (t l m)))))
+      (all-map (onCoefficients g) (AtLeast outer i) (AtLeast outer′ i) (L .lower)
+      (λ l m. same-least outer outer′ i l (onCoefficients g l) (deep-multiplier l) (deep-value outer outer′ l (h (l .coefficients) (s l m)))))
+      (all-map (onCoefficients g) (AtMost outer i) (AtMost outer′ i) (L .upper) (λ l m. same-most outer outer′ i l (onCoefficients g l)
+      (deep-multiplier l) (deep-value outer outer′ l (h (l .coefficients) (t l m)))))
 
   deep-inside : (outer outer′ : List ℤ) → ((z cs : List ℤ) → length cs ≡ length (outer ++ z) → dot (g cs) (outer′ ++ z) ≡ dot cs (outer ++ z))
       → (z y : List ℤ) (N : List Loop) → Shaped (length (outer ++ z)) N → Inside N (outer ++ z) y ↔ Inside (deeper g N) (outer′ ++ z) y
@@ -77,7 +82,8 @@ module _ (g : List ℤ → List ℤ) where
   deep-inside outer outer′ h z (i ∷ y) (L ∷ N) s =
       let len : suc (length (outer ++ z)) ≡ length (outer ++ (z ++ (i ∷ []))) = simp length-append (omega arith) in
       Iff·and (deep-limits (outer ++ z) (outer′ ++ z) (length (outer ++ z)) (h z) L i (s .0 .0) (s .0 .1))
-      (rw (append-assoc outer z (i ∷ []), append-assoc outer′ z (i ∷ [])) (deep-inside outer outer′ h (z ++ (i ∷ [])) y N (subst (λ k. Shaped k N) len (s .1))))
+      (rw (append-assoc outer z (i ∷ []), append-assoc outer′ z (i ∷ [])) (deep-inside outer outer′ h (z ++ (i ∷ [])) y N
+      (subst (λ k. Shaped k N) len (s .1))))
 
 -- a change of the coefficients from a place on, against one of the indices from there on
 dot-from : (g : List ℤ → List ℤ) (u u′ : List ℤ) → ((ds : List ℤ) → length ds ≡ length u → dot (g ds) u′ ≡ dot ds u)
@@ -89,9 +95,11 @@ dot-from g u u′ h (x ∷ outer) (c ∷ cs) e = ap (λ d. c *ℤ x +ℤ d) (dot
 
 -- u are the indices that the step takes, u′ those that it gives
 pub deep-at : (g : List ℤ → List ℤ) (u u′ : List ℤ) → ((z ds : List ℤ) → length ds ≡ length (u ++ z) → dot (g ds) (u′ ++ z) ≡ dot ds (u ++ z))
-    → (a : ℕ) (outer y : List ℤ) (N : List Loop) → length outer ≡ a → Shaped (a + length u) N → Inside N (outer ++ u) y ↔ Inside (deeper (under a g) N) (outer ++ u′) y
+    → (a : ℕ) (outer y : List ℤ) (N : List Loop) → length outer ≡ a → Shaped (a + length u) N
+    → Inside N (outer ++ u) y ↔ Inside (deeper (under a g) N) (outer ++ u′) y
 deep-at g u u′ h a outer y N e s =
     let len : a + length u ≡ length (outer ++ u ++ []) = simp length-append (omega (arith, e)) in
     rw (append-nil (outer ++ u), append-nil (outer ++ u′)) at (deep-inside (under a g) (outer ++ u) (outer ++ u′)
-    (λ z cs c. rw (append-assoc outer u z, append-assoc outer u′ z, ← e) (dot-from g (u ++ z) (u′ ++ z) (h z) outer cs (simp length-append (let k = simp length-append at c in omega arith))))
+    (λ z cs c. rw (append-assoc outer u z, append-assoc outer u′ z, ← e) (dot-from g (u ++ z) (u′ ++ z) (h z) outer cs
+    (simp length-append (let k = simp length-append at c in omega arith))))
     [] y N (subst (λ k. Shaped k N) len s))

@@ -73,8 +73,10 @@ section-lengths a w (L ∷ N) (x ∷ p) e = length-sectionAt a w L N ∙ ap suc 
 pub coefficients-length : (t : Step) (cs p : List ℤ) → length cs ≡ length p → length (coefficientsAfter t cs) ≡ length (forward t p)
 unfolding coefficientsAfter forward
 coefficients-length (exchange a) cs p e = under-length swapped length-swapped a cs ∙ e ∙ sym (under-length swapped length-swapped a p)
-coefficients-length (reversal a) cs p e = under-length (onHead negℤ) (length-onHead negℤ) a cs ∙ e ∙ sym (under-length (onHead negℤ) (length-onHead negℤ) a p)
-coefficients-length (skew a d c) cs p e = under-length (skewCoefficients d c) (length-skewCoefficients d c) a cs ∙ e ∙ sym (under-length (skewed d c) (length-skewed d c) a p)
+coefficients-length (reversal a) cs p e = under-length (onHead negℤ) (length-onHead negℤ) a cs ∙ e
+    ∙ sym (under-length (onHead negℤ) (length-onHead negℤ) a p)
+coefficients-length (skew a d c) cs p e = under-length (skewCoefficients d c) (length-skewCoefficients d c) a cs ∙ e
+    ∙ sym (under-length (skewed d c) (length-skewed d c) a p)
 coefficients-length (section a w) cs p e = under-lengths (splitCoefficients w) (sectioned w) (split-lengths w) a cs p e
 
 pub loops-length : (t : Step) (N : List Loop) (p : List ℤ) → length N ≡ length p → length (loopsAfter t N) ≡ length (forward t p)

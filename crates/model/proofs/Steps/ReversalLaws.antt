@@ -22,7 +22,8 @@ use Rattle.model.proofs.Steps.InsideLaws.{deep-at, under-inside}
 
 value-negated : (l : Limit) (outer : List ℤ) → value (negated l) outer ≡ negℤ (value l outer)
 unfolding value affine negated
-value-negated l outer = ap (λ d. negℤ (l .constant) +ℤ d) (dot-neg (l .coefficients) outer) ∙ lin (l .constant ∷ dot (l .coefficients) outer ∷ []) (λ c d. ⊝ c ⊕ ⊝ d ≐ ⊝ (c ⊕ d)) tt
+value-negated l outer = ap (λ d. negℤ (l .constant) +ℤ d) (dot-neg (l .coefficients) outer)
+    ∙ lin (l .constant ∷ dot (l .coefficients) outer ∷ []) (λ c d. ⊝ c ⊕ ⊝ d ≐ ⊝ (c ⊕ d)) tt
 
 module _ (outer : List ℤ) (i : ℤ) (l : Limit) where
   least-negated : AtLeast outer i l ↔ AtMost outer (negℤ i) (negated l)
@@ -39,7 +40,8 @@ module _ (outer : List ℤ) (i : ℤ) (l : Limit) where
     lin (pos (l .multiplier) ∷ value l outer ∷ i ∷ []) (λ p v i. ⊝ v ⊑ p ⊗ ⊝ i ⟶ p ⊗ i ⊑ v) tt,
   )
 
-reversal-at : (a : ℕ) (outer y : List ℤ) (N : List Loop) → length outer ≡ a → Shaped a N → Inside N outer y ↔ Inside (reverseAt a N) outer (onHead negℤ y)
+reversal-at : (a : ℕ) (outer y : List ℤ) (N : List Loop) → length outer ≡ a → Shaped a N
+    → Inside N outer y ↔ Inside (reverseAt a N) outer (onHead negℤ y)
 unfolding reverseAt onHead
 reversal-at a outer [] [] e s = Iff·rfl
 reversal-at a outer (i ∷ y) [] e s = Iff·rfl
@@ -50,5 +52,6 @@ reversal-at a outer (i ∷ y) (L ∷ N) e s =
     Iff·and (λ o. record { low = b .0 (o .high); high = t .0 (o .low) }, λ o. record { low = t .1 (o .high); high = b .1 (o .low) })
     (deep-at (onHead negℤ) (i ∷ []) (negℤ i ∷ []) (λ z ds _. dot-reversed ds (i ∷ z)) a outer y N e (subst (λ k. Shaped k N) (omega arith) (s .1)))
 
-pub reversal-inside : (a : ℕ) (y : List ℤ) (N : List Loop) → Shaped 0 N → Inside N [] y ↔ Inside (under a (reverseAt a) N) [] (under a (onHead negℤ) y)
+pub reversal-inside : (a : ℕ) (y : List ℤ) (N : List Loop) → Shaped 0 N
+    → Inside N [] y ↔ Inside (under a (reverseAt a) N) [] (under a (onHead negℤ) y)
 reversal-inside a y N s = under-inside (onHead negℤ) (reverseAt a) a (reversal-at a) y N s

@@ -11,10 +11,10 @@ use Rattle.lists.specs.Tests.{unique}
 use Rattle.lists.proofs.MembershipLaws.{all-nil, all-cons, all-append, map-all}
 use Rattle.lists.proofs.FlatMapLaws.{all-flatMap}
 use Rattle.model.specs.Ticket.{Limit, Loop, Step, exchange, reversal, skew, section}
-use Rattle.model.specs.Limits.{onCoefficients, onLimits, deeper, negated, reverseAt, outerCoefficient, kept, combined, outerPart, solvedPositive, solvedNegative, whenPositive, whenNegative, widened, newOuter, newInner, sameLimit, tidy, exchangeAt, skewCoefficients, skewLimit, skewInner, skewAt, sectionLower, sectionUpper, elementLimit, constantLimit, splitCoefficients, sectionAt, loopsAfter}
+use Rattle.model.specs.Limits.{onCoefficients, onLimits, deeper, negated, reverseAt, outerCoefficient, kept, combined, outerPart, solvedPositive, solvedNegative, whenPositive, whenNegative, widened, newOuter, newInner, sameLimit, deduplicated, exchangeAt, skewCoefficients, skewLimit, skewInner, skewAt, sectionLower, sectionUpper, elementLimit, constantLimit, splitCoefficients, sectionAt, loopsAfter}
 use Rattle.model.specs.Shape.{Runs, Proper}
 use Rattle.model.proofs.Steps.ExchangePartLaws.{outerLower, outerUpper, inner-lower, inner-upper}
-use Rattle.model.proofs.Steps.TidyLaws.{all-unique}
+use Rattle.model.proofs.Steps.DeduplicatedLaws.{all-unique}
 
 abbrev Positive : Limit → Type 0
 Positive l = 0 < l .multiplier
@@ -52,7 +52,8 @@ side-append ls ms s p = (λ e. s .0 (append-eq-nil-iff .0 e .0), all-append Posi
 side-flatMap : (f : Limit → List Limit) (ls : List Limit) → ((l : Limit) → Positive l → Side (f l)) → Side ls → Side (flatMap f ls)
 unfolding flatMap
 side-flatMap f [] h s = s
-side-flatMap f (l ∷ ls) h s = side-append (f l) (flatMap f ls) (h l (s .1 l (List·Memᴰ·head refl))) (all-flatMap f Positive ls (λ m i. h m (s .1 m (List·Memᴰ·tail i)) .1))
+side-flatMap f (l ∷ ls) h s = side-append (f l) (flatMap f ls) (h l (s .1 l (List·Memᴰ·head refl)))
+    (all-flatMap f Positive ls (λ m i. h m (s .1 m (List·Memᴰ·tail i)) .1))
 
 side-unique : (ls : List Limit) → Side ls → Side (unique sameLimit ls)
 side-unique ls s = (some ls (s .0), all-unique Positive ls .0 (s .1))
@@ -63,7 +64,8 @@ side-unique ls s = (some ls (s .0), all-unique Positive ls .0 (s .1))
 
 -- ---- loops
 
-runs-under : (G : List Loop → List Loop) → ((N : List Loop) → All Runs N → All Runs (G N)) → (n : ℕ) (N : List Loop) → All Runs N → All Runs (under n G N)
+runs-under : (G : List Loop → List Loop) → ((N : List Loop) → All Runs N → All Runs (G N)) → (n : ℕ) (N : List Loop) → All Runs N
+    → All Runs (under n G N)
 unfolding under
 runs-under G h zero N r = h N r
 runs-under G h (suc n) [] r = r
@@ -72,11 +74,12 @@ runs-under G h (suc n) (L ∷ N) r = all-cons Runs (r L (List·Memᴰ·head refl
 runs-deeper : (g : List ℤ → List ℤ) (N : List Loop) → All Runs N → All Runs (deeper g N)
 unfolding deeper onLimits onCoefficients
 runs-deeper g N r = map-all (onLimits (onCoefficients g)) Runs Runs N
-    (λ L q. runs (side-map (onCoefficients g) (λ l h. h) (L .lower) (lower-side L q)) (side-map (onCoefficients g) (λ l h. h) (L .upper) (upper-side L q))) r
+    (λ L q. runs (side-map (onCoefficients g) (λ l h. h) (L .lower) (lower-side L q))
+    (side-map (onCoefficients g) (λ l h. h) (L .upper) (upper-side L q))) r
 
-runs-tidy : (L : Loop) → Runs L → Runs (tidy L)
-unfolding tidy
-runs-tidy L r = runs (side-unique (L .lower) (lower-side L r)) (side-unique (L .upper) (upper-side L r))
+runs-deduplicated : (L : Loop) → Runs L → Runs (deduplicated L)
+unfolding deduplicated
+runs-deduplicated L r = runs (side-unique (L .lower) (lower-side L r)) (side-unique (L .upper) (upper-side L r))
 
 -- ---- each step
 
@@ -84,7 +87,8 @@ runs-reverse : (a : ℕ) (N : List Loop) → All Runs N → All Runs (reverseAt 
 unfolding reverseAt negated
 runs-reverse a [] r = r
 runs-reverse a (L ∷ N) r = let q = r L (List·Memᴰ·head refl) in
-    all-cons Runs (runs (side-map negated (λ l h. h) (L .upper) (upper-side L q)) (side-map negated (λ l h. h) (L .lower) (lower-side L q))) (runs-deeper (under a (onHead negℤ)) N (λ K m. r K (List·Memᴰ·tail m)))
+    all-cons Runs (runs (side-map negated (λ l h. h) (L .upper) (upper-side L q)) (side-map negated (λ l h. h) (L .lower) (lower-side L q)))
+    (runs-deeper (under a (onHead negℤ)) N (λ K m. r K (List·Memᴰ·tail m)))
 
 module _ (a : ℕ) where
   side-outer : (s o : List Limit) → Side s → Side o → (c : ℤ) (l : Limit) → Positive l → Side (outerPart a s o c l)
@@ -107,17 +111,29 @@ module _ (a : ℕ) where
   runs-outer : (I J : Loop) → Runs I → Runs J → Runs (newOuter a I J)
   unfolding newOuter
   runs-outer I J r q = runs
-      (side-flatMap (outerLower a I) (J .lower) (λ l h. side-outer (I .lower) (I .upper) (lower-side I r) (upper-side I r) (outerCoefficient a l) l h) (lower-side J q))
-      (side-flatMap (outerUpper a I) (J .upper) (λ l h. side-outer (I .upper) (I .lower) (upper-side I r) (lower-side I r) (outerCoefficient a l) l h) (upper-side J q))
+      (side-flatMap (outerLower a I) (J .lower) (λ l h. side-outer (I .lower) (I .upper) (lower-side I r) (upper-side I r) (outerCoefficient a l) l
+      h) (lower-side J q))
+      (side-flatMap (outerUpper a I) (J .upper) (λ l h. side-outer (I .upper) (I .lower) (upper-side I r) (lower-side I r) (outerCoefficient a l) l
+      h) (upper-side J q))
 
   runs-inner : (I J : Loop) → Runs I → Runs (newInner a I J)
   unfolding newInner widened
   runs-inner I J r =
       let low = side-map widened (λ l h. h) (I .lower) (lower-side I r) in
       let high = side-map widened (λ l h. h) (I .upper) (upper-side I r) in
-      runs
-      (λ e. low .0 (append-eq-nil-iff .0 e .0), inner-lower Positive a I J .1 (low .1, (λ l m. all-negative (outerCoefficient a l) l, λ l m. all-positive (outerCoefficient a l) l)))
-      (λ e. high .0 (append-eq-nil-iff .0 e .0), inner-upper Positive a I J .1 (high .1, (λ l m. all-positive (outerCoefficient a l) l, λ l m. all-negative (outerCoefficient a l) l)))
+      runs (
+        λ e. low .0 (append-eq-nil-iff .0 e .0),
+        inner-lower Positive a I J .1 (
+          low .1,
+          (λ l m. all-negative (outerCoefficient a l) l, λ l m. all-positive (outerCoefficient a l) l),
+        ),
+      ) (
+        λ e. high .0 (append-eq-nil-iff .0 e .0),
+        inner-upper Positive a I J .1 (
+          high .1,
+          (λ l m. all-positive (outerCoefficient a l) l, λ l m. all-negative (outerCoefficient a l) l),
+        ),
+      )
 
   runs-exchange : (N : List Loop) → All Runs N → All Runs (exchangeAt a N)
   unfolding exchangeAt
@@ -126,14 +142,17 @@ module _ (a : ℕ) where
   runs-exchange (I ∷ J ∷ N) r =
       let i = r I (List·Memᴰ·head refl) in
       let j = r J (List·Memᴰ·tail (List·Memᴰ·head refl)) in
-      all-cons Runs (runs-tidy (newOuter a I J) (runs-outer I J i j)) (all-cons Runs (runs-tidy (newInner a I J) (runs-inner I J i)) (runs-deeper (under a swapped) N (λ K m. r K (List·Memᴰ·tail (List·Memᴰ·tail m)))))
+      all-cons Runs (runs-deduplicated (newOuter a I J) (runs-outer I J i j)) (all-cons Runs (runs-deduplicated (newInner a I J) (runs-inner I J i))
+      (runs-deeper (under a swapped) N (λ K m. r K (List·Memᴰ·tail (List·Memᴰ·tail m)))))
 
 module _ (a d : ℕ) (c : ℤ) where
   runs-skewInner : (N : List Loop) → All Runs N → All Runs (skewInner a d c N)
   unfolding skewInner onLimits skewLimit
   runs-skewInner [] r = r
   runs-skewInner (L ∷ N) r = let q = r L (List·Memᴰ·head refl) in
-      all-cons Runs (runs (side-map (skewLimit a c) (λ l h. h) (L .lower) (lower-side L q)) (side-map (skewLimit a c) (λ l h. h) (L .upper) (upper-side L q))) (runs-deeper (under a (skewCoefficients d c)) N (λ K m. r K (List·Memᴰ·tail m)))
+      all-cons Runs (runs (side-map (skewLimit a c) (λ l h. h) (L .lower) (lower-side L q))
+      (side-map (skewLimit a c) (λ l h. h) (L .upper) (upper-side L q))) (runs-deeper (under a (skewCoefficients d c)) N
+      (λ K m. r K (List·Memᴰ·tail m)))
 
   runs-skew : (N : List Loop) → All Runs N → All Runs (skewAt a d c N)
   unfolding skewAt
@@ -148,7 +167,8 @@ module _ (a w : ℕ) (h : 0 < w) where
       let q = r L (List·Memᴰ·head refl) in
       let wider : (l : Limit) → Positive l → 0 < l .multiplier * w = λ l g. product-positive (l .multiplier) w g h in
       all-cons Runs (runs (side-map (sectionLower w) wider (L .lower) (lower-side L q)) (side-map (sectionUpper w) wider (L .upper) (upper-side L q)))
-      (all-cons Runs (runs (side-cons (omega arith) (side-map (elementLimit w) (λ l g. g) (L .lower) (lower-side L q))) (side-cons (omega arith) (side-map (elementLimit w) (λ l g. g) (L .upper) (upper-side L q))))
+      (all-cons Runs (runs (side-cons (omega arith) (side-map (elementLimit w) (λ l g. g) (L .lower) (lower-side L q)))
+      (side-cons (omega arith) (side-map (elementLimit w) (λ l g. g) (L .upper) (upper-side L q))))
       (runs-deeper (under a (splitCoefficients w)) N (λ K m. r K (List·Memᴰ·tail m))))
 
 pub runs-after : (t : Step) → Proper t → (N : List Loop) → All Runs N → All Runs (loopsAfter t N)

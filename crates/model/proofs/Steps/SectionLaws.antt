@@ -46,32 +46,42 @@ module _ (a w : ℕ) (outer : List ℤ) (len : length outer ≡ a) (S E : ℤ) w
   abbrev x : ℤ
   x = pos w *ℤ S +ℤ E
 
-  value-element : (l : Limit) → length (l .coefficients) ≡ a → value (elementLimit w l) (outer ++ (S ∷ [])) ≡ value l outer -ℤ pos (l .multiplier) *ℤ pos w *ℤ S
+  value-element : (l : Limit) → length (l .coefficients) ≡ a
+      → value (elementLimit w l) (outer ++ (S ∷ [])) ≡ value l outer -ℤ pos (l .multiplier) *ℤ pos w *ℤ S
   unfolding value affine elementLimit
   value-element l e = ap (λ d. l .constant +ℤ d) (dot-more (l .coefficients) (negℤ (pos (l .multiplier) *ℤ pos w)) outer S (rw len e))
-      ∙ lin (l .constant ∷ dot (l .coefficients) outer ∷ pos (l .multiplier) ∷ pos w ∷ S ∷ []) (λ c d p w s. c ⊕ (d ⊕ ⊝ (p ⊗ w) ⊗ s) ≐ c ⊕ d ⊖ p ⊗ w ⊗ s) tt
+      ∙ lin (l .constant ∷ dot (l .coefficients) outer ∷ pos (l .multiplier) ∷ pos w ∷ S ∷ [])
+      (λ c d p w s. c ⊕ (d ⊕ ⊝ (p ⊗ w) ⊗ s) ≐ c ⊕ d ⊖ p ⊗ w ⊗ s) tt
 
   value-lower : (l : Limit) → value (sectionLower w l) outer ≡ value l outer -ℤ pos (l .multiplier) *ℤ pos (w - 1)
   unfolding value affine sectionLower
-  value-lower l = lin (l .constant ∷ dot (l .coefficients) outer ∷ pos (l .multiplier) ∷ pos (w - 1) ∷ []) (λ c d p n. c ⊖ p ⊗ n ⊕ d ≐ c ⊕ d ⊖ p ⊗ n) tt
+  value-lower l = lin (l .constant ∷ dot (l .coefficients) outer ∷ pos (l .multiplier) ∷ pos (w - 1) ∷ [])
+      (λ c d p n. c ⊖ p ⊗ n ⊕ d ≐ c ⊕ d ⊖ p ⊗ n) tt
 
   abbrev atoms : Limit → List ℤ
   atoms l = value l outer ∷ pos (l .multiplier) ∷ pos w ∷ S ∷ E ∷ []
 
   element-least : (l : Limit) → length (l .coefficients) ≡ a → AtLeast outer x l ↔ AtLeast (outer ++ (S ∷ [])) E (elementLimit w l)
   unfolding elementLimit
-  element-least l e = rw (value-element l e)
-      (lin (atoms l) (λ v p w s e. v ⊑ p ⊗ (w ⊗ s ⊕ e) ⟶ v ⊖ p ⊗ w ⊗ s ⊑ p ⊗ e) tt, lin (atoms l) (λ v p w s e. v ⊖ p ⊗ w ⊗ s ⊑ p ⊗ e ⟶ v ⊑ p ⊗ (w ⊗ s ⊕ e)) tt)
+  element-least l e = rw (value-element l e) (
+    lin (atoms l) (λ v p w s e. v ⊑ p ⊗ (w ⊗ s ⊕ e) ⟶ v ⊖ p ⊗ w ⊗ s ⊑ p ⊗ e) tt,
+    lin (atoms l)
+        (λ v p w s e. v ⊖ p ⊗ w ⊗ s ⊑ p ⊗ e ⟶ v ⊑ p ⊗ (w ⊗ s ⊕ e)) tt,
+  )
 
   element-most : (l : Limit) → length (l .coefficients) ≡ a → AtMost outer x l ↔ AtMost (outer ++ (S ∷ [])) E (elementLimit w l)
   unfolding elementLimit
-  element-most l e = rw (value-element l e)
-      (lin (atoms l) (λ v p w s e. p ⊗ (w ⊗ s ⊕ e) ⊑ v ⟶ p ⊗ e ⊑ v ⊖ p ⊗ w ⊗ s) tt, lin (atoms l) (λ v p w s e. p ⊗ e ⊑ v ⊖ p ⊗ w ⊗ s ⟶ p ⊗ (w ⊗ s ⊕ e) ⊑ v) tt)
+  element-most l e = rw (value-element l e) (
+    lin (atoms l) (λ v p w s e. p ⊗ (w ⊗ s ⊕ e) ⊑ v ⟶ p ⊗ e ⊑ v ⊖ p ⊗ w ⊗ s) tt,
+    lin (atoms l)
+        (λ v p w s e. p ⊗ e ⊑ v ⊖ p ⊗ w ⊗ s ⟶ p ⊗ (w ⊗ s ⊕ e) ⊑ v) tt,
+  )
 
   section-least : E ≤ℤ pos (w - 1) → (l : Limit) → AtLeast outer x l → AtLeast outer S (sectionLower w l)
   unfolding sectionLower
   section-least high l o = rw (value-lower l)
-      (lin (value l outer ∷ pos (l .multiplier) ∷ pos w ∷ pos (w - 1) ∷ S ∷ E ∷ []) (λ v p w n s e. v ⊑ p ⊗ (w ⊗ s ⊕ e) ⟶ p ▹ e ⊑ n ⟹ v ⊖ p ⊗ n ⊑ p ⊗ w ⊗ s) tt o (omega zarith) high)
+      (lin (value l outer ∷ pos (l .multiplier) ∷ pos w ∷ pos (w - 1) ∷ S ∷ E ∷ [])
+      (λ v p w n s e. v ⊑ p ⊗ (w ⊗ s ⊕ e) ⟶ p ▹ e ⊑ n ⟹ v ⊖ p ⊗ n ⊑ p ⊗ w ⊗ s) tt o (omega zarith) high)
 
   section-most : pos 0 ≤ℤ E → (l : Limit) → AtMost outer x l → AtMost outer S (sectionUpper w l)
   unfolding sectionUpper value
@@ -89,12 +99,16 @@ module _ (w : ℕ) (h : 0 < w) (a : ℕ) where
       let q = outer ++ (S ∷ []) in
       let t = all-map (elementLimit w) (AtLeast outer x) (AtLeast q E) (L .lower) (λ l m. element-least a w outer e S E l (s .0 .0 l m)) in
       let b = all-map (elementLimit w) (AtMost outer x) (AtMost q E) (L .upper) (λ l m. element-most a w outer e S E l (s .0 .1 l m)) in
-      let d : Inside N (outer ++ (x ∷ [])) y ↔ Inside (deeper (under a (splitCoefficients w)) N) (q ++ (E ∷ [])) y = rw (append-assoc outer (S ∷ []) (E ∷ []))
-      (deep-at (splitCoefficients w) (x ∷ []) (S ∷ E ∷ []) (λ z ds _. dot-split w S E ds z) a outer y N e (subst (λ k. Shaped k N) (omega arith) (s .1))) in (
+      let d : Inside N (outer ++ (x ∷ [])) y ↔ Inside (deeper (under a (splitCoefficients w)) N) (q ++ (E ∷ [])) y = rw
+      (append-assoc outer (S ∷ []) (E ∷ []))
+      (deep-at (splitCoefficients w) (x ∷ []) (S ∷ E ∷ []) (λ z ds _. dot-split w S E ds z) a outer y N e
+      (subst (λ k. Shaped k N) (omega arith) (s .1))) in (
         λ o. (
           record {
-            low = λ l m. let r = Memᴰ·of-map (sectionLower w) (L .lower) m in subst (AtLeast outer S) (r .2) (section-least a w outer e S E high (r .0) (o .0 .low (r .0) (r .1)));
-            high = λ l m. let r = Memᴰ·of-map (sectionUpper w) (L .upper) m in subst (AtMost outer S) (r .2) (section-most a w outer e S E low (r .0) (o .0 .high (r .0) (r .1)));
+            low = λ l m. let r = Memᴰ·of-map (sectionLower w) (L .lower) m in subst (AtLeast outer S) (r .2)
+                (section-least a w outer e S E high (r .0) (o .0 .low (r .0) (r .1)));
+            high = λ l m. let r = Memᴰ·of-map (sectionUpper w) (L .upper) m in subst (AtMost outer S) (r .2)
+                (section-most a w outer e S E low (r .0) (o .0 .high (r .0) (r .1)));
           },
           (
             record {
@@ -104,7 +118,11 @@ module _ (w : ℕ) (h : 0 < w) (a : ℕ) where
             d .0 (o .1),
           ),
         ),
-        λ o. (record { low = t .1 (λ l m. o .1 .0 .low l (List·Memᴰ·tail m)); high = b .1 (λ l m. o .1 .0 .high l (List·Memᴰ·tail m)) }, d .1 (o .1 .1)),
+        λ o. (
+          record { low = t .1 (λ l m. o .1 .0 .low l (List·Memᴰ·tail m)); high = b .1 (λ l m. o .1 .0 .high l (List·Memᴰ·tail m)) },
+          d .1
+              (o .1 .1),
+        ),
       )
 
   section-at : (outer y : List ℤ) (N : List Loop) → length outer ≡ a → Shaped a N → Inside N outer y ↔ Inside (sectionAt a w N) outer (sectioned w y)
@@ -131,12 +149,14 @@ module _ (w : ℕ) (h : 0 < w) (a : ℕ) where
       let below : E <ℤ pos w = omega zarith in
       ap₂ (λ s e. s ∷ e ∷ q) (joined-quotient (pos w) positive S E low below) (joined-rest (pos w) positive S E low below)
 
-  pub section-undone : (n : ℕ) (outer q : List ℤ) (N : List Loop) → Inside (under n (sectionAt a w) N) outer q → under n (sectioned w) (under n (unsectioned w) q) ≡ q
+  pub section-undone : (n : ℕ) (outer q : List ℤ) (N : List Loop) → Inside (under n (sectionAt a w) N) outer q
+      → under n (sectioned w) (under n (unsectioned w) q) ≡ q
   unfolding under
   section-undone zero outer q N o = sectioned-unsectioned outer q N o
   section-undone (suc n) outer [] N o = refl
   section-undone (suc n) outer (x ∷ q) [] o = absurd o
   section-undone (suc n) outer (x ∷ q) (L ∷ N) o = ap (x ∷_) (section-undone n (outer ++ (x ∷ [])) q N (o .1))
 
-pub section-inside : (a w : ℕ) → 0 < w → (y : List ℤ) (N : List Loop) → Shaped 0 N → Inside N [] y ↔ Inside (under a (sectionAt a w) N) [] (under a (sectioned w) y)
+pub section-inside : (a w : ℕ) → 0 < w → (y : List ℤ) (N : List Loop) → Shaped 0 N
+    → Inside N [] y ↔ Inside (under a (sectionAt a w) N) [] (under a (sectioned w) y)
 section-inside a w h y N s = under-inside (sectioned w) (sectionAt a w) a (section-at w h a) y N s

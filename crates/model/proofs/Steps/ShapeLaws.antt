@@ -9,12 +9,12 @@ use Rattle.lists.specs.Place.{under, onHead, swapped}
 use Rattle.lists.proofs.MembershipLaws.{all-nil, all-cons, map-all, length-zipWith}
 use Rattle.lists.proofs.PlaceLaws.{under-length, under-longer, length-onHead, length-swapped}
 use Rattle.model.specs.Ticket.{Limit, Loop, Step, exchange, reversal, skew, section}
-use Rattle.model.specs.Limits.{onCoefficients, onLimits, deeper, negated, reverseAt, outerCoefficient, kept, combined, outerPart, solvedPositive, solvedNegative, whenPositive, whenNegative, widened, newOuter, newInner, tidy, exchangeAt, skewCoefficients, skewLimit, skewInner, skewAt, sectionLower, sectionUpper, elementLimit, constantLimit, splitCoefficients, sectionAt, loopsAfter}
+use Rattle.model.specs.Limits.{onCoefficients, onLimits, deeper, negated, reverseAt, outerCoefficient, kept, combined, outerPart, solvedPositive, solvedNegative, whenPositive, whenNegative, widened, newOuter, newInner, deduplicated, exchangeAt, skewCoefficients, skewLimit, skewInner, skewAt, sectionLower, sectionUpper, elementLimit, constantLimit, splitCoefficients, sectionAt, loopsAfter}
 use Rattle.model.specs.Shape.{Sized, Shaped}
 use Rattle.model.proofs.Steps.LengthLaws.{length-skewCoefficients}
 use Rattle.model.proofs.Steps.ExchangePartLaws.{outer-lower, outer-upper, inner-lower, inner-upper}
 use Rattle.model.proofs.Steps.CombineLaws.{length-kept}
-use Rattle.model.proofs.Steps.TidyLaws.{all-unique}
+use Rattle.model.proofs.Steps.DeduplicatedLaws.{all-unique}
 
 -- ---- any step
 
@@ -23,7 +23,8 @@ abbrev Has : ℕ → Limit → Type 0
 Has n l = length (l .coefficients) ≡ n
 
 -- a change of the deeper loops' coefficients that adds k of them
-shaped-deeper : (g : List ℤ → List ℤ) (a k : ℕ) → ((cs : List ℤ) → a < length cs → length (g cs) ≡ length cs + k) → (n : ℕ) (N : List Loop) → a < n → Shaped n N → Shaped (n + k) (deeper g N)
+shaped-deeper : (g : List ℤ → List ℤ) (a k : ℕ) → ((cs : List ℤ) → a < length cs → length (g cs) ≡ length cs + k) → (n : ℕ) (N : List Loop) → a < n
+    → Shaped n N → Shaped (n + k) (deeper g N)
 unfolding deeper onLimits onCoefficients
 shaped-deeper g a k h n [] b s = tt
 shaped-deeper g a k h n (L ∷ N) b s = (
@@ -32,12 +33,15 @@ shaped-deeper g a k h n (L ∷ N) b s = (
 )
   where
     sized : (ls : List Limit) → Sized n ls → Sized (n + k) (map (onCoefficients g) ls)
-    sized ls s = unfold onCoefficients in map-all (onCoefficients g) (Has n) (Has (n + k)) ls (λ l e. h (l .coefficients) (omega arith) ∙ ap (λ i. i + k) e) s
+    sized ls s = unfold onCoefficients in map-all (onCoefficients g) (Has n) (Has (n + k)) ls
+        (λ l e. h (l .coefficients) (omega arith) ∙ ap (λ i. i + k) e) s
 
-shaped-same : (g : List ℤ → List ℤ) → ((cs : List ℤ) → length (g cs) ≡ length cs) → (n : ℕ) (N : List Loop) → Shaped (suc n) N → Shaped (suc n) (deeper g N)
+shaped-same : (g : List ℤ → List ℤ) → ((cs : List ℤ) → length (g cs) ≡ length cs) → (n : ℕ) (N : List Loop) → Shaped (suc n) N
+    → Shaped (suc n) (deeper g N)
 shaped-same g h n N s = subst (λ i. Shaped i (deeper g N)) (omega arith) (shaped-deeper g 0 0 (λ cs _. h cs ∙ omega arith) (suc n) N (omega arith) s)
 
-shaped-under : (G : List Loop → List Loop) (a : ℕ) → ((N : List Loop) → Shaped a N → Shaped a (G N)) → (n m : ℕ) → m + n ≡ a → (N : List Loop) → Shaped m N → Shaped m (under n G N)
+shaped-under : (G : List Loop → List Loop) (a : ℕ) → ((N : List Loop) → Shaped a N → Shaped a (G N)) → (n m : ℕ) → m + n ≡ a → (N : List Loop)
+    → Shaped m N → Shaped m (under n G N)
 unfolding under
 shaped-under G a h zero m e N s = let q : m ≡ a = omega arith in subst (λ i. Shaped i (G N)) (sym q) (h N (subst (λ i. Shaped i N) q s))
 shaped-under G a h (suc n) m e [] s = tt
@@ -61,7 +65,8 @@ shaped-reverse a (L ∷ N) s = (
 module _ (a : ℕ) where
   sized-combined : (c : ℤ) (l : Limit) → Has (suc a) l → (ms : List Limit) → Sized a ms → Sized a (map (combined a c l) ms)
   unfolding combined
-  sized-combined c l e ms s = map-all (combined a c l) (Has a) (Has a) ms (λ m f. length-zipWith _ (take a (l .coefficients)) (m .coefficients) (length-kept a l e ∙ sym f) ∙ f) s
+  sized-combined c l e ms s = map-all (combined a c l) (Has a) (Has a) ms (λ m f. length-zipWith _ (take a (l .coefficients)) (m .coefficients)
+      (length-kept a l e ∙ sym f) ∙ f) s
 
   sized-outer : (s o : List Limit) → Sized a s → Sized a o → (c : ℤ) (l : Limit) → Has (suc a) l → Sized a (outerPart a s o c l)
   unfolding outerPart kept
@@ -72,7 +77,8 @@ module _ (a : ℕ) where
   sized-positive : (c : ℤ) (l : Limit) → Has (suc a) l → Sized (suc a) (whenPositive a c l)
   unfolding whenPositive solvedPositive
   sized-positive (pos zero) l e = all-nil (Has (suc a))
-  sized-positive (pos (suc n)) l e = all-cons (Has (suc a)) (simp (length-append, length-map, length-kept a l e) (omega arith)) (all-nil (Has (suc a)))
+  sized-positive (pos (suc n)) l e = all-cons (Has (suc a)) (simp (length-append, length-map, length-kept a l e) (omega arith))
+      (all-nil (Has (suc a)))
   sized-positive (negsuc n) l e = all-nil (Has (suc a))
 
   sized-negative : (c : ℤ) (l : Limit) → Has (suc a) l → Sized (suc a) (whenNegative a c l)
@@ -93,22 +99,37 @@ module _ (a : ℕ) where
 
     sized-newInner : Sized (suc a) (newInner a I J .lower) × Sized (suc a) (newInner a I J .upper)
     sized-newInner = (
-      inner-lower (Has (suc a)) a I J .1 (sized-widened (I .lower) sl, (λ l m. sized-negative (outerCoefficient a l) l (tl l m), λ l m. sized-positive (outerCoefficient a l) l (tu l m))),
-      inner-upper (Has (suc a)) a I J .1 (sized-widened (I .upper) su, (λ l m. sized-positive (outerCoefficient a l) l (tl l m), λ l m. sized-negative (outerCoefficient a l) l (tu l m))),
+      inner-lower (Has (suc a)) a I J .1 (
+        sized-widened (I .lower) sl,
+        (
+          λ l m. sized-negative (outerCoefficient a l) l (tl l m),
+          λ l m.
+              sized-positive (outerCoefficient a l) l (tu l m),
+        ),
+      ),
+      inner-upper (Has (suc a)) a I J .1 (
+        sized-widened (I .upper) su,
+        (
+          λ l m. sized-positive (outerCoefficient a l) l (tl l m),
+          λ l m.
+              sized-negative (outerCoefficient a l) l (tu l m),
+        ),
+      ),
     )
 
-  sized-tidy : (n : ℕ) (L : Loop) → Sized n (L .lower) × Sized n (L .upper) → Sized n (tidy L .lower) × Sized n (tidy L .upper)
-  unfolding tidy
-  sized-tidy n L s = (all-unique (Has n) (L .lower) .0 (s .0), all-unique (Has n) (L .upper) .0 (s .1))
+  sized-deduplicated : (n : ℕ) (L : Loop) → Sized n (L .lower) × Sized n (L .upper) → Sized n (deduplicated L .lower)
+      × Sized n (deduplicated L .upper)
+  unfolding deduplicated
+  sized-deduplicated n L s = (all-unique (Has n) (L .lower) .0 (s .0), all-unique (Has n) (L .upper) .0 (s .1))
 
   shaped-exchange : (N : List Loop) → Shaped a N → Shaped a (exchangeAt a N)
   unfolding exchangeAt
   shaped-exchange [] s = tt
   shaped-exchange (I ∷ []) s = s
   shaped-exchange (I ∷ J ∷ N) s = (
-    sized-tidy a (newOuter a I J) (sized-newOuter I J (s .0 .0) (s .0 .1) (s .1 .0 .0) (s .1 .0 .1)),
+    sized-deduplicated a (newOuter a I J) (sized-newOuter I J (s .0 .0) (s .0 .1) (s .1 .0 .0) (s .1 .0 .1)),
     (
-      sized-tidy (suc a) (newInner a I J) (sized-newInner I J (s .0 .0) (s .0 .1) (s .1 .0 .0) (s .1 .0 .1)),
+      sized-deduplicated (suc a) (newInner a I J) (sized-newInner I J (s .0 .0) (s .0 .1) (s .1 .0 .0) (s .1 .0 .1)),
       shaped-same (under a swapped) (under-length swapped length-swapped a) (suc a) N (s .1 .1),
     ),
   )
@@ -119,7 +140,8 @@ module _ (a d : ℕ) (c : ℤ) where
   sized-skewed : (n : ℕ) (ls : List Limit) → Sized n ls → Sized n (map (skewLimit a c) ls)
   unfolding skewLimit
   sized-skewed n ls s = map-all (skewLimit a c) (Has n) (Has n) ls
-      (λ l e. under-length (onHead (λ x. x +ℤ (c *ℤ (pos (l .multiplier))))) (length-onHead (λ x. x +ℤ (c *ℤ (pos (l .multiplier))))) a (l .coefficients) ∙ e) s
+      (λ l e. under-length (onHead (λ x. x +ℤ (c *ℤ (pos (l .multiplier))))) (length-onHead (λ x. x +ℤ (c *ℤ (pos (l .multiplier))))) a
+      (l .coefficients) ∙ e) s
 
   shaped-inner : (n : ℕ) (N : List Loop) → Shaped n N → Shaped n (skewInner a d c N)
   unfolding skewInner onLimits
@@ -153,11 +175,20 @@ module _ (a w : ℕ) where
   unfolding sectionAt sectionLower sectionUpper
   shaped-section [] s = tt
   shaped-section (L ∷ N) s = (
-    (map-all (sectionLower w) (Has a) (Has a) (L .lower) (λ l e. e) (s .0 .0), map-all (sectionUpper w) (Has a) (Has a) (L .upper) (λ l e. e) (s .0 .1)),
     (
-      (all-cons (Has (suc a)) (sized-constant 0) (sized-element (L .lower) (s .0 .0)), all-cons (Has (suc a)) (sized-constant (w - 1)) (sized-element (L .upper) (s .0 .1))),
+      map-all (sectionLower w) (Has a) (Has a) (L .lower) (λ l e. e) (s .0 .0),
+      map-all (sectionUpper w) (Has a) (Has a) (L .upper) (λ l e. e)
+          (s .0 .1),
+    ),
+    (
+      (
+        all-cons (Has (suc a)) (sized-constant 0) (sized-element (L .lower) (s .0 .0)),
+        all-cons (Has (suc a)) (sized-constant (w - 1))
+            (sized-element (L .upper) (s .0 .1)),
+      ),
       subst (λ i. Shaped i (deeper (under a (splitCoefficients w)) N)) (omega arith)
-          (shaped-deeper (under a (splitCoefficients w)) a 1 (λ cs l. under-longer (splitCoefficients w) length-split a cs l ∙ omega arith) (suc a) N (omega arith) (s .1)),
+          (shaped-deeper (under a (splitCoefficients w)) a 1 (λ cs l. under-longer (splitCoefficients w) length-split a cs l ∙ omega arith) (suc a)
+          N (omega arith) (s .1)),
     ),
   )
 

@@ -32,10 +32,12 @@ module _ (t : Step) (h : Proper t) (N : List Loop) (s : Shaped 0 N) where
 
   module _ (r : All Runs N) where
     pub step-takes-points : {p : List ℤ} → Mem p (iterations N) → Mem (forward t p) (iterations (loopsAfter t N))
-    step-takes-points {p} m = iterations-inside (loopsAfter t N) (runs-after t h N r) (forward t p) .1 (step-inside t h N s p .0 (iterations-inside N r p .0 m))
+    step-takes-points {p} m = iterations-inside (loopsAfter t N) (runs-after t h N r) (forward t p) .1
+        (step-inside t h N s p .0 (iterations-inside N r p .0 m))
 
     pub step-keeps-points : {q : List ℤ} → Mem q (iterations (loopsAfter t N)) → Mem (undo t q) (iterations N) × (forward t (undo t q) ≡ q)
-    step-keeps-points {q} m = let o = iterations-inside (loopsAfter t N) (runs-after t h N r) q .0 m in (iterations-inside N r (undo t q) .1 (undo-inside q o), forward-undo t h N q o)
+    step-keeps-points {q} m = let o = iterations-inside (loopsAfter t N) (runs-after t h N r) q .0 m
+        in (iterations-inside N r (undo t q) .1 (undo-inside q o), forward-undo t h N q o)
 
 -- the step takes the points of the nest one to one onto those of the nest that it makes, and `undo` takes them back
 pub record KeepsPoints (t : Step) (N : List Loop) : Type 0 where

@@ -88,8 +88,11 @@ module _ (t : Step) (p : List ℤ) where
   pub element-after : (as′ : List (List ℕ)) (a : Access) → Fits as′ (length p) a → element (forward t p) (accessAfter t a) ≡ element p a
   unfolding element accessAfter
   element-after as′ a f = ap (λ xs. record { array = a .array; subscripts = xs })
-      (map-map (subscriptAt (forward t p)) (subscriptAfter t) (a .subscripts) ∙ map-same (λ s. subscriptAt (forward t p) (subscriptAfter t s)) (subscriptAt p) (a .subscripts) (λ s m. subscriptAt-after s (f .wide s m)))
+      (map-map (subscriptAt (forward t p)) (subscriptAfter t) (a .subscripts)
+      ∙ map-same (λ s. subscriptAt (forward t p) (subscriptAfter t s)) (subscriptAt p) (a .subscripts) (λ s m. subscriptAt-after s (f .wide s m)))
 
   -- those of a statement's writes or reads
-  pub elements-after : (as′ : List (List ℕ)) (l : List Access) → All (Fits as′ (length p)) l → map (element (forward t p)) (map (accessAfter t) l) ≡ map (element p) l
-  elements-after as′ l f = map-map (element (forward t p)) (accessAfter t) l ∙ map-same (λ a. element (forward t p) (accessAfter t a)) (element p) l (λ a m. element-after as′ a (f a m))
+  pub elements-after : (as′ : List (List ℕ)) (l : List Access) → All (Fits as′ (length p)) l
+      → map (element (forward t p)) (map (accessAfter t) l) ≡ map (element p) l
+  elements-after as′ l f = map-map (element (forward t p)) (accessAfter t) l
+      ∙ map-same (λ a. element (forward t p) (accessAfter t a)) (element p) l (λ a m. element-after as′ a (f a m))

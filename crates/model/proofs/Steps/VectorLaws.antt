@@ -60,13 +60,18 @@ module _ (w : ℤ) (h : pos 0 <ℤ w) (x y : ℤ) where
   split-among : (s : Sign) → Means s x y → Mem (sign (quotient w x) (quotient w y) ∷ sign (rest w x) (rest w y) ∷ []) (splitSign s)
   unfolding splitSign
   split-among less m = ⊎-elim
-      (λ l. Memᴰ·cast (ap (λ s. s ∷ sign (rest w x) (rest w y) ∷ []) (means-sign less (quotient w x) (quotient w y) l)) (List·Memᴰ·tail (Memᴰ·map (λ s. less ∷ s ∷ []) (any-sign (sign (rest w x) (rest w y))))))
-      (λ l. List·Memᴰ·head (ap₂ (λ s t. s ∷ t ∷ []) (means-sign equal (quotient w x) (quotient w y) (l .0)) (means-sign less (rest w x) (rest w y) (l .1))))
+      (λ l. Memᴰ·cast (ap (λ s. s ∷ sign (rest w x) (rest w y) ∷ []) (means-sign less (quotient w x) (quotient w y) l))
+      (List·Memᴰ·tail (Memᴰ·map (λ s. less ∷ s ∷ []) (any-sign (sign (rest w x) (rest w y))))))
+      (λ l. List·Memᴰ·head (ap₂ (λ s t. s ∷ t ∷ []) (means-sign equal (quotient w x) (quotient w y) (l .0))
+      (means-sign less (rest w x) (rest w y) (l .1))))
       (split-less w h x y m)
-  split-among equal m = List·Memᴰ·head (ap₂ (λ s t. s ∷ t ∷ []) (means-sign equal (quotient w x) (quotient w y) (ap (quotient w) m)) (means-sign equal (rest w x) (rest w y) (ap (rest w) m)))
+  split-among equal m = List·Memᴰ·head (ap₂ (λ s t. s ∷ t ∷ []) (means-sign equal (quotient w x) (quotient w y) (ap (quotient w) m))
+      (means-sign equal (rest w x) (rest w y) (ap (rest w) m)))
   split-among greater m = ⊎-elim
-      (λ l. Memᴰ·cast (ap (λ s. s ∷ sign (rest w x) (rest w y) ∷ []) (means-sign greater (quotient w x) (quotient w y) l)) (List·Memᴰ·tail (Memᴰ·map (λ s. greater ∷ s ∷ []) (any-sign (sign (rest w x) (rest w y))))))
-      (λ l. List·Memᴰ·head (ap₂ (λ s t. s ∷ t ∷ []) (means-sign equal (quotient w x) (quotient w y) (sym (l .0))) (means-sign greater (rest w x) (rest w y) (l .1))))
+      (λ l. Memᴰ·cast (ap (λ s. s ∷ sign (rest w x) (rest w y) ∷ []) (means-sign greater (quotient w x) (quotient w y) l))
+      (List·Memᴰ·tail (Memᴰ·map (λ s. greater ∷ s ∷ []) (any-sign (sign (rest w x) (rest w y))))))
+      (λ l. List·Memᴰ·head (ap₂ (λ s t. s ∷ t ∷ []) (means-sign equal (quotient w x) (quotient w y) (sym (l .0)))
+      (means-sign greater (rest w x) (rest w y) (l .1))))
       (split-less w h y x m)
 
   pub split-sign : Mem (sign (quotient w x) (quotient w y) ∷ sign (rest w x) (rest w y) ∷ []) (splitSign (sign x y))
@@ -104,7 +109,8 @@ swapped-signs (x ∷ []) (y ∷ v ∷ q) e = absurd (omega arith)
 swapped-signs (x ∷ u ∷ p) (y ∷ []) e = absurd (omega arith)
 swapped-signs (x ∷ u ∷ p) (y ∷ v ∷ q) e = refl
 
-pub exchange-signs : (a : ℕ) (p q : List ℤ) → length p ≡ length q → vectors (exchange a) (signs p q) ≡ signs (forward (exchange a) p) (forward (exchange a) q) ∷ []
+pub exchange-signs : (a : ℕ) (p q : List ℤ) → length p ≡ length q
+    → vectors (exchange a) (signs p q) ≡ signs (forward (exchange a) p) (forward (exchange a) q) ∷ []
 unfolding vectors forward
 exchange-signs a p q e = ap (λ v. v ∷ []) (sym (signs-under swapped swapped swapped swapped-signs a p q e))
 
@@ -116,7 +122,8 @@ negated-signs [] q e = refl
 negated-signs (x ∷ p) [] e = refl
 negated-signs (x ∷ p) (y ∷ q) e = ap (_∷ signs p q) (sign-negated x y)
 
-pub reversal-signs : (a : ℕ) (p q : List ℤ) → length p ≡ length q → vectors (reversal a) (signs p q) ≡ signs (forward (reversal a) p) (forward (reversal a) q) ∷ []
+pub reversal-signs : (a : ℕ) (p q : List ℤ) → length p ≡ length q
+    → vectors (reversal a) (signs p q) ≡ signs (forward (reversal a) p) (forward (reversal a) q) ∷ []
 unfolding vectors forward
 reversal-signs a p q e = ap (λ v. v ∷ []) (sym (signs-under (onHead negℤ) (onHead negℤ) (onHead turned) negated-signs a p q e))
 
@@ -124,7 +131,8 @@ reversal-signs a p q e = ap (λ v. v ∷ []) (sym (signs-under (onHead negℤ) (
 
 -- by a negative factor
 mul-below : {c x y : ℤ} → c <ℤ pos 0 → x <ℤ y → (c *ℤ y) <ℤ (c *ℤ x)
-mul-below {c} {x} {y} h g = lin (c ∷ x ∷ y ∷ []) (λ c x y. ⊝ c ⊗ x ⊏ ⊝ c ⊗ y ⟶ c ⊗ y ⊏ c ⊗ x) tt (mul-< (lin (c ∷ []) (λ c. c ⊏ # 0 ⟶ # 0 ⊏ ⊝ c) tt h) g)
+mul-below {c} {x} {y} h g = lin (c ∷ x ∷ y ∷ []) (λ c x y. ⊝ c ⊗ x ⊏ ⊝ c ⊗ y ⟶ c ⊗ y ⊏ c ⊗ x) tt
+    (mul-< (lin (c ∷ []) (λ c. c ⊏ # 0 ⟶ # 0 ⊏ ⊝ c) tt h) g)
 
 signed-sign : (c x y : ℤ) → sign (c *ℤ x) (c *ℤ y) ≡ signedSign c (sign x y)
 unfolding signedSign
@@ -139,7 +147,8 @@ signed-sign c x y = go (sign (pos 0) c) (sign-means (pos 0) c) (sign x y) (sign-
     go greater h equal m = ap (λ z. sign (c *ℤ x) (c *ℤ z)) (sym m) ∙ sign-self (c *ℤ x)
     go greater h greater m = means-sign less (c *ℤ x) (c *ℤ y) (mul-below h m)
 
-head-sum-signs : (x y : ℤ) (p q : List ℤ) → length p ≡ length q → Mem (signs (onHead (λ u. u +ℤ x) p) (onHead (λ u. u +ℤ y) q)) (headSum (sign x y) (signs p q))
+head-sum-signs : (x y : ℤ) (p q : List ℤ) → length p ≡ length q
+    → Mem (signs (onHead (λ u. u +ℤ x) p) (onHead (λ u. u +ℤ y) q)) (headSum (sign x y) (signs p q))
 unfolding onHead signs headSum
 head-sum-signs x y [] q e = List·Memᴰ·head refl
 head-sum-signs x y (u ∷ p) [] e = absurd (omega arith)
@@ -167,12 +176,15 @@ module _ (w : ℕ) (h : 0 < w) where
 -- ---- any step
 
 pub step-signs : (t : Step) → Proper t → (p q : List ℤ) → length p ≡ length q → Mem (signs (forward t p) (forward t q)) (vectors t (signs p q))
-step-signs (exchange a) h p q e = subst (Mem (signs (forward (exchange a) p) (forward (exchange a) q))) (sym (exchange-signs a p q e)) (List·Memᴰ·head refl)
-step-signs (reversal a) h p q e = subst (Mem (signs (forward (reversal a) p) (forward (reversal a) q))) (sym (reversal-signs a p q e)) (List·Memᴰ·head refl)
+step-signs (exchange a) h p q e = subst (Mem (signs (forward (exchange a) p) (forward (exchange a) q))) (sym (exchange-signs a p q e))
+    (List·Memᴰ·head refl)
+step-signs (reversal a) h p q e = subst (Mem (signs (forward (reversal a) p) (forward (reversal a) q))) (sym (reversal-signs a p q e))
+    (List·Memᴰ·head refl)
 step-signs (skew a d c) h p q e = unfold vectors forward in signs-underEach (skewed d c) (skewed d c) (skewSigns d c) (skewed-signs d c) a p q e
 step-signs (section a w) h p q e = unfold vectors forward in signs-underEach (sectioned w) (sectioned w) splitSigns (sectioned-signs w h) a p q e
 
 -- in a set of vectors
-pub vectors-after : (t : Step) → Proper t → (vs : List (List Sign)) (p q : List ℤ) → length p ≡ length q → Mem (signs p q) vs → Mem (signs (forward t p) (forward t q)) (vectorsAfter t vs)
+pub vectors-after : (t : Step) → Proper t → (vs : List (List Sign)) (p q : List ℤ) → length p ≡ length q → Mem (signs p q) vs
+    → Mem (signs (forward t p) (forward t q)) (vectorsAfter t vs)
 unfolding vectorsAfter
 vectors-after t h vs p q e m = mem-flatMap (vectors t) vs m (step-signs t h p q e)

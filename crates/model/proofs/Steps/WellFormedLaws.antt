@@ -22,7 +22,9 @@ module _ (t : Step) (N : List Loop) where
   access-fits as′ a f = record {
     there = f .there;
     dimensions = length-map (a .subscripts) (subscriptAfter t) ∙ f .dimensions;
-    wide = map-all (subscriptAfter t) (λ (s : Subscript). length (s .coefficients) ≡ length N) (λ (s : Subscript). length (s .coefficients) ≡ length (loopsAfter t N)) (a .subscripts) (λ s e. coefficients-fit (s .coefficients) e) (f .wide);
+    wide = map-all (subscriptAfter t) (λ (s : Subscript). length (s .coefficients) ≡ length N)
+        (λ (s : Subscript). length (s .coefficients) ≡ length (loopsAfter t N)) (a .subscripts) (λ s e. coefficients-fit (s .coefficients) e)
+        (f .wide);
   }
 
   statement-fits : (as′ : List (List ℕ)) (s : Statement) → FitsAll as′ (length N) s → FitsAll as′ (length (loopsAfter t N)) (statementAfter t s)
@@ -37,10 +39,12 @@ unfolding nestAfter
 well-formed-after t h N f = record {
   shaped = shaped-after t (N .loops) (f .shaped);
   runs = runs-after t h (N .loops) (f .runs);
-  fits = map-all (statementAfter t) (FitsAll (N .arrays) (length (N .loops))) (FitsAll (N .arrays) (length (loopsAfter t (N .loops)))) (N .statements) (statement-fits t (N .loops) (N .arrays)) (f .fits);
+  fits = map-all (statementAfter t) (FitsAll (N .arrays) (length (N .loops))) (FitsAll (N .arrays) (length (loopsAfter t (N .loops))))
+      (N .statements) (statement-fits t (N .loops) (N .arrays)) (f .fits);
 }
 
 pub well-formed-after-all : (ts : List Step) → All Proper ts → (N : Nest) → WellFormed N → WellFormed (nestAfterAll ts N)
 unfolding nestAfterAll
 well-formed-after-all [] h N f = f
-well-formed-after-all (t ∷ ts) h N f = well-formed-after-all ts (λ u m. h u (List·Memᴰ·tail m)) (nestAfter t N) (well-formed-after t (h t (List·Memᴰ·head refl)) N f)
+well-formed-after-all (t ∷ ts) h N f = well-formed-after-all ts (λ u m. h u (List·Memᴰ·tail m)) (nestAfter t N)
+    (well-formed-after t (h t (List·Memᴰ·head refl)) N f)

@@ -1,4 +1,4 @@
--- Elements and places. In order: which elements there are, and that an access that does not stray names one of them; places within an
+-- Elements and places. In order: which elements there are, and that an access that stays within bounds names one of them; places within an
 -- array; places in the store: they are below its length, distinct elements have distinct ones, and every word is the place of an element.
 use mathlib.Core.Path.{_≡_, refl, sym, ap, ap₂, _∙_, subst}
 use mathlib.Core.Bool.{_||_}
@@ -17,7 +17,7 @@ use Rattle.lists.proofs.PartLaws.{row-fits, row-unique}
 use Rattle.lists.proofs.TestLaws.{or-left, or-right, not-T-false}
 use Rattle.model.specs.Ticket.{Access}
 use Rattle.model.specs.Grammar.{elements, total, extents}
-use Rattle.model.specs.Bounds.{subscriptAt, outside, strays}
+use Rattle.model.specs.Bounds.{subscriptAt, outside, violates}
 use Rattle.model.specs.Machine.{Element, element}
 use Rattle.model.specs.Shape.{Fits}
 use Rattle.model.specs.Store.{base, placeFrom, placeOf}
@@ -48,8 +48,8 @@ inside-extents (n ∷ ns) (x ∷ xs) e h =
       inside-extents ns xs (omega arith) (λ t. h (or-right (low || high) (outside ns xs) t)),
     )
 
-pub element-valid : (as′ : List (List ℕ)) (n : ℕ) (p : List ℤ) (a : Access) → Fits as′ n a → (T (strays as′ p a) → ⊥) → Valid as′ (element p a)
-unfolding strays element
+pub element-valid : (as′ : List (List ℕ)) (n : ℕ) (p : List ℤ) (a : Access) → Fits as′ n a → (T (violates as′ p a) → ⊥) → Valid as′ (element p a)
+unfolding violates element
 element-valid as′ n p a f h = record {
   there = f .there;
   inside = inside-extents (extents as′ (a .array)) (map (subscriptAt p) (a .subscripts)) (simp length-map (f .dimensions)) h;
@@ -65,7 +65,8 @@ place-split o [] (x ∷ xs) h = absurd h
 place-split o (n ∷ ns) [] h = absurd h
 place-split o (n ∷ ns) (x ∷ xs) h = omega (arith, place-split (o * n + natAbs x) ns xs (h .2), place-split (0 * n + natAbs x) ns xs (h .2))
 
-place-cons : (n : ℕ) (ns : List ℕ) (x : ℤ) (xs : List ℤ) → InExtents ns xs → placeFrom 0 (n ∷ ns) (x ∷ xs) ≡ natAbs x * elements ns + placeFrom 0 ns xs
+place-cons : (n : ℕ) (ns : List ℕ) (x : ℤ) (xs : List ℤ) → InExtents ns xs
+    → placeFrom 0 (n ∷ ns) (x ∷ xs) ≡ natAbs x * elements ns + placeFrom 0 ns xs
 unfolding placeFrom
 place-cons n ns x xs h = omega (arith, place-split (0 * n + natAbs x) ns xs h)
 
@@ -84,7 +85,8 @@ inner-injective [] [] (y ∷ ys) h k e = absurd k
 inner-injective (n ∷ ns) [] ys h k e = absurd h
 inner-injective (n ∷ ns) (x ∷ xs) [] h k e = absurd k
 inner-injective (n ∷ ns) (x ∷ xs) (y ∷ ys) h k e =
-    let q = row-unique (elements ns) (natAbs x) (natAbs y) (placeFrom 0 ns xs) (placeFrom 0 ns ys) (inner-below ns xs (h .2)) (inner-below ns ys (k .2))
+    let q = row-unique (elements ns) (natAbs x) (natAbs y) (placeFrom 0 ns xs) (placeFrom 0 ns ys) (inner-below ns xs (h .2))
+    (inner-below ns ys (k .2))
     (sym (place-cons n ns x xs (h .2)) ∙ e ∙ place-cons n ns y ys (k .2)) in
     ap₂ _∷_ (abs-injective x y (h .0) (k .0) (q .0)) (inner-injective ns xs ys (h .2) (k .2) (q .1))
 
@@ -95,8 +97,12 @@ inner-onto (n ∷ ns) p h =
     let w = elements ns in
     let some : 0 < w = positive n w p h in
     let r = inner-onto ns (p % w) (mod-lt p some) in
-    let b : p / w < n = div-lt-iff-lt-mul some .1 h in
-    (pos (p / w) ∷ r .0, (omega zarith, omega zarith, r .1), place-cons n ns (pos (p / w)) (r .0) (r .1) ∙ ap (p / w * w +_) (r .2) ∙ div-add-mod' p w)
+    let b : p / w < n = div-lt-iff-lt-mul some .1 h in (
+      pos (p / w) ∷ r .0,
+      (omega zarith, omega zarith, r .1),
+      place-cons n ns (pos (p / w)) (r .0) (r .1) ∙ ap (p / w * w +_) (r .2)
+          ∙ div-add-mod' p w,
+    )
   where
     positive : (n w p : ℕ) → p < n * w → 0 < w
     positive n zero p h = absurd (omega arith)
@@ -117,7 +123,8 @@ at-injective [] a b p q ha hb hp hq e = absurd (omega arith)
 at-injective (ns ∷ m) zero zero p q ha hb hp hq e = (refl, omega arith)
 at-injective (ns ∷ m) zero (suc b) p q ha hb hp hq e = absurd (omega arith)
 at-injective (ns ∷ m) (suc a) zero p q ha hb hp hq e = absurd (omega arith)
-at-injective (ns ∷ m) (suc a) (suc b) p q ha hb hp hq e = let r = at-injective m a b p q (omega arith) (omega arith) hp hq (omega arith) in (ap suc (r .0), r .1)
+at-injective (ns ∷ m) (suc a) (suc b) p q ha hb hp hq e = let r = at-injective m a b p q (omega arith) (omega arith) hp hq (omega arith)
+    in (ap suc (r .0), r .1)
 
 at-onto : (as′ : List (List ℕ)) (k : ℕ) → k < total as′ → (a : ℕ) × (p : ℕ) × (a < length as′) × (p < elements (extents as′ a)) × (base as′ a + p ≡ k)
 unfolding base extents total
@@ -141,7 +148,8 @@ module _ (as′ : List (List ℕ)) where
       let r = at-injective as′ (e .array) (f .array) _ _ (v .there) (u .there) (inner-at e v) (inner-at f u) q in
       let ns = extents as′ (e .array) in
       let k : InExtents ns (f .subscripts) = subst (λ a. InExtents (extents as′ a) (f .subscripts)) (sym (r .0)) (u .inside) in
-      let j : placeFrom 0 ns (e .subscripts) ≡ placeFrom 0 ns (f .subscripts) = r .1 ∙ ap (λ a. placeFrom 0 (extents as′ a) (f .subscripts)) (sym (r .0)) in
+      let j : placeFrom 0 ns (e .subscripts) ≡ placeFrom 0 ns (f .subscripts) = r .1
+      ∙ ap (λ a. placeFrom 0 (extents as′ a) (f .subscripts)) (sym (r .0)) in
       let s : e .subscripts ≡ f .subscripts = inner-injective ns (e .subscripts) (f .subscripts) (v .inside) k j in
       λ t. record { array = r .0 t; subscripts = s t }
 

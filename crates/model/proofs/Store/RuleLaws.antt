@@ -22,7 +22,8 @@ Word v = v < 2 ^ 32
 most-word : (m : ℕ) (vs : List ℕ) → Word m → All Word vs → Word (most m vs)
 unfolding most
 most-word m [] h k = h
-most-word m (v ∷ vs) h k = most-word (cond (ltb m v) v m) vs (cond-cases Word (ltb m v) v m (λ _. k v (List·Memᴰ·head refl)) (λ _. h)) (λ x n. k x (List·Memᴰ·tail n))
+most-word m (v ∷ vs) h k = most-word (cond (ltb m v) v m) vs (cond-cases Word (ltb m v) v m (λ _. k v (List·Memᴰ·head refl)) (λ _. h))
+    (λ x n. k x (List·Memᴰ·tail n))
 
 firstOf-word : (vs : List ℕ) → All Word vs → Word (firstOf vs)
 unfolding firstOf
@@ -50,7 +51,8 @@ module _ (as′ : List (List ℕ)) where
         let at : Element → ℕ = λ e. getD w (placeOf as′ e) 0 in
         storeWords-word _ (accesses ss .writes i) w
         (make-word (bodyAt ss (i .statement) .rule) (bodyAt ss (i .statement) .constant) (map at (accesses ss .reads i)) (small (i .statement))
-        (λ v m. let r = Memᴰ·of-map at (accesses ss .reads i) m in subst Word (r .2) (all-getD-default Word w (placeOf as′ (r .0)) 0 (omega arith) k)))
+        (λ v m. let r = Memᴰ·of-map at (accesses ss .reads i) m in subst Word (r .2)
+        (all-getD-default Word w (placeOf as′ (r .0)) 0 (omega arith) k)))
         k
 
     pub run-word : (xs : List Instance) (w : List ℕ) → All Word w → All Word (run (performOn as′ ss) xs w)

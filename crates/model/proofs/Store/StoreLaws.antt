@@ -50,14 +50,17 @@ module _ (as′ : List (List ℕ)) where
     store-shows : (e : Element) → Valid as′ e → (v : ℕ) → Shows as′ (set w (placeOf as′ e) v) (store e (pos v) s)
     store-shows e u v = record { whole = length-set w (placeOf as′ e) v ∙ h .whole; shown = λ f a. at f a (T-cases (same f e)) }
       where
-        at : (f : Element) → Valid as′ f → T (same f e) ⊎ (T (same f e) → ⊥) → store e (pos v) s f ≡ pos (getD (set w (placeOf as′ e) v) (placeOf as′ f) 0)
+        at : (f : Element) → Valid as′ f → T (same f e) ⊎ (T (same f e) → ⊥)
+            → store e (pos v) s f ≡ pos (getD (set w (placeOf as′ e) v) (placeOf as′ f) 0)
         at f a (inl t) =
             let q : f ≡ e = same-decides .equal f e t in
             let l : placeOf as′ e < length w = subst (placeOf as′ e <_) (sym (h .whole)) (place-below as′ e u) in
-            store-same e (pos v) s f q ∙ sym (ap (λ (g : Element). pos (getD (set w (placeOf as′ e) v) (placeOf as′ g) 0)) q ∙ ap pos (getD-set-same w (placeOf as′ e) v 0 l))
+            store-same e (pos v) s f q ∙ sym (ap (λ (g : Element). pos (getD (set w (placeOf as′ e) v) (placeOf as′ g) 0)) q
+            ∙ ap pos (getD-set-same w (placeOf as′ e) v 0 l))
         at f a (inr t) =
             let d : f ≡ e → ⊥ = λ q. t (subst (λ g. T (same f g)) q (same-decides .itself f)) in
-            store-other e (pos v) s f d ∙ h .shown f a ∙ ap pos (sym (getD-set-other w (placeOf as′ e) (placeOf as′ f) v 0 (λ p. d (place-injective as′ f e a u p))))
+            store-other e (pos v) s f d ∙ h .shown f a ∙ ap pos (sym (getD-set-other w (placeOf as′ e) (placeOf as′ f) v 0
+            (λ p. d (place-injective as′ f e a u p))))
 
     fetched : (es : List Element) → All (Valid as′) es → map s es ≡ map pos (map (λ e. getD w (placeOf as′ e) 0) es)
     fetched [] a = refl
@@ -73,7 +76,8 @@ module _ (as′ : List (List ℕ)) where
   -- ---- an instance, and a run
 
   module _ (ss : List Statement) where
-    pub perform-shows : (i : Instance) (w : List ℕ) (s : State) → InStore as′ ss i → Shows as′ w s → Shows as′ (performOn as′ ss i w) (perform (accesses ss) (ownRules ss) i s)
+    pub perform-shows : (i : Instance) (w : List ℕ) (s : State) → InStore as′ ss i → Shows as′ w s
+        → Shows as′ (performOn as′ ss i w) (perform (accesses ss) (ownRules ss) i s)
     unfolding performOn perform ownRules
     perform-shows i w s b h =
         let rule = bodyAt ss (i .statement) .rule in
@@ -103,7 +107,8 @@ module _ (as′ : List (List ℕ)) where
   pub shown-equal : (w w′ : List ℕ) (s s′ : State) → Shows as′ w s → Shows as′ w′ s′ → ((e : Element) → Valid as′ e → s e ≡ s′ e) → w ≡ w′
   shown-equal w w′ s s′ h h′ same = ext-getD 0 w w′ (h .whole ∙ sym (h′ .whole)) (λ k l.
       let r = place-onto as′ k (subst (k <_) (h .whole) l) in
-      let q : pos (getD w (placeOf as′ (r .0)) 0) ≡ pos (getD w′ (placeOf as′ (r .0)) 0) = sym (h .shown (r .0) (r .1)) ∙ same (r .0) (r .1) ∙ h′ .shown (r .0) (r .1) in
+      let q : pos (getD w (placeOf as′ (r .0)) 0) ≡ pos (getD w′ (placeOf as′ (r .0)) 0) = sym (h .shown (r .0) (r .1)) ∙ same (r .0) (r .1)
+      ∙ h′ .shown (r .0) (r .1) in
       ap (λ p. getD w p 0) (sym (r .2)) ∙ ap natAbs q ∙ ap (λ p. getD w′ p 0) (r .2))
 
   -- programs that end with equal values on the plain machine end with equal words

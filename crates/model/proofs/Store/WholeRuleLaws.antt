@@ -66,7 +66,8 @@ largest-words c vs =
     let u = most-bounds c vs x .0 (≤ℤ-of-eq refl) in
     let l = largest-iff y (pos c ∷ map pos vs) cons≢nil .1 (≤ℤ-of-eq refl) in
     ≤ℤ-antisym
-    (largest-iff x (pos c ∷ map pos vs) cons≢nil .0 (all-cons (λ a. a ≤ℤ x) (u .0) (map-all pos (λ v. pos v ≤ℤ x) (λ a. a ≤ℤ x) vs (λ v h. h) (u .1))))
+    (largest-iff x (pos c ∷ map pos vs) cons≢nil .0 (all-cons (λ a. a ≤ℤ x) (u .0)
+    (map-all pos (λ v. pos v ≤ℤ x) (λ a. a ≤ℤ x) vs (λ v h. h) (u .1))))
     (most-bounds c vs y .1 (l (pos c) (List·Memᴰ·head refl), λ v m. l (pos v) (List·Memᴰ·tail (Memᴰ·map pos m))))
 
 first-words : (vs : List ℕ) → firstWhole (map pos vs) ≡ pos (firstOf vs)

@@ -1,5 +1,5 @@
 -- The entries but `run`: where each answer comes from, and what the lent memory holds in the end. In order: `judge`; text handed out (14), then
--- `write` and `list`; access numbers, then `quick`. `run` is in `RunLaws`; what `admitOf` and `judgedOf` refuse is in `VerdictLaws`.
+-- `write` and `list`; access numbers, then `nest_quick_test`. `run` is in `RunLaws`; what `admitOf` and `judgedOf` refuse is in `VerdictLaws`.
 use mathlib.Core.Path.{_≡_, refl, sym, subst}
 use mathlib.Core.Logic.{_⊎_, inl, inr, ⊎-elim}
 use mathlib.Core.List.{List, [], _++_, Memᴰ·cast}
@@ -24,13 +24,16 @@ use Rattle.model.proofs.Answers.AnswerLaws.{not-both, accepted-same, bi
 
 -- ---- judge: the count of iterations, or the verdict
 
-pub judge-accepted : (d : Answer Ticket) {c : ℕ} → judgeOf d ≡ accepted c → (j : Judged) × (judgedOf d ≡ accepted j) × (c ≡ length (iterations (j .ticket .nest .loops)))
+pub judge-accepted : (d : Answer Ticket) {c : ℕ} → judgeOf d ≡ accepted c → (j : Judged) × (judgedOf d ≡ accepted j)
+    × (c ≡ length (iterations (j .ticket .nest .loops)))
 unfolding judgeOf
-judge-accepted d e = let r = bind-accepted (judgedOf d) (λ j. accepted (length (iterations (j .ticket .nest .loops)))) e in (r .value, r .first, sym (accepted-same (r .rest)))
+judge-accepted d e = let r = bind-accepted (judgedOf d) (λ j. accepted (length (iterations (j .ticket .nest .loops)))) e
+    in (r .value, r .first, sym (accepted-same (r .rest)))
 
 pub judge-refused : (d : Answer Ticket) {n p : ℕ} → judgeOf d ≡ refused n p → judgedOf d ≡ refused n p
 unfolding judgeOf
-judge-refused d e = ⊎-elim (λ f. f) (λ r. not-both (r .rest)) (bind-refused (judgedOf d) (λ j. accepted (length (iterations (j .ticket .nest .loops)))) e)
+judge-refused d e = ⊎-elim (λ f. f) (λ r. not-both (r .rest)) (bind-refused (judgedOf d)
+    (λ j. accepted (length (iterations (j .ticket .nest .loops)))) e)
 
 -- ---- text handed out
 
@@ -49,7 +52,8 @@ pub record HandedOut (text buffer : List ℕ) (c : ℕ) (memory : List ℕ) : Ty
   pub rest : drop c memory ≡ drop c buffer
   pub size : length memory ≡ length buffer
 
-handed-out : (text buffer : List ℕ) (c : ℕ) (memory : List ℕ) → c ≡ length text → length text ≤ length buffer → memory ≡ text ++ drop (length text) buffer → HandedOut text buffer c memory
+handed-out : (text buffer : List ℕ) (c : ℕ) (memory : List ℕ) → c ≡ length text → length text ≤ length buffer
+    → memory ≡ text ++ drop (length text) buffer → HandedOut text buffer c memory
 handed-out text buffer c memory e h w = record {
   count = e;
   fits = h;
@@ -74,18 +78,25 @@ module _ (buffer : List ℕ) where
       same : {m q n p : ℕ} → _≡_ {A = Answer ℕ} (refused m q) (refused n p) → _≡_ {A = Answer (List ℕ)} (refused m q) (refused n p)
       same e = cc
   handOut-refused (accepted text) {n} {p} e =
-      cond-cases (λ o. o .answer ≡ refused n p → (o .memory ≡ buffer) × ((accepted text ≡ refused n p) ⊎ ((u : List ℕ) × (accepted text ≡ accepted u) × Short u buffer n p)))
+      cond-cases (λ o. o .answer ≡ refused n p → (o .memory ≡ buffer)
+      × ((accepted text ≡ refused n p) ⊎ ((u : List ℕ) × (accepted text ≡ accepted u) × Short u buffer n p)))
       (leb (length text) (length buffer)) (taken text) left
       (λ t f. not-both f)
       (λ t f. (refl, inr (text, refl, record { fourteen = cc; nowhere = cc; short = leb-false (length text) (length buffer) t }))) e
 
-  pub handOut-accepted : (a : Answer (List ℕ)) {c : ℕ} → handOut a buffer .answer ≡ accepted c → (text : List ℕ) × (a ≡ accepted text) × HandedOut text buffer c (handOut a buffer .memory)
+  pub handOut-accepted : (a : Answer (List ℕ)) {c : ℕ} → handOut a buffer .answer ≡ accepted c → (text : List ℕ) × (a ≡ accepted text)
+      × HandedOut text buffer c (handOut a buffer .memory)
   unfolding handOut
   handOut-accepted (refused m q) e = not-both (sym e)
   handOut-accepted (accepted text) {c} e =
       cond-cases (λ o. o .answer ≡ accepted c → (u : List ℕ) × (accepted text ≡ accepted u) × HandedOut u buffer c (o .memory))
       (leb (length text) (length buffer)) (taken text) left
-      (λ t f. (text, refl, handed-out text buffer c (text ++ drop (length text) buffer) (sym (accepted-same f)) (leb-true (length text) (length buffer) t) refl))
+      (λ t f. (
+        text,
+        refl,
+        handed-out text buffer c (text ++ drop (length text) buffer) (sym (accepted-same f))
+            (leb-true (length text) (length buffer) t) refl,
+      ))
       (λ t f. not-both (sym f)) e
 
 -- a text made of what was accepted before
@@ -93,12 +104,14 @@ module _ {A : Type 0} (m : Answer A) (text : A → List ℕ) (buffer : List ℕ)
   abbrev handed : Outcome
   handed = handOut (m >>= (λ a. accepted (text a))) buffer
 
-  withheld : {n p : ℕ} → handed .answer ≡ refused n p → (handed .memory ≡ buffer) × ((m ≡ refused n p) ⊎ ((a : A) × (m ≡ accepted a) × Short (text a) buffer n p))
+  withheld : {n p : ℕ} → handed .answer ≡ refused n p → (handed .memory ≡ buffer)
+      × ((m ≡ refused n p) ⊎ ((a : A) × (m ≡ accepted a) × Short (text a) buffer n p))
   withheld {n} {p} e =
       let r = handOut-refused buffer (m >>= (λ a. accepted (text a))) e in (
         r .0,
         ⊎-elim (λ f. ⊎-elim inl (λ q. not-both (q .rest)) (bind-refused m (λ a. accepted (text a)) f))
-            (λ f. let q = bind-accepted m (λ a. accepted (text a)) (f .1) in inr (q .value, q .first, subst (λ t. Short t buffer n p) (sym (accepted-same (q .rest))) (f .2))) (r .1),
+            (λ f. let q = bind-accepted m (λ a. accepted (text a)) (f .1) in inr
+            (q .value, q .first, subst (λ t. Short t buffer n p) (sym (accepted-same (q .rest))) (f .2))) (r .1),
       )
 
   handed-over : {c : ℕ} → handed .answer ≡ accepted c → (a : A) × (m ≡ accepted a) × HandedOut (text a) buffer c (handed .memory)
@@ -110,7 +123,8 @@ module _ {A : Type 0} (m : Answer A) (text : A → List ℕ) (buffer : List ℕ)
 module _ (d : Answer Ticket) (buffer : List ℕ) where
   -- write: 1 to 13, then 14
   pub write-refused : {n p : ℕ} → writeOf d buffer .answer ≡ refused n p
-      → (writeOf d buffer .memory ≡ buffer) × ((judgedOf d ≡ refused n p) ⊎ ((j : Judged) × (judgedOf d ≡ accepted j) × Short (encode (j .new)) buffer n p))
+      → (writeOf d buffer .memory ≡ buffer) × ((judgedOf d ≡ refused n p)
+      ⊎ ((j : Judged) × (judgedOf d ≡ accepted j) × Short (encode (j .new)) buffer n p))
   unfolding writeOf
   write-refused e = withheld (judgedOf d) (λ j. encode (j .new)) buffer e
 
@@ -121,7 +135,8 @@ module _ (d : Answer Ticket) (buffer : List ℕ) where
 
   -- list: 1 to 9, then 14
   pub list-refused : {n p : ℕ} → listOf d buffer .answer ≡ refused n p
-      → (listOf d buffer .memory ≡ buffer) × ((admitOf d ≡ refused n p) ⊎ ((T : Ticket) × (admitOf d ≡ accepted T) × Short (listing (T .nest)) buffer n p))
+      → (listOf d buffer .memory ≡ buffer) × ((admitOf d ≡ refused n p)
+      ⊎ ((T : Ticket) × (admitOf d ≡ accepted T) × Short (listing (T .nest)) buffer n p))
   unfolding listOf
   list-refused e = withheld (admitOf d) (λ T. listing (T .nest)) buffer e
 
@@ -140,11 +155,18 @@ module _ (l : List Access) (a : ℕ) where
   unfolding accessNumber
   accessNumber-accepted e =
       let r = then-accepted (require (leb 1 a) 4 0 >> require (leb a (length l)) 4 0) (accepted (getD l (a - 1) blank)) e in
-      let q = then-accepted (require (leb 1 a) 4 0) (require (leb a (length l)) 4 0) (r .first) in
-      (leb→le 1 a (require-accepted (leb 1 a) 4 0 (q .first)), (leb→le a (length l) (require-accepted (leb a (length l)) 4 0 (q .rest)), sym (accepted-same (r .rest))))
+      let q = then-accepted (require (leb 1 a) 4 0) (require (leb a (length l)) 4 0) (r .first) in (
+        leb→le 1 a (require-accepted (leb 1 a) 4 0 (q .first)),
+        (
+          leb→le a (length l) (require-accepted (leb a (length l)) 4 0 (q .rest)),
+          sym
+              (accepted-same (r .rest)),
+        ),
+      )
 
   pub accessNumber-mem : {u : Access} → accessNumber l a ≡ accepted u → Mem u l
-  accessNumber-mem e = let r = accessNumber-accepted e in let h = r .0 in let g = r .1 .0 in Memᴰ·cast (r .1 .1) (getD-mem l (a - 1) blank (omega arith))
+  accessNumber-mem e = let r = accessNumber-accepted e in let h = r .0 in let g = r .1 .0 in Memᴰ·cast (r .1 .1)
+      (getD-mem l (a - 1) blank (omega arith))
 
   -- no access has that number
   pub record NoAccess (n p : ℕ) : Type 0 where
@@ -155,8 +177,18 @@ module _ (l : List Access) (a : ℕ) where
   pub accessNumber-refused : {n p : ℕ} → accessNumber l a ≡ refused n p → NoAccess n p
   unfolding accessNumber
   accessNumber-refused e = ⊎-elim
-      (λ f. ⊎-elim (λ g. let r = require-refused (leb 1 a) 4 0 g in record { four = r .number; nowhere = r .place; none = inl (nleb→lt 1 a (not-T (leb 1 a) (r .fails))) })
-      (λ g. let r = require-refused (leb a (length l)) 4 0 (g .rest) in record { four = r .number; nowhere = r .place; none = inr (nleb→lt a (length l) (not-T (leb a (length l)) (r .fails))) })
+      (λ f. ⊎-elim (λ g. let r = require-refused (leb 1 a) 4 0 g in record {
+        four = r .number;
+        nowhere = r .place;
+        none = inl
+            (nleb→lt 1 a (not-T (leb 1 a) (r .fails)));
+      })
+      (λ g. let r = require-refused (leb a (length l)) 4 0 (g .rest) in record {
+        four = r .number;
+        nowhere = r .place;
+        none = inr
+            (nleb→lt a (length l) (not-T (leb a (length l)) (r .fails)));
+      })
       (then-refused (require (leb 1 a) 4 0) (require (leb a (length l)) 4 0) f))
       (λ f. not-both (f .rest))
       (then-refused (require (leb 1 a) 4 0 >> require (leb a (length l)) 4 0) (accepted (getD l (a - 1) blank)) e)
@@ -175,7 +207,8 @@ module _ (d : Answer Ticket) (a b : ℕ) where
   quick-accepted e =
       let r = bind-accepted (admitOf d) asked e in
       let q = bind-accepted (accessNumber (allAccesses (r .value .nest)) a) (second (r .value)) (r .rest) in
-      let s = bind-accepted (accessNumber (allAccesses (r .value .nest)) b) (λ v. accepted (quickTest (r .value .nest .loops) (q .value) v)) (q .rest) in
+      let s = bind-accepted (accessNumber (allAccesses (r .value .nest)) b) (λ v. accepted (quickTest (r .value .nest .loops) (q .value) v))
+      (q .rest) in
       (r .value, q .value, s .value, r .first, q .first, s .first, sym (accepted-same (s .rest)))
 
   pub quick-refused : {n p : ℕ} → quickOf d a b ≡ refused n p

@@ -24,7 +24,8 @@ abbrev pub StepsPass : List Step → List (List Sign) → Nest → Type 0
 StepsPass [] vs N = Unit {0}
 StepsPass (t ∷ ts) vs N = StepPasses t vs N × StepsPass ts (vectorsAfter t vs) (nestAfter t N)
 
-pub judgeSteps-accepted : (k : ℕ) (ts : List Step) (vs : List (List Sign)) (N : Nest) {N′ : Nest} → judgeSteps k ts vs N ≡ accepted N′ → (N′ ≡ nestAfterAll ts N) × StepsPass ts vs N
+pub judgeSteps-accepted : (k : ℕ) (ts : List Step) (vs : List (List Sign)) (N : Nest) {N′ : Nest} → judgeSteps k ts vs N ≡ accepted N′
+    → (N′ ≡ nestAfterAll ts N) × StepsPass ts vs N
 unfolding judgeSteps nestAfterAll
 judgeSteps-accepted k [] vs N e = (cc, tt)
 judgeSteps-accepted k (t ∷ ts) vs N e =
@@ -32,11 +33,13 @@ judgeSteps-accepted k (t ∷ ts) vs N e =
     let q = judgeSteps-accepted (suc k) ts (vectorsAfter t vs) (nestAfter t N) (r .rest) in
     (q .0, (step-accepted k t vs N (r .first), q .1))
 
-pub accepted-judgeSteps : (k : ℕ) (ts : List Step) (vs : List (List Sign)) (N : Nest) → StepsPass ts vs N → judgeSteps k ts vs N ≡ accepted (nestAfterAll ts N)
+pub accepted-judgeSteps : (k : ℕ) (ts : List Step) (vs : List (List Sign)) (N : Nest) → StepsPass ts vs N
+    → judgeSteps k ts vs N ≡ accepted (nestAfterAll ts N)
 unfolding judgeSteps nestAfterAll
 accepted-judgeSteps k [] vs N h = refl
 accepted-judgeSteps k (t ∷ ts) vs N h =
-    then-pass (judgeSteps (suc k) ts (vectorsAfter t vs) (nestAfter t N)) (accepted-step k t vs N (h .0)) ∙ accepted-judgeSteps (suc k) ts (vectorsAfter t vs) (nestAfter t N) (h .1)
+    then-pass (judgeSteps (suc k) ts (vectorsAfter t vs) (nestAfter t N)) (accepted-step k t vs N (h .0))
+    ∙ accepted-judgeSteps (suc k) ts (vectorsAfter t vs) (nestAfter t N) (h .1)
 
 -- a step with some before it and some after it
 pub passes-at : (front : List Step) (t : Step) (back : List Step) (vs : List (List Sign)) (N : Nest)
@@ -65,11 +68,20 @@ pub record Rejected (k : ℕ) (ts : List Step) (vs : List (List Sign)) (N : Nest
   pub pass : StepsPass front vs N
   pub reason : Reason step (vectorsAfterAll front vs) (nestAfterAll front N) n
 
-pub judgeSteps-refused : (k : ℕ) (ts : List Step) (vs : List (List Sign)) (N : Nest) {n p : ℕ} → judgeSteps k ts vs N ≡ refused n p → Rejected k ts vs N n p
+pub judgeSteps-refused : (k : ℕ) (ts : List Step) (vs : List (List Sign)) (N : Nest) {n p : ℕ} → judgeSteps k ts vs N ≡ refused n p
+    → Rejected k ts vs N n p
 unfolding judgeSteps vectorsAfterAll nestAfterAll
 judgeSteps-refused k [] vs N e = not-both e
 judgeSteps-refused k (t ∷ ts) vs N e = ⊎-elim
-    (λ f. let r = step-refused k t vs N f in let q = r .0 in record { front = []; step = t; back = ts; parts = refl; number = omega arith; pass = tt; reason = r .1 })
+    (λ f. let r = step-refused k t vs N f in let q = r .0 in record {
+      front = [];
+      step = t;
+      back = ts;
+      parts = refl;
+      number = omega arith;
+      pass = tt;
+      reason = r .1;
+    })
     (λ f. let r = judgeSteps-refused (suc k) ts (vectorsAfter t vs) (nestAfter t N) (f .rest) in let q = r .number in record {
       front = t ∷ r .front;
       step = r .step;
@@ -81,11 +93,13 @@ judgeSteps-refused k (t ∷ ts) vs N e = ⊎-elim
     })
     (then-refused (ten k t vs N >> taking k t vs N) (judgeSteps (suc k) ts (vectorsAfter t vs) (nestAfter t N)) e)
 
-pub refused-judgeSteps : (k : ℕ) (ts : List Step) (vs : List (List Sign)) (N : Nest) {n p : ℕ} → Rejected k ts vs N n p → judgeSteps k ts vs N ≡ refused n p
+pub refused-judgeSteps : (k : ℕ) (ts : List Step) (vs : List (List Sign)) (N : Nest) {n p : ℕ} → Rejected k ts vs N n p
+    → judgeSteps k ts vs N ≡ refused n p
 unfolding judgeSteps
 refused-judgeSteps k ts vs N {n} r =
     ap (λ us. judgeSteps k us vs N) (r .parts) ∙ judgeSteps-resume k (r .front) (r .step ∷ r .back) vs N (r .pass)
-    ∙ then-stop (judgeSteps (suc (k + length (r .front))) (r .back) (vectorsAfter (r .step) (vectorsAfterAll (r .front) vs)) (nestAfter (r .step) (nestAfterAll (r .front) N)))
+    ∙ then-stop (judgeSteps (suc (k + length (r .front))) (r .back) (vectorsAfter (r .step) (vectorsAfterAll (r .front) vs))
+    (nestAfter (r .step) (nestAfterAll (r .front) N)))
     (refused-step (k + length (r .front)) (r .step) (vectorsAfterAll (r .front) vs) (nestAfterAll (r .front) N) (r .reason))
     ∙ ap (refused n) (sym (r .number))
 
@@ -112,8 +126,10 @@ ten-exact k front t back vs N h = (to, from)
     to e = ⊎-elim
         (λ f. back-points (vectorsAfter t ws) (is-ten (step-refused j t ws M f .1)))
         (λ f. absurd (let q = judgeSteps-refused (suc j) back (vectorsAfter t ws) (nestAfter t M) (f .rest) .number in omega arith))
-        (then-refused (ten j t ws M >> taking j t ws M) (judgeSteps (suc j) back (vectorsAfter t ws) (nestAfter t M)) (sym (judgeSteps-resume k front (t ∷ back) vs N h) ∙ e))
+        (then-refused (ten j t ws M >> taking j t ws M) (judgeSteps (suc j) back (vectorsAfter t ws) (nestAfter t M))
+        (sym (judgeSteps-resume k front (t ∷ back) vs N h) ∙ e))
 
     from : T (somePointsBack (vectorsAfter t ws)) → judgeSteps k (front ++ t ∷ back) vs N ≡ refused 10 j
     from b = judgeSteps-resume k front (t ∷ back) vs N h
-        ∙ then-stop (judgeSteps (suc j) back (vectorsAfter t ws) (nestAfter t M)) (refused-step j t ws M (inl (refl, points-back (vectorsAfter t ws) b)))
+        ∙ then-stop (judgeSteps (suc j) back (vectorsAfter t ws) (nestAfter t M))
+        (refused-step j t ws M (inl (refl, points-back (vectorsAfter t ws) b)))

@@ -76,12 +76,14 @@ many-limits N h = let r = all-fails fewOf N h in record { loop = r .0; there = r
   where
     side : (L : Loop) → (T (fewOf L) → ⊥) → (16 < length (L .lower)) ⊎ (16 < length (L .upper))
     side L t = ⊎-elim
-        (λ a. inr (nleb→lt (length (L .upper)) 16 (not-T (leb (length (L .upper)) 16) (λ b. t (and-intro (leb (length (L .lower)) 16) (leb (length (L .upper)) 16) a b)))))
+        (λ a. inr (nleb→lt (length (L .upper)) 16 (not-T (leb (length (L .upper)) 16)
+        (λ b. t (and-intro (leb (length (L .lower)) 16) (leb (length (L .upper)) 16) a b)))))
         (λ a. inl (nleb→lt (length (L .lower)) 16 (not-T (leb (length (L .lower)) 16) a)))
         (T-cases (leb (length (L .lower)) 16))
 
 pub limits-many : (N : List Loop) → TooMany N → T (fewLimits N) → ⊥
-limits-many N r t = let h = few-limits N t (r .loop) (r .there) in let a = h .0 in let b = h .1 in ⊎-elim (λ g. omega arith) (λ g. omega arith) (r .many)
+limits-many N r t = let h = few-limits N t (r .loop) (r .there) in let a = h .0 in let b = h .1 in ⊎-elim (λ g. omega arith) (λ g. omega arith)
+    (r .many)
 
 -- ---- the stages of a step
 
@@ -115,53 +117,85 @@ module _ (k : ℕ) (t : Step) (N : Nest) where
 
   stage-accepted : {u : Unit {0}} → eleven >> twelve ≡ accepted u → StagePasses t N
   stage-accepted e =
-      let r = then-accepted eleven twelve e in
-      (few-limits (nestAfter t N .loops) (require-accepted (fewLimits (nestAfter t N .loops)) 11 k (r .first)), test-small (nestAfter t N) (require-accepted (smallNumbers (nestAfter t N)) 12 k (r .rest)))
+      let r = then-accepted eleven twelve e in (
+        few-limits (nestAfter t N .loops) (require-accepted (fewLimits (nestAfter t N .loops)) 11 k (r .first)),
+        test-small (nestAfter t N)
+            (require-accepted (smallNumbers (nestAfter t N)) 12 k (r .rest)),
+      )
 
   accepted-stage : StagePasses t N → eleven >> twelve ≡ accepted tt
-  accepted-stage h = then-pass twelve (require-pass (fewLimits (nestAfter t N .loops)) 11 k (limits-few (nestAfter t N .loops) (h .0))) ∙ require-pass (smallNumbers (nestAfter t N)) 12 k (small-test (nestAfter t N) (h .1))
+  accepted-stage h = then-pass twelve (require-pass (fewLimits (nestAfter t N .loops)) 11 k (limits-few (nestAfter t N .loops) (h .0)))
+      ∙ require-pass (smallNumbers (nestAfter t N)) 12 k (small-test (nestAfter t N) (h .1))
 
   stage-refused : {n p : ℕ} → eleven >> twelve ≡ refused n p → (p ≡ k) × StageReason t N n
   stage-refused {n} {p} e = ⊎-elim
-      (λ f. let r = require-refused (fewLimits (nestAfter t N .loops)) 11 k f in (r .place, inl (r .number, many-limits (nestAfter t N .loops) (r .fails))))
-      (λ f. let r = require-refused (smallNumbers (nestAfter t N)) 12 k (f .rest) in
-      (r .place, inr (r .number, (few-limits (nestAfter t N .loops) (require-accepted (fewLimits (nestAfter t N .loops)) 11 k (f .first)), test-large (nestAfter t N) (r .fails)))))
+      (λ f. let r = require-refused (fewLimits (nestAfter t N .loops)) 11 k f in (
+        r .place,
+        inl
+            (r .number, many-limits (nestAfter t N .loops) (r .fails)),
+      ))
+      (λ f. let r = require-refused (smallNumbers (nestAfter t N)) 12 k (f .rest) in (
+        r .place,
+        inr (
+          r .number,
+          (
+            few-limits (nestAfter t N .loops) (require-accepted (fewLimits (nestAfter t N .loops)) 11 k (f .first)),
+            test-large (nestAfter t N) (r .fails),
+          ),
+        ),
+      ))
       (then-refused eleven twelve e)
 
   refused-stage : {n : ℕ} → StageReason t N n → eleven >> twelve ≡ refused n k
-  refused-stage (inl r) = rw (r .0) (then-stop twelve (require-stop (fewLimits (nestAfter t N .loops)) 11 k (limits-many (nestAfter t N .loops) (r .1))))
+  refused-stage (inl r) = rw (r .0) (then-stop twelve (require-stop (fewLimits (nestAfter t N .loops)) 11 k
+      (limits-many (nestAfter t N .loops) (r .1))))
   refused-stage (inr r) = rw (r .0)
-      (then-pass twelve (require-pass (fewLimits (nestAfter t N .loops)) 11 k (limits-few (nestAfter t N .loops) (r .1 .0))) ∙ require-stop (smallNumbers (nestAfter t N)) 12 k (large-test (nestAfter t N) (r .1 .1)))
+      (then-pass twelve (require-pass (fewLimits (nestAfter t N .loops)) 11 k (limits-few (nestAfter t N .loops) (r .1 .0)))
+      ∙ require-stop (smallNumbers (nestAfter t N)) 12 k (large-test (nestAfter t N) (r .1 .1)))
 
 pub stages-accepted : (k : ℕ) (ts : List Step) (N : Nest) {u : Unit {0}} → judgeStages k ts N ≡ accepted u → StagesPass ts N
 unfolding judgeStages
 stages-accepted k [] N e = tt
-stages-accepted k (t ∷ ts) N e = let r = then-accepted (eleven k t N >> twelve k t N) (judgeStages k ts (nestAfter t N)) e in (stage-accepted k t N (r .first), stages-accepted k ts (nestAfter t N) (r .rest))
+stages-accepted k (t ∷ ts) N e = let r = then-accepted (eleven k t N >> twelve k t N) (judgeStages k ts (nestAfter t N)) e
+    in (stage-accepted k t N (r .first), stages-accepted k ts (nestAfter t N) (r .rest))
 
 pub accepted-stages : (k : ℕ) (ts : List Step) (N : Nest) → StagesPass ts N → judgeStages k ts N ≡ accepted tt
 unfolding judgeStages
 accepted-stages k [] N h = refl
-accepted-stages k (t ∷ ts) N h = then-pass (judgeStages k ts (nestAfter t N)) (accepted-stage k t N (h .0)) ∙ accepted-stages k ts (nestAfter t N) (h .1)
+accepted-stages k (t ∷ ts) N h = then-pass (judgeStages k ts (nestAfter t N)) (accepted-stage k t N (h .0))
+    ∙ accepted-stages k ts (nestAfter t N) (h .1)
 
 pub stages-refused : (k : ℕ) (ts : List Step) (N : Nest) {n p : ℕ} → judgeStages k ts N ≡ refused n p → (p ≡ k) × Halted ts N n
 unfolding judgeStages nestAfterAll
 stages-refused k [] N e = not-both e
 stages-refused k (t ∷ ts) N e = ⊎-elim
     (λ f. let r = stage-refused k t N f in (r .0, record { front = []; stage = t; back = ts; parts = refl; pass = tt; reason = r .1 }))
-    (λ f. let r = stages-refused k ts (nestAfter t N) (f .rest) in let q = r .1 in
-    (r .0, record { front = t ∷ q .front; stage = q .stage; back = q .back; parts = ap (t ∷_) (q .parts); pass = (stage-accepted k t N (f .first), q .pass); reason = q .reason }))
+    (λ f. let r = stages-refused k ts (nestAfter t N) (f .rest) in let q = r .1 in (
+      r .0,
+      record {
+        front = t ∷ q .front;
+        stage = q .stage;
+        back = q .back;
+        parts = ap (t ∷_) (q .parts);
+        pass = (stage-accepted k t N (f .first), q .pass);
+        reason = q .reason;
+      },
+    ))
     (then-refused (eleven k t N >> twelve k t N) (judgeStages k ts (nestAfter t N)) e)
 
-halt : (k : ℕ) (front : List Step) (t : Step) (back : List Step) (N : Nest) {n : ℕ} → StagesPass front N → StageReason t (nestAfterAll front N) n → judgeStages k (front ++ t ∷ back) N ≡ refused n k
+halt : (k : ℕ) (front : List Step) (t : Step) (back : List Step) (N : Nest) {n : ℕ} → StagesPass front N → StageReason t (nestAfterAll front N) n
+    → judgeStages k (front ++ t ∷ back) N ≡ refused n k
 unfolding judgeStages nestAfterAll
 halt k [] t back N h r = then-stop (judgeStages k back (nestAfter t N)) (refused-stage k t N r)
-halt k (u ∷ front) t back N h r = then-pass (judgeStages k (front ++ t ∷ back) (nestAfter u N)) (accepted-stage k u N (h .0)) ∙ halt k front t back (nestAfter u N) (h .1) r
+halt k (u ∷ front) t back N h r = then-pass (judgeStages k (front ++ t ∷ back) (nestAfter u N)) (accepted-stage k u N (h .0))
+    ∙ halt k front t back (nestAfter u N) (h .1) r
 
 pub refused-stages : (k : ℕ) (ts : List Step) (N : Nest) {n : ℕ} → Halted ts N n → judgeStages k ts N ≡ refused n k
 refused-stages k ts N h = ap (λ us. judgeStages k us N) (h .parts) ∙ halt k (h .front) (h .stage) (h .back) N (h .pass) (h .reason)
 
 -- the nest after the last stage
-pub stages-final : (t : Step) (ts : List Step) (N : Nest) → StagesPass (t ∷ ts) N → Few (nestAfterAll (t ∷ ts) N .loops) × Small (nestAfterAll (t ∷ ts) N)
+pub stages-final : (t : Step) (ts : List Step) (N : Nest) → StagesPass (t ∷ ts) N → Few (nestAfterAll (t ∷ ts) N .loops)
+    × Small (nestAfterAll (t ∷ ts) N)
 unfolding nestAfterAll
 stages-final t [] N h = h .0
 stages-final t (u ∷ ts) N h = stages-final u ts (nestAfter t N) (h .1)
@@ -195,13 +229,19 @@ module _ (k : ℕ) (t : Step) (vs : List (List Sign)) (N : Nest) where
   taking = judgeStages k (stages t) N
 
   ten-accepted : {u : Unit {0}} → ten ≡ accepted u → Forwards (vectorsAfter t vs)
-  ten-accepted e = points-forwards (vectorsAfter t vs) (T-not (somePointsBack (vectorsAfter t vs)) (require-accepted (not (somePointsBack (vectorsAfter t vs))) 10 k e))
+  ten-accepted e = points-forwards (vectorsAfter t vs) (T-not (somePointsBack (vectorsAfter t vs))
+      (require-accepted (not (somePointsBack (vectorsAfter t vs))) 10 k e))
 
   accepted-ten : Forwards (vectorsAfter t vs) → ten ≡ accepted tt
-  accepted-ten h = require-pass (not (somePointsBack (vectorsAfter t vs))) 10 k (not-T (somePointsBack (vectorsAfter t vs)) (forwards-points (vectorsAfter t vs) h))
+  accepted-ten h = require-pass (not (somePointsBack (vectorsAfter t vs))) 10 k (not-T (somePointsBack (vectorsAfter t vs))
+      (forwards-points (vectorsAfter t vs) h))
 
   pub step-accepted : {u : Unit {0}} → ten >> taking ≡ accepted u → StepPasses t vs N
-  step-accepted e = let r = then-accepted ten taking e in record { forwards = ten-accepted (r .first); taken = stages-accepted k (stages t) N (r .rest) }
+  step-accepted e = let r = then-accepted ten taking e in record {
+    forwards = ten-accepted (r .first);
+    taken = stages-accepted k (stages t) N
+        (r .rest);
+  }
 
   pub accepted-step : StepPasses t vs N → ten >> taking ≡ accepted tt
   accepted-step h = then-pass taking (accepted-ten (h .forwards)) ∙ accepted-stages k (stages t) N (h .taken)
@@ -214,5 +254,6 @@ module _ (k : ℕ) (t : Step) (vs : List (List Sign)) (N : Nest) where
       (then-refused ten taking e)
 
   pub refused-step : {n : ℕ} → Reason t vs N n → ten >> taking ≡ refused n k
-  refused-step (inl r) = rw (r .0) (then-stop taking (require-stop (not (somePointsBack (vectorsAfter t vs))) 10 k (λ g. T-not (somePointsBack (vectorsAfter t vs)) g (back-points (vectorsAfter t vs) (r .1)))))
+  refused-step (inl r) = rw (r .0) (then-stop taking (require-stop (not (somePointsBack (vectorsAfter t vs))) 10 k
+      (λ g. T-not (somePointsBack (vectorsAfter t vs)) g (back-points (vectorsAfter t vs) (r .1)))))
   refused-step (inr r) = then-pass taking (accepted-ten (r .0)) ∙ refused-stages k (stages t) N (r .1)

@@ -14,7 +14,7 @@ use Rattle.model.specs.Grammar.{total}
 use Rattle.model.specs.Points.{iterations}
 use Rattle.model.specs.Judge.{judgedOf, Judged}
 use Rattle.model.specs.Store.{runNest}
-use Rattle.model.specs.Entries.{transparent, runnable, ran, runOf}
+use Rattle.model.specs.Entries.{transparent, runnable, runOutcome, runOf}
 use Rattle.model.proofs.Answers.AnswerLaws.{not-both, accepted-same, bind-accepted, bind-refused, then-accepted, then-refused, require-accepted, require-refused}
 use Rattle.model.proofs.Answers.CheckLaws.{FirstBad, firstBad-map, checks-accepted, checks-refused}
 
@@ -91,7 +91,8 @@ module _ (d : Answer Ticket) (words : List ℕ) where
         right = eqb→eq (length words) (total (j .ticket .nest .arrays)) (require-accepted (rightSize j) 16 0 (s .rest));
       })
 
-  pub runnable-refused : {n p : ℕ} → runnable d words ≡ refused n p → (judgedOf d ≡ refused n p) ⊎ ((j : Judged) × (judgedOf d ≡ accepted j) × NotRun j words n p)
+  pub runnable-refused : {n p : ℕ} → runnable d words ≡ refused n p → (judgedOf d ≡ refused n p)
+      ⊎ ((j : Judged) × (judgedOf d ≡ accepted j) × NotRun j words n p)
   unfolding runnable
   runnable-refused {n} {p} e = ⊎-elim inl (λ r. inr (r .value, r .first, why (r .value) (r .rest))) (bind-refused (judgedOf d) checked e)
     where
@@ -100,7 +101,12 @@ module _ (d : Answer Ticket) (words : List ℕ) where
           (λ g. ⊎-elim (λ h. inl (transparent-refused 1 (j .ticket .nest .statements) h))
           (λ h. let r = require-refused (rightSize j) 16 0 (h .rest) in inr (
             transparent-accepted 1 (j .ticket .nest .statements) (h .first),
-            record { sixteen = r .number; nowhere = r .place; wrong = λ q. r .fails (subst (λ m. T (eqb (length words) m)) q (eqb-refl (length words))) },
+            record {
+              sixteen = r .number;
+              nowhere = r .place;
+              wrong = λ q. r .fails
+                  (subst (λ m. T (eqb (length words) m)) q (eqb-refl (length words)));
+            },
           ))
           (then-refused (clearly j) (require (rightSize j) 16 0) g))
           (λ g. not-both (g .rest))
@@ -108,14 +114,15 @@ module _ (d : Answer Ticket) (words : List ℕ) where
 
 -- ---- the entry
 
-ran-refused : (a : Answer Judged) (words : List ℕ) {n p : ℕ} → ran a words .answer ≡ refused n p → (ran a words .memory ≡ words) × (a ≡ refused n p)
-unfolding ran
+ran-refused : (a : Answer Judged) (words : List ℕ) {n p : ℕ} → runOutcome a words .answer ≡ refused n p → (runOutcome a words .memory ≡ words)
+    × (a ≡ refused n p)
+unfolding runOutcome
 ran-refused (refused m q) words e = (refl, cc)
 ran-refused (accepted j) words e = not-both e
 
-ran-accepted : (a : Answer Judged) (words : List ℕ) {c : ℕ} → ran a words .answer ≡ accepted c
-    → (j : Judged) × (a ≡ accepted j) × (c ≡ length (iterations (j .ticket .nest .loops))) × (ran a words .memory ≡ runNest (j .new) words)
-unfolding ran
+ran-accepted : (a : Answer Judged) (words : List ℕ) {c : ℕ} → runOutcome a words .answer ≡ accepted c
+    → (j : Judged) × (a ≡ accepted j) × (c ≡ length (iterations (j .ticket .nest .loops))) × (runOutcome a words .memory ≡ runNest (j .new) words)
+unfolding runOutcome
 ran-accepted (refused m q) words e = not-both (sym e)
 ran-accepted (accepted j) words e = (j, refl, sym (accepted-same e), refl)
 

@@ -55,7 +55,8 @@ statement-test s = all-parts small accessNumbers smallAccess access-test (access
 numbers-test : (N : Nest) → smallNumbers N ≡ all small (nestNumbers N)
 unfolding smallNumbers nestNumbers
 numbers-test N =
-    ap₂ _&&_ (all-parts small loopNumbers smallLoop loop-test (N .loops)) (all-parts small statementNumbers (λ s. all smallAccess (accessesOf s)) statement-test (N .statements))
+    ap₂ _&&_ (all-parts small loopNumbers smallLoop loop-test (N .loops)) (all-parts small statementNumbers (λ s. all smallAccess (accessesOf s))
+    statement-test (N .statements))
     ∙ sym (all-join small (flatMap loopNumbers (N .loops)) (flatMap statementNumbers (N .statements)))
 
 -- ---- small or not

@@ -9,31 +9,35 @@ use lib.ListN.{length}
 use Rattle.model.specs.Answer.{Answer, accepted, refused, _>>_}
 use Rattle.model.specs.Ticket.{Nest, Ticket}
 use Rattle.model.specs.Points.{iterations}
-use Rattle.model.specs.Bounds.{space, sprawl, inArrays, admitted}
+use Rattle.model.specs.Bounds.{space, newSpace, inArrays, admitted}
 use Rattle.model.specs.Steps.{vectorsAfterAll}
 use Rattle.model.specs.Limits.{nestAfterAll}
 use Rattle.model.specs.Judge.{judgeSteps, directionsOf, admitOf, Judged, judgeTicket, judgedOf}
 use Rattle.model.proofs.Answers.AnswerLaws.{not-both, accepted-same, bind-accepted, bind-refused, then-accepted, then-refused}
 use Rattle.model.proofs.Answers.PassLaws.{bind-pass, bind-stop, then-pass}
-use Rattle.model.proofs.Points.BoundLaws.{Overrun, space-refused, sprawl-refused}
+use Rattle.model.proofs.Points.BoundLaws.{Overrun, space-refused, new-space-refused}
 use Rattle.model.proofs.Answers.CheckLaws.{FirstBad}
-use Rattle.model.proofs.Points.ArrayLaws.{Strays, Stays, arrays-refused}
+use Rattle.model.proofs.Points.ArrayLaws.{Violates, Stays, arrays-refused}
 use Rattle.model.proofs.Verdict.JudgeStepLaws.{reason-number}
 use Rattle.model.proofs.Verdict.JudgeLaws.{Rejected, StepsPass, judgeSteps-accepted, accepted-judgeSteps, judgeSteps-refused}
 
 -- ---- 7, 8 and 9
 
 module _ (N : Nest) where
-  pub admitted-accepted : admitted N ≡ accepted tt → (space (N .loops) ≡ accepted tt) × (inArrays (N .arrays) (iterations (N .loops)) 1 (N .statements) ≡ accepted tt)
+  pub admitted-accepted : admitted N ≡ accepted tt → (space (N .loops) ≡ accepted tt)
+      × (inArrays (N .arrays) (iterations (N .loops)) 1 (N .statements) ≡ accepted tt)
   unfolding admitted
-  admitted-accepted e = let r = then-accepted (space (N .loops)) (inArrays (N .arrays) (iterations (N .loops)) 1 (N .statements)) e in (r .first, r .rest)
+  admitted-accepted e = let r = then-accepted (space (N .loops)) (inArrays (N .arrays) (iterations (N .loops)) 1 (N .statements)) e
+      in (r .first, r .rest)
 
   -- 7 and 8 before 9
   pub admitted-refused : {n p : ℕ} → admitted N ≡ refused n p
       → Overrun 7 8 32767 4096 (N .loops) 1 (length (N .loops)) n p
-      ⊎ ((space (N .loops) ≡ accepted tt) × ((n ≡ 9) × FirstBad (Strays (N .arrays) (iterations (N .loops))) (Stays (N .arrays) (iterations (N .loops))) 1 (N .statements) p))
+      ⊎ ((space (N .loops) ≡ accepted tt) × ((n ≡ 9) × FirstBad (Violates (N .arrays) (iterations (N .loops)))
+      (Stays (N .arrays) (iterations (N .loops))) 1 (N .statements) p))
   unfolding admitted
-  admitted-refused {n} {p} e = ⊎-elim (λ f. inl (space-refused (N .loops) n p f)) (λ f. inr (f .first, arrays-refused (N .arrays) (iterations (N .loops)) 1 (N .statements) (f .rest)))
+  admitted-refused {n} {p} e = ⊎-elim (λ f. inl (space-refused (N .loops) n p f))
+      (λ f. inr (f .first, arrays-refused (N .arrays) (iterations (N .loops)) 1 (N .statements) (f .rest)))
       (then-refused (space (N .loops)) (inArrays (N .arrays) (iterations (N .loops)) 1 (N .statements)) e)
 
   pub admitted-number : {n p : ℕ} → admitted N ≡ refused n p → (7 ≤ n) × (n ≤ 9)
@@ -60,7 +64,8 @@ module _ (d : Answer Ticket) where
   pub admit-refused : {n p : ℕ} → admitOf d ≡ refused n p → (d ≡ refused n p) ⊎ ((T : Ticket) × (d ≡ accepted T) × (admitted (T .nest) ≡ refused n p))
   unfolding admitOf
   admit-refused e = ⊎-elim inl
-      (λ r. ⊎-elim (λ f. inr (r .value, r .first, f)) (λ f. not-both (f .rest)) (then-refused (admitted (r .value .nest)) (accepted (r .value)) (r .rest)))
+      (λ r. ⊎-elim (λ f. inr (r .value, r .first, f)) (λ f. not-both (f .rest)) (then-refused (admitted (r .value .nest)) (accepted (r .value))
+      (r .rest)))
       (bind-refused d (λ T. admitted (T .nest) >> accepted T) e)
 
 -- ---- 10 to 13
@@ -71,20 +76,24 @@ module _ (T : Ticket) where
   made = nestAfterAll (T .steps) (T .nest)
 
   abbrev pub verdict : Nest → Answer Judged
-  verdict N = sprawl (N .loops) >> accepted (record { ticket = T; new = N })
+  verdict N = newSpace (N .loops) >> accepted (record { ticket = T; new = N })
 
   pub judgeTicket-accepted : {j : Judged} → judgeTicket T ≡ accepted j
-      → (j ≡ record { ticket = T; new = made }) × (StepsPass (T .steps) (directionsOf (T .nest)) (T .nest) × (sprawl (made .loops) ≡ accepted tt))
+      → (j ≡ record { ticket = T; new = made }) × (StepsPass (T .steps) (directionsOf (T .nest)) (T .nest) × (newSpace (made .loops) ≡ accepted tt))
   unfolding judgeTicket
   judgeTicket-accepted {j} e =
       let r = bind-accepted (judgeSteps 1 (T .steps) (directionsOf (T .nest)) (T .nest)) verdict e in
       let s = judgeSteps-accepted 1 (T .steps) (directionsOf (T .nest)) (T .nest) (r .first) in
-      let q = then-accepted (sprawl (r .value .loops)) (accepted (record { ticket = T; new = r .value })) (r .rest) in
-      (sym (accepted-same (q .rest)) ∙ ap (λ N. record { ticket = T; new = N }) (s .0), (s .1, subst (λ N. sprawl (N .loops) ≡ accepted tt) (s .0) (q .first)))
+      let q = then-accepted (newSpace (r .value .loops)) (accepted (record { ticket = T; new = r .value })) (r .rest) in (
+        sym (accepted-same (q .rest)) ∙ ap (λ N. record { ticket = T; new = N }) (s .0),
+        (s .1, subst (λ N. newSpace (N .loops) ≡ accepted tt) (s .0) (q .first)),
+      )
 
-  pub accepted-judgeTicket : StepsPass (T .steps) (directionsOf (T .nest)) (T .nest) → sprawl (made .loops) ≡ accepted tt → judgeTicket T ≡ accepted (record { ticket = T; new = made })
+  pub accepted-judgeTicket : StepsPass (T .steps) (directionsOf (T .nest)) (T .nest) → newSpace (made .loops) ≡ accepted tt
+      → judgeTicket T ≡ accepted (record { ticket = T; new = made })
   unfolding judgeTicket
-  accepted-judgeTicket h e = bind-pass verdict (accepted-judgeSteps 1 (T .steps) (directionsOf (T .nest)) (T .nest) h) ∙ then-pass (accepted (record { ticket = T; new = made })) e
+  accepted-judgeTicket h e = bind-pass verdict (accepted-judgeSteps 1 (T .steps) (directionsOf (T .nest)) (T .nest) h)
+      ∙ then-pass (accepted (record { ticket = T; new = made })) e
 
   -- 10, 11 and 12 before 13
   pub judgeTicket-refused : {n p : ℕ} → judgeTicket T ≡ refused n p
@@ -93,8 +102,8 @@ module _ (T : Ticket) where
   unfolding judgeTicket
   judgeTicket-refused {n} {p} e = ⊎-elim (λ f. inl (judgeSteps-refused 1 (T .steps) (directionsOf (T .nest)) (T .nest) f))
       (λ r. let s = judgeSteps-accepted 1 (T .steps) (directionsOf (T .nest)) (T .nest) (r .first) in
-      ⊎-elim (λ f. inr (s .1, sprawl-refused (made .loops) n p (rw (s .0) at f))) (λ f. not-both (f .rest))
-      (then-refused (sprawl (r .value .loops)) (accepted (record { ticket = T; new = r .value })) (r .rest)))
+      ⊎-elim (λ f. inr (s .1, new-space-refused (made .loops) n p (rw (s .0) at f))) (λ f. not-both (f .rest))
+      (then-refused (newSpace (r .value .loops)) (accepted (record { ticket = T; new = r .value })) (r .rest)))
       (bind-refused (judgeSteps 1 (T .steps) (directionsOf (T .nest)) (T .nest)) verdict e)
 
   pub judgeTicket-number : {n p : ℕ} → judgeTicket T ≡ refused n p → (10 ≤ n) × (n ≤ 13)
@@ -111,7 +120,8 @@ module _ (d : Answer Ticket) where
   unfolding judgedOf
   judged-accepted e = let r = bind-accepted (admitOf d) judgeTicket e in (r .value, r .first, r .rest)
 
-  pub judged-refused : {n p : ℕ} → judgedOf d ≡ refused n p → (admitOf d ≡ refused n p) ⊎ ((T : Ticket) × (admitOf d ≡ accepted T) × (judgeTicket T ≡ refused n p))
+  pub judged-refused : {n p : ℕ} → judgedOf d ≡ refused n p → (admitOf d ≡ refused n p)
+      ⊎ ((T : Ticket) × (admitOf d ≡ accepted T) × (judgeTicket T ≡ refused n p))
   unfolding judgedOf
   judged-refused e = ⊎-elim inl (λ r. inr (r .value, r .first, r .rest)) (bind-refused (admitOf d) judgeTicket e)
 

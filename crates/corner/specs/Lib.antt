@@ -1,2 +1,0 @@
--- A nest with fewer points than another.
-pub mod Corners

@@ -1,0 +1,2 @@
+-- Laws that the crate's contracts need.
+pub mod SearchResultLaws

@@ -1,0 +1,2 @@
+-- A nest with fewer points than another.
+pub mod Subspaces

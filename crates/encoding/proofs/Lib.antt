@@ -1,5 +1,0 @@
--- Laws of the sections of a nest, then of a whole nest and of a sheet.
-pub mod SectionLaws
-pub mod StatementLaws
-pub mod EncodeLaws
-pub mod Witness

@@ -1,2 +1,0 @@
--- Laws that the crate's contracts need.
-pub mod FindingLaws

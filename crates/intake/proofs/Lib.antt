@@ -1,3 +1,0 @@
--- Laws that the crate's contracts need.
-pub mod IntakeLaws
-pub mod AdmitLaws

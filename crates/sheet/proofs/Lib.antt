@@ -1,4 +1,0 @@
--- Laws that the crate's contracts need.
-pub mod FlatLaws
-pub mod SheetLaws
-pub mod Plain

@@ -1,0 +1,87 @@
+-- Some numbers of vectors, and for each precondition a value that meets it.
+use mathlib.Core.Path.{_≡_, refl, ap}
+use mathlib.Core.Bool.{true, false}
+use mathlib.Core.List.{[], _∷_}
+use Prim.Native.Nat.{_+_, _*_}
+use native.Mathlib.Omega.{arith}
+use lib.IntN.{pos, natAbs}
+use lib.ListN.{replicate, length-replicate}
+use Rattle.integers.specs.Sign.{less, equal, greater}
+use Rattle.model.specs.Directions.{vectorCount}
+use Rattle.step_preimages.specs.Numbers.{digitsIn, base3, number, Digits}
+use Rattle.step_directions.specs.Sets.{ExchangeIn, ReversalIn, SkewIn, SectionIn, MarksIn}
+use Rattle.step_preimages.specs.Weights.{ChangeIn}
+use Rattle.step_preimages.specs.Sources.{SourceIn, JoinedIn, SkewSourceIn, GaveIn}
+use Rattle.step_directions.specs.Changes.{ComesIn, PulledIn}
+use Rattle.step_directions.specs.declared.DirectionSet.{DirectionSet}
+use Rattle.step_directions.specs.declared.VectorChange.the-variants.{Skew, Section}
+use Rattle.step_preimages.proofs.NumberLaws.{vector-digits}
+
+-- ---- numbers
+
+first-number : number (less ∷ less ∷ less ∷ less ∷ less ∷ less ∷ []) ≡ 0
+unfolding number base3 digitsIn
+first-number = refl
+
+last-number : number (greater ∷ greater ∷ greater ∷ greater ∷ greater ∷ greater ∷ []) ≡ 728
+unfolding number base3 digitsIn
+last-number = refl
+
+-- missing loops count as =
+level-number : number (equal ∷ equal ∷ []) ≡ 364
+unfolding number base3 digitsIn
+level-number = refl
+
+-- (<,>) of two loops: 0, 2, 1, 1, 1, 1
+two-number : number (less ∷ greater ∷ []) ≡ 2 * 81 + 27 + 9 + 3 + 1
+unfolding number base3 digitsIn
+two-number = refl
+
+-- ---- preconditions that are met
+
+-- the set of no vectors of two loops
+pair : DirectionSet
+pair = record { marks = replicate vectorCount false; depth = 2 }
+
+exchange-met : ExchangeIn pair 0
+unfolding pair
+exchange-met = record { few = omega arith; inside = omega arith }
+
+reversal-met : ReversalIn pair 1
+unfolding pair
+reversal-met = record { few = omega arith; inside = omega arith }
+
+skew-met : SkewIn pair 0 1 (pos 1)
+unfolding pair
+skew-met = record { few = omega arith; outer = omega arith; inside = omega arith; factor = λ e. let n = ap natAbs e in absurd (omega arith) }
+
+section-met : SectionIn pair 1
+unfolding pair
+section-met = record { few = omega arith; inside = omega arith }
+
+marks-met : MarksIn (replicate vectorCount false) 2
+marks-met = record { room = length-replicate vectorCount false; few = omega arith }
+
+change-met : ChangeIn 728 81 4
+change-met = record { below = omega arith; inside = 4; outermost = omega arith; weighs = refl }
+
+digits-met : Digits (digitsIn 6 (less ∷ []))
+digits-met = vector-digits (less ∷ [])
+
+source-met : SourceIn 728 6
+source-met = record { below = omega arith; few = omega arith }
+
+joined-met : JoinedIn 4 4
+joined-met = record { joint = omega arith; place = omega arith }
+
+skewSource-met : SkewSourceIn 0 5 728
+skewSource-met = record { below = omega arith; outer = omega arith; few = omega arith }
+
+gave-met : GaveIn (digitsIn 6 (less ∷ [])) 5 2 2
+gave-met = record { digits = digits-met; inside = omega arith; added = omega arith; replaced = omega arith }
+
+comes-met : ComesIn (Skew 0 5 true) 728
+comes-met = record { below = omega arith; few = omega arith; outer = omega arith }
+
+pulled-met : PulledIn (Section 4) 6
+pulled-met = record { few = omega arith; inside = omega arith; outer = tt }

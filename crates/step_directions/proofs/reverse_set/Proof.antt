@@ -1,0 +1,14 @@
+-- `reverse_set`: the change pulled, as the model's set.
+use borrow.Author.Needs.{needs}
+use Rattle.step_directions.proofs.AfterLaws.{reversed-set}
+use Rattle.step_directions.proofs.reverse_set.Statement.{statement}
+use Rattle.step_directions.proofs.reverse_set.Tie as tie
+
+image-set-requires : tie.Need-image-set-requires
+image-set-requires c κs = search needs
+
+returns : tie.Need-returns
+returns c = let s = c .before in reversed-set (s .args .s) (c .image-set .result) (s .args .a) (c .image-set .ensures)
+
+pub reverse-set-spec : {M : Type 1} → statement M
+reverse-set-spec = tie.close (tie.spec image-set-requires returns)

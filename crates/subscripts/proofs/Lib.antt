@@ -1,6 +1,0 @@
--- Laws over plain lists that the proofs of the crate's functions cite, and laws on a sheet whose accesses a step changed.
-pub mod StepLaws
-pub mod FormLaws
-pub mod ChangeLaws
-pub mod AccessLaws
-pub mod SheetLaws

@@ -1,0 +1,3 @@
+-- Laws that the crate's contracts need.
+pub mod CountedTicketLaws
+pub mod AdmitLaws
