@@ -245,7 +245,7 @@ fn has_room(count: usize, elements: usize, links: usize, heads: usize) -> bool
     elements <= heads
 }
 
-// `dependences` of a nest that is not small: of few points, or of any.
+// `dependences` of a large nest: of few points, or of any.
 fn dependences_in_large(
     points: &[i64],
     depth: usize,
@@ -299,8 +299,8 @@ fn dependences_in_large(
     );
 }
 
-// Marks every line that the listing of the nest has. All numbers are below `elements`; fewer points and elements have fewer links and heads to clear.
-pub fn dependences(
+// The same of more points or elements: of few, or of many.
+fn dependences_in_more(
     points: &[i64],
     depth: usize,
     count: usize,
@@ -336,6 +336,55 @@ pub fn dependences(
         return;
     }
     dependences_in_large(
+        points,
+        depth,
+        count,
+        numbers,
+        elements,
+        statements,
+        writes,
+        body,
+        marks,
+    );
+}
+
+// Marks every line that the listing of the nest has. All numbers are below `elements`; fewer points and elements have fewer links and heads to clear.
+pub fn dependences(
+    points: &[i64],
+    depth: usize,
+    count: usize,
+    numbers: &[u16],
+    elements: usize,
+    statements: &[usize],
+    writes: &[bool],
+    body: usize,
+    marks: &mut [bool],
+)
+    requires { ⌜ Ready (flat (now points) depth count (now numbers) (now statements) (now writes) body) (now marks)
+        × NumbersBelow elements (flat (now points) depth count (now numbers) (now statements) (now writes) body) ⌝ }
+    ensures { λ _. ⌜ Searched (flat (now (points .entry)) depth count (now (numbers .entry)) (now (statements .entry)) (now (writes .entry)) body)
+        (now (marks .entry)) (now (marks .exit)) ⌝ }
+{
+    if has_room(count, elements, 32, 128) {
+        let mut next = [0u16; 32];
+        let mut head = [0u16; 128];
+        let mut start = [0u16; 32];
+        mark_sources(
+            points,
+            depth,
+            count,
+            numbers,
+            statements,
+            writes,
+            body,
+            &mut next,
+            &mut head,
+            &mut start,
+            marks,
+        );
+        return;
+    }
+    dependences_in_more(
         points,
         depth,
         count,

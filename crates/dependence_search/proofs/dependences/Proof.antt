@@ -1,4 +1,4 @@
--- `dependences`: links and heads for a small nest, or for a large one.
+-- `dependences`: links and heads for a small nest, or for more.
 use mathlib.Core.Bool.{true}
 use mathlib.Core.Path.{refl}
 use native.Mathlib.Omega.{arith}
@@ -27,7 +27,7 @@ slice-aggregate-mark-sources-3 c = search needs
 mark-sources-requires : tie.Need-mark-sources-requires
 mark-sources-requires c κs = let s = c .before .before .before .before .before .before .before .before .before .before
     in let f = c .before .before .before .before .before .has-room .ensures (c .before .before .before .before .if1 .taken)
-    in (s .pre .0, lent-clear (nest s) (s .args .elements) 256 1024 (s .pre .1) (f .0) (f .1) (omega arith))
+    in (s .pre .0, lent-clear (nest s) (s .args .elements) 32 128 (s .pre .1) (f .0) (f .1) (omega arith))
 
 same-length : tie.Need-same-length
 same-length c = search needs
@@ -35,8 +35,8 @@ same-length c = search needs
 returns : tie.Need-returns
 returns c = search needs
 
-dependences-in-large-requires : tie.Need-dependences-in-large-requires
-dependences-in-large-requires c κs = search needs
+dependences-in-more-requires : tie.Need-dependences-in-more-requires
+dependences-in-more-requires c κs = search needs
 
 same-length-2 : tie.Need-same-length-2
 same-length-2 c = search needs
@@ -55,6 +55,6 @@ dependences-spec =
     mark-sources-requires
     same-length
     returns
-    dependences-in-large-requires
+    dependences-in-more-requires
     same-length-2
     returns-2)

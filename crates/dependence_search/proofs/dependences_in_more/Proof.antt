@@ -1,0 +1,60 @@
+-- `dependences_in_more`: links and heads for few points and elements, or for a large nest.
+use mathlib.Core.Bool.{true}
+use mathlib.Core.Path.{refl}
+use native.Mathlib.Omega.{arith}
+use Rattle.dependence_search.specs.Flat.{Flat, flat}
+use Rattle.dependence_search.proofs.FlatLaws.{lent-clear}
+use borrow.Author.Needs.{needs}
+use Rattle.dependence_search.proofs.dependences_in_more.Statement.{statement}
+use Rattle.dependence_search.proofs.dependences_in_more.Tie as tie
+
+abbrev nest : tie.Start → Flat
+nest s = flat (s .args .points .now) (s .args .depth) (s .args .count) (s .args .numbers .now) (s .args .statements .now) (s .args .writes .now)
+    (s .args .body)
+
+has-room-requires : tie.Need-has-room-requires
+has-room-requires c κs = search needs
+
+slice-aggregate-mark-sources : tie.Need-slice-aggregate-mark-sources
+slice-aggregate-mark-sources c = search needs
+
+slice-aggregate-mark-sources-2 : tie.Need-slice-aggregate-mark-sources-2
+slice-aggregate-mark-sources-2 c = search needs
+
+slice-aggregate-mark-sources-3 : tie.Need-slice-aggregate-mark-sources-3
+slice-aggregate-mark-sources-3 c = search needs
+
+mark-sources-requires : tie.Need-mark-sources-requires
+mark-sources-requires c κs = let s = c .before .before .before .before .before .before .before .before .before .before
+    in let f = c .before .before .before .before .before .has-room .ensures (c .before .before .before .before .if1 .taken)
+    in (s .pre .0, lent-clear (nest s) (s .args .elements) 256 1024 (s .pre .1) (f .0) (f .1) (omega arith))
+
+same-length : tie.Need-same-length
+same-length c = search needs
+
+returns : tie.Need-returns
+returns c = search needs
+
+dependences-in-large-requires : tie.Need-dependences-in-large-requires
+dependences-in-large-requires c κs = search needs
+
+same-length-2 : tie.Need-same-length-2
+same-length-2 c = search needs
+
+returns-2 : tie.Need-returns-2
+returns-2 c = search needs
+
+pub dependences-in-more-spec : {M : Type 1} → statement M
+dependences-in-more-spec =
+    tie.close
+    (tie.spec
+    has-room-requires
+    slice-aggregate-mark-sources
+    slice-aggregate-mark-sources-2
+    slice-aggregate-mark-sources-3
+    mark-sources-requires
+    same-length
+    returns
+    dependences-in-large-requires
+    same-length-2
+    returns-2)
