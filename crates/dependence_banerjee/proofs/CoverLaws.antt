@@ -12,7 +12,7 @@ use lib.ListN.{length, getD}
 use Rattle.lists.proofs.TestLaws.{true-T}
 use Rattle.model.specs.Bounds.{subscriptAt}
 use Rattle.model.specs.Directions.{signs, earlier, vectorCount}
-use Rattle.model.proofs.Quick.QuickRangeLaws.{InRanges}
+use Rattle.model.specs.Quick.{InRanges}
 use Rattle.nest_flat.specs.Layout.{formAt}
 use Rattle.nest_loop_ranges.specs.declared.Range.{Range}
 use Rattle.nest_loop_ranges.specs.Ranges.{rangesOf}

@@ -13,7 +13,6 @@ use Rattle.integers.proofs.RingLaws.{zarith}
 use Rattle.integers.proofs.RangeLaws.{size-add, test-lt}
 use Rattle.integers.proofs.Polynomial.{_⊕_, #}
 use Rattle.integers.proofs.Linear.{lin, _⊑_, _⟶_}
-use Rattle.model.proofs.Quick.QuickRangeLaws.{InRange}
 use Rattle.nest_loop_ranges.specs.declared.Range.{Range}
 use Rattle.nest_loop_ranges.specs.Ranges.{rangeAs}
 use Rattle.nest_loop_ranges.proofs.TermLaws.{copy}
@@ -22,6 +21,7 @@ use Rattle.dependence_banerjee.specs.Sums.{coefficientSum, terms, differ
 use Rattle.dependence_banerjee.specs.Spans.{Spans, Directed, RegionIn, TermIn, PairIn, Extent, Excluded}
 use Rattle.dependence_banerjee.proofs.MachineLaws.{kept, difference-is}
 use Rattle.dependence_banerjee.proofs.RegionLaws.{Outer, outer-all, outer-next, innermost, index-at}
+use Rattle.model.specs.Quick.{Contains}
 
 -- ---- the constants
 
@@ -70,7 +70,7 @@ module _ (w : List ℤ) (i j m n : ℕ) (b : List Range) (g : RegionIn w i j m n
       pair-in = let f = g .ranges .few in let x = h .low in let y = h .high in let z = s .low in let c = s .high
           in record { first-low = omega arith; first-high = omega arith; second-low = omega arith; second-high = omega arith }
 
-      term-at : (p q : List ℤ) → Directed n b u p q → InRange (rangeAs t) (coefficientSum w i k m *ℤ getD p (k - 1) (pos 0) -ℤ coefficientSum w j k
+      term-at : (p q : List ℤ) → Directed n b u p q → Contains (rangeAs t) (coefficientSum w i k m *ℤ getD p (k - 1) (pos 0) -ℤ coefficientSum w j k
           m *ℤ getD q (k - 1) (pos 0))
       term-at p q d = let l = h .few in s .holds (getD p (k - 1) (pos 0)) (getD q (k - 1) (pos 0))
           (index-at n b (g .ranges) p (d .source) (k - 1) (omega arith)) (index-at n b (g .ranges) q (d .sink) (k - 1) (omega arith))

@@ -15,7 +15,7 @@ use Rattle.integers.proofs.RangeLaws.{test-le}
 use Rattle.integers.proofs.SignLaws.{sign-self}
 use Rattle.model.specs.Quick as Model
 use Rattle.model.specs.Directions.{signs}
-use Rattle.model.proofs.Quick.QuickRangeLaws.{InRange, InRanges}
+use Rattle.model.specs.Quick.{Contains, InRanges}
 use Rattle.nest_loop_ranges.specs.declared.Range.{Range}
 use Rattle.nest_loop_ranges.specs.Ranges.{rangeAs, rangesOf, RangesIn}
 use Rattle.nest_loop_ranges.proofs.SumLaws.{noRange, ranges-at, count-of}
@@ -32,7 +32,7 @@ ranges-long [] (x ∷ xs) h = absurd h
 ranges-long (r ∷ rs) [] h = absurd h
 ranges-long (r ∷ rs) (x ∷ xs) h = ap suc (ranges-long rs xs (h .1))
 
-index-in : (rs : List Model.Range) (xs : List ℤ) (k : ℕ) → InRanges rs xs → k < length rs → InRange (getD rs k (rangeAs noRange)) (getD xs k (pos 0))
+index-in : (rs : List Model.Range) (xs : List ℤ) (k : ℕ) → InRanges rs xs → k < length rs → Contains (getD rs k (rangeAs noRange)) (getD xs k (pos 0))
 index-in [] xs k h l = absurd (omega arith)
 index-in (r ∷ rs) [] k h l = absurd h
 index-in (r ∷ rs) (x ∷ xs) zero h l = h .0
@@ -46,9 +46,9 @@ module _ (n : ℕ) (b : List Range) (f : RangesIn n b) where
   pub iteration-long : (p : List ℤ) → InRanges (rangesOf n b) p → length p ≡ n
   iteration-long p h = ranges-long (rangesOf n b) p h ∙ count-of n b f
 
-  pub index-at : (p : List ℤ) → InRanges (rangesOf n b) p → (k : ℕ) → k < n → InRange (rangeAs (getD b k noRange)) (getD p k (pos 0))
+  pub index-at : (p : List ℤ) → InRanges (rangesOf n b) p → (k : ℕ) → k < n → Contains (rangeAs (getD b k noRange)) (getD p k (pos 0))
   index-at p h k l = let c = count-of n b f in let s = f .six in let g = f .few in
-      subst (λ r. InRange r (getD p k (pos 0))) (ranges-at n b k l (omega arith)) (index-in (rangesOf n b) p k h (omega arith))
+      subst (λ r. Contains r (getD p k (pos 0))) (ranges-at n b k l (omega arith)) (index-in (rangesOf n b) p k h (omega arith))
 
   -- ---- the digits
 

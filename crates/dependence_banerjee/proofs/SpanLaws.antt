@@ -15,7 +15,6 @@ use Rattle.integers.proofs.SignLaws.{Means, sign-means, means-sign}
 use Rattle.integers.proofs.RangeLaws.{size-neg}
 use Rattle.integers.proofs.Polynomial.{_⊖_, _⊗_, ⊝}
 use Rattle.integers.proofs.Linear.{lin, _≐_}
-use Rattle.model.proofs.Quick.QuickRangeLaws.{InRange}
 use Rattle.nest_loop_ranges.specs.declared.Range.{Range}
 use Rattle.nest_loop_ranges.specs.Ranges.{rangeAs}
 use Rattle.nest_loop_ranges.proofs.TermLaws.{copy}
@@ -24,16 +23,17 @@ use Rattle.dependence_vectors.proofs.NumberLaws.{digit-unique}
 use Rattle.dependence_banerjee.specs.Spans.{SpanIn, TermDifferenceIn, Widened, Spans}
 use Rattle.dependence_banerjee.proofs.TermDifferenceLaws.{level-least, level-greatest, rising-least, rising-greatest}
 use Rattle.dependence_banerjee.proofs.MachineLaws.{kept, sum-fits, sum-is, difference-fits, difference-is}
+use Rattle.model.specs.Quick.{Contains}
 
 digit-means : (s : Sign) (x y : ℤ) → digit (sign x y) ≡ digit s → Means s x y
 digit-means s x y e = subst (λ t. Means t x y) (digit-unique (sign x y) s e) (sign-means x y)
 
 -- ---- corners
 
-stays : {r t : Range} {z x : ℤ} → Widened r z t → InRange (rangeAs r) x → InRange (rangeAs t) x
+stays : {r t : Range} {z x : ℤ} → Widened r z t → Contains (rangeAs r) x → Contains (rangeAs t) x
 stays w h = record { low = ≤ℤ-trans (w .low) (h .low); high = ≤ℤ-trans (h .high) (w .high) }
 
-first-in : {t : Range} {z : ℤ} → (t .least ≡ z) × (t .greatest ≡ z) → InRange (rangeAs t) z
+first-in : {t : Range} {z : ℤ} → (t .least ≡ z) × (t .greatest ≡ z) → Contains (rangeAs t) z
 first-in {t} {z} e = record { low = rw (e .0) (≤ℤ-refl z); high = rw (e .1) (≤ℤ-refl z) }
 
 -- ---- the indices beside an end
@@ -80,16 +80,16 @@ module _ (c d : ℤ) (r : Range) (p : SpanIn c d r) where
   level-spans t {v} {f} {g} ef et eg w = record {
     low = w .filled .low;
     high = w .filled .high;
-    holds = λ x y hx hy e. let q : x ≡ y = digit-means equal x y e in subst (λ z. InRange (rangeAs v) (c *ℤ x -ℤ d *ℤ z)) q (at x hx);
+    holds = λ x y hx hy e. let q : x ≡ y = digit-means equal x y e in subst (λ z. Contains (rangeAs v) (c *ℤ x -ℤ d *ℤ z)) q (at x hx);
   }
     where
-      first : InRange (rangeAs v) (c *ℤ r .least -ℤ d *ℤ r .least)
-      first = subst (InRange (rangeAs v)) (ef ∙ rw least-kept) (stays w (first-in {t = t} et))
+      first : Contains (rangeAs v) (c *ℤ r .least -ℤ d *ℤ r .least)
+      first = subst (Contains (rangeAs v)) (ef ∙ rw least-kept) (stays w (first-in {t = t} et))
 
-      last : InRange (rangeAs v) (c *ℤ r .greatest -ℤ d *ℤ r .greatest)
-      last = subst (InRange (rangeAs v)) (eg ∙ rw greatest-kept) (w .new)
+      last : Contains (rangeAs v) (c *ℤ r .greatest -ℤ d *ℤ r .greatest)
+      last = subst (Contains (rangeAs v)) (eg ∙ rw greatest-kept) (w .new)
 
-      at : (x : ℤ) → InRange (rangeAs r) x → InRange (rangeAs v) (c *ℤ x -ℤ d *ℤ x)
+      at : (x : ℤ) → Contains (rangeAs r) x → Contains (rangeAs v) (c *ℤ x -ℤ d *ℤ x)
       at x h = record {
         low = level-least c d (r .least) (r .greatest) x (h .low) (h .high) (v .least) (first .low) (last .low);
         high = level-greatest c d (r .least) (r .greatest) x (h .low) (h .high) (v .greatest) (first .high) (last .high);
@@ -120,14 +120,14 @@ module _ (c d : ℤ) (r : Range) (p : SpanIn c d r) where
     };
   }
     where
-      first : InRange (rangeAs v) (c *ℤ r .least -ℤ d *ℤ (r .least +ℤ pos 1))
-      first = subst (InRange (rangeAs v)) (ef ∙ rw (next-is .0, least-kept)) (stays u (stays w (first-in {t = t} et)))
+      first : Contains (rangeAs v) (c *ℤ r .least -ℤ d *ℤ (r .least +ℤ pos 1))
+      first = subst (Contains (rangeAs v)) (ef ∙ rw (next-is .0, least-kept)) (stays u (stays w (first-in {t = t} et)))
 
-      middle : InRange (rangeAs v) (c *ℤ r .least -ℤ d *ℤ r .greatest)
-      middle = subst (InRange (rangeAs v)) (eg ∙ rw (least-kept, greatest-kept)) (stays u (w .new))
+      middle : Contains (rangeAs v) (c *ℤ r .least -ℤ d *ℤ r .greatest)
+      middle = subst (Contains (rangeAs v)) (eg ∙ rw (least-kept, greatest-kept)) (stays u (w .new))
 
-      last : InRange (rangeAs v) (c *ℤ (r .greatest -ℤ pos 1) -ℤ d *ℤ r .greatest)
-      last = subst (InRange (rangeAs v)) (eh ∙ rw (last-is .0, greatest-kept)) (u .new)
+      last : Contains (rangeAs v) (c *ℤ (r .greatest -ℤ pos 1) -ℤ d *ℤ r .greatest)
+      last = subst (Contains (rangeAs v)) (eh ∙ rw (last-is .0, greatest-kept)) (u .new)
 
   -- ---- >
 
@@ -158,7 +158,7 @@ module _ (c d : ℤ) (r : Range) (p : SpanIn c d r) where
       record {
         low = q .low;
         high = q .high;
-        holds = λ x y hx hy e. subst (InRange (rangeAs v)) (sym (exchanged x y))
+        holds = λ x y hx hy e. subst (Contains (rangeAs v)) (sym (exchanged x y))
             (q .holds y x hy hx (ap digit (means-sign less y x (digit-means greater x y e))));
       }
 

@@ -9,8 +9,8 @@ use lib.ListN.{length, getD}
 use Rattle.integers.specs.Affine.{Within}
 use Rattle.model.specs.Bounds.{subscriptAt}
 use Rattle.model.specs.Directions.{signs, earlier, vectorCount}
-use Rattle.model.proofs.Quick.QuickRangeLaws.{InRanges}
 use Rattle.model.specs.Grammar.{accessRoom}
+use Rattle.model.specs.Quick.{InRanges}
 use Rattle.nest_flat.specs.Layout.{formsFrom}
 use Rattle.nest_loop_ranges.specs.declared.Range.{Range}
 use Rattle.nest_loop_ranges.specs.Ranges.{rangesOf, RangesIn}

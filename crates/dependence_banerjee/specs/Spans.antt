@@ -9,8 +9,8 @@ use Rattle.integers.proofs.OrderLaws.{_∣ℤ_}
 use Rattle.integers.specs.Sign.{sign}
 use Rattle.model.specs.Bounds.{subscriptAt}
 use Rattle.model.specs.Directions.{signs}
-use Rattle.model.proofs.Quick.QuickRangeLaws.{InRange, InRanges}
 use Rattle.model.specs.Grammar.{mostLoops}
+use Rattle.model.specs.Quick.{Contains, InRanges}
 use Rattle.nest_flat.specs.Layout.{formsFrom}
 use Rattle.nest_loop_ranges.specs.declared.Range.{Range}
 use Rattle.nest_loop_ranges.specs.Ranges.{rangeAs, rangesOf, NearRange, RangesIn}
@@ -43,13 +43,13 @@ pub record Widened (r : Range) (z : ℤ) (t : Range) : Type 0 where
   pub filled : Filled t
   pub low : t .least ≤ℤ r .least
   pub high : r .greatest ≤ℤ t .greatest
-  pub new : InRange (rangeAs t) z
+  pub new : Contains (rangeAs t) z
 
 -- t has the difference of the two terms wherever the indices have the sign with digit s
 pub record Spans (c d : ℤ) (r : Range) (s : ℕ) (t : Range) : Type 0 where
   pub low : size (t .least) ≤ 6442254336
   pub high : size (t .greatest) ≤ 6442254336
-  pub holds : (x y : ℤ) → InRange (rangeAs r) x → InRange (rangeAs r) y → digit (sign x y) ≡ s → InRange (rangeAs t) (c *ℤ x -ℤ d *ℤ y)
+  pub holds : (x y : ℤ) → Contains (rangeAs r) x → Contains (rangeAs r) y → digit (sign x y) ≡ s → Contains (rangeAs t) (c *ℤ x -ℤ d *ℤ y)
 
 -- ---- all loops
 
@@ -82,7 +82,7 @@ pub record PairIn (r t : Range) : Type 0 where
 pub record Extent (w : List ℤ) (i j m n : ℕ) (b : List Range) (u : ℕ) (t : Range) : Type 0 where
   pub low : size (t .least) ≤ 68719476736
   pub high : size (t .greatest) ≤ 68719476736
-  pub holds : (p q : List ℤ) → Directed n b u p q → InRange (rangeAs t) (difference w i j m n p q)
+  pub holds : (p q : List ℤ) → Directed n b u p q → Contains (rangeAs t) (difference w i j m n p q)
 
 -- the two sums are never equal
 abbrev pub Excluded : List ℤ → ℕ → ℕ → ℕ → ℕ → List Range → ℕ → Type 0
@@ -90,7 +90,7 @@ Excluded w i j m n b u = (p q : List ℤ) → Directed n b u p q → difference 
 
 -- no multiple of g is in r
 abbrev pub NoMultiple : Range → ℕ → Type 0
-NoMultiple r g = (z : ℤ) → InRange (rangeAs r) z → pos g ∣ℤ z → ⊥
+NoMultiple r g = (z : ℤ) → Contains (rangeAs r) z → pos g ∣ℤ z → ⊥
 
 -- no iterations have the signs
 abbrev pub NoIterations : ℕ → List Range → ℕ → Type 0

@@ -22,14 +22,14 @@ use Rattle.model.specs.Points.{iterations}
 use Rattle.model.specs.Machine.{Element, element, bodyAt}
 use Rattle.model.specs.Inside.{Earlier}
 use Rattle.model.specs.Shape.{WellFormed}
-use Rattle.model.specs.Quick.{Range, ranges}
+use Rattle.model.specs.Quick.{Range, ranges, InRanges}
 use Rattle.model.specs.Directions.{signs, earlier, Kind, Line, kindCount, vectorCount}
 use Rattle.model.specs.Listing.{linesOf}
+use Rattle.model.specs.Promises.{Fitting, sourceAccesses, sinkAccesses, Dependence}
 use Rattle.model.proofs.Points.PointLaws.{iterations-inside}
 use Rattle.model.proofs.Points.WithinLaws.{space-within}
-use Rattle.model.proofs.Quick.QuickRangeLaws.{InRanges, in-ranges}
-use Rattle.model.proofs.Listing.LineLaws.{Fitting, sourceAccesses, sinkAccesses}
-use Rattle.model.proofs.Listing.ListingLaws.{Dependence, linesOf-exact}
+use Rattle.model.proofs.Quick.QuickRangeLaws.{in-ranges}
+use Rattle.model.proofs.Listing.ListingLaws.{linesOf-exact}
 use Rattle.model.proofs.Verdict.VerdictLaws.{admitted-accepted}
 use Rattle.nest_flat.specs.Layout.{formsFrom, accessAt}
 use Rattle.nest_loop_ranges.specs.declared.Range as Code

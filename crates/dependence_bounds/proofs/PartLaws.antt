@@ -19,10 +19,10 @@ use Rattle.model.specs.Listing.{linesOf}
 use Rattle.model.specs.Answer.{accepted}
 use Rattle.model.specs.Grammar.{extents, nestRoom}
 use Rattle.model.specs.Bounds.{subscriptAt, violates, inArrays}
+use Rattle.model.specs.Promises.{Fitting, sourceAccesses, sinkAccesses, Dependence}
 use Rattle.model.proofs.Points.ArrayLaws.{off-outside, arrays-inside, accepted-arrays}
 use Rattle.model.proofs.Points.PointLaws.{iterations-inside}
-use Rattle.model.proofs.Listing.LineLaws.{Fitting, sourceAccesses, sinkAccesses}
-use Rattle.model.proofs.Listing.ListingLaws.{Dependence, linesOf-exact}
+use Rattle.model.proofs.Listing.ListingLaws.{linesOf-exact}
 use Rattle.nest_flat.specs.Flat.{limitAt, limitsAt, loopAt, loopsFrom, NestOk}
 use Rattle.nest_flat.specs.Layout.{accessAt, accessesFrom}
 use Rattle.nest_flat.proofs.FlatLaws.{limits-all, nest-runs}

@@ -28,9 +28,10 @@ use Rattle.model.specs.Entries.{allAccesses}
 use Rattle.model.specs.Inside.{Earlier}
 use Rattle.model.specs.Directions.{Line, occurs, allLines, lines}
 use Rattle.model.specs.Listing.{linesOf, listing, headText, lineText}
+use Rattle.model.specs.Promises.{Valid}
 use Rattle.model.proofs.Machine.ElementLaws.{same-decides}
 use Rattle.model.proofs.Points.PointLaws.{iterations-rise}
-use Rattle.model.proofs.Store.PlaceLaws.{Valid, place-injective}
+use Rattle.model.proofs.Store.PlaceLaws.{place-injective}
 use Rattle.dependence_vectors.specs.Candidates.{row}
 use Rattle.dependence_vectors.specs.Numbers.{place}
 use Rattle.dependence_search.specs.Flat.{Flat, flat, statementOf, pointAt, Use, use·of, usesFrom, uses, noUse, useAt, Describes, Ready, NumbersBelow, Searched}

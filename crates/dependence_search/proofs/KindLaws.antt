@@ -7,7 +7,7 @@ use native.Mathlib.Omega.{arith}
 use Rattle.lists.proofs.PartLaws.{row-unique}
 use Rattle.model.specs.Ticket.{Statement}
 use Rattle.model.specs.Directions.{Kind, flow, anti, output, kindCount, vectorCount}
-use Rattle.model.proofs.Listing.LineLaws.{sourceAccesses, sinkAccesses}
+use Rattle.model.specs.Promises.{sourceAccesses, sinkAccesses}
 use Rattle.dependence_vectors.specs.Numbers.{kindNumber, placeOf}
 use Rattle.dependence_search.specs.Flat.{kindOf}
 use Rattle.dependence_search.proofs.UseLaws.{side}

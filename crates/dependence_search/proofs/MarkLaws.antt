@@ -12,9 +12,10 @@ use Rattle.lists.proofs.TestLaws.{equal-test, true-T, T-same, not-T-false, sele
 use Rattle.model.specs.Ticket.{Statement}
 use Rattle.model.specs.Machine.{same, element, bodyAt, accesses}
 use Rattle.model.specs.Directions.{signs, Kind, Line, comesFirst, occurs, allLines, lines}
+use Rattle.model.specs.Promises.{Fitting}
 use Rattle.model.proofs.Machine.ElementLaws.{same-decides}
 use Rattle.model.proofs.Listing.LineOrderLaws.{allLines-mem, mem-allLines}
-use Rattle.model.proofs.Listing.LineLaws.{Fitting, Shows, line-exact, clash-exact}
+use Rattle.model.proofs.Listing.LineLaws.{Shows, line-exact, clash-exact}
 use Rattle.dependence_vectors.specs.Numbers.{number, kindNumber, placeOf, place}
 use Rattle.dependence_vectors.specs.Candidates.{code}
 use Rattle.dependence_pair_search.specs.Search.{some, Adds}

@@ -10,7 +10,7 @@ use borrow.Author.Tests.{leb-true, le-leb, lt-leb}
 use Rattle.lists.specs.Parts.{put}
 use Rattle.lists.proofs.PartLaws.{put-all}
 use Rattle.model.specs.Answer as Model
-use Rattle.model.specs.Answer.{accepted, refused, count}
+use Rattle.model.specs.Answer.{accepted, refused, countIn}
 use Rattle.model.specs.Entries.{Outcome, handOut}
 use Rattle.ticket_refusals.specs.declared.Refusal.{Refusal}
 use Rattle.ticket_refusals.specs.declared.Refusal.the-variants.{BufferTooShort}
@@ -38,15 +38,15 @@ module _ (t o : List ℕ) where
 
 -- ---- the count is within the buffer
 
-count-fits : (m : Model.Answer (List ℕ)) (o : List ℕ) → count (handOut m o .answer) ≤ length o
-unfolding handOut count
+count-fits : (m : Model.Answer (List ℕ)) (o : List ℕ) → countIn (handOut m o .answer) ≤ length o
+unfolding handOut countIn
 count-fits (refused n p) o = omega arith
 count-fits (accepted t) o = go (leb (length t) (length o)) refl
   where
-    go : (b : Bool) → b ≡ leb (length t) (length o) → count (outcome t o b .answer) ≤ length o
+    go : (b : Bool) → b ≡ leb (length t) (length o) → countIn (outcome t o b .answer) ≤ length o
     go true e = leb-true (length t) (length o) (sym e)
     go false e = omega arith
 
 pub handed-fits : (m : Model.Answer (List ℕ)) (o e : List ℕ) (n : ℕ) → OutcomeIs (handOut m o) (Accepted n) e → n ≤ length o
-unfolding count
-handed-fits m o e n h = let k : n ≡ count (handOut m o .answer) = ap count (h .answer) in omega (arith, count-fits m o)
+unfolding countIn
+handed-fits m o e n h = let k : n ≡ countIn (handOut m o .answer) = ap countIn (h .answer) in omega (arith, count-fits m o)

@@ -1,7 +1,7 @@
 -- What is packed is the answer's number, place and count.
 use mathlib.Core.Path.{_≡_, refl, sym, _∙_, ap}
 use Prim.Native.Nat.{ℕ, _+_, _*_, _%_}
-use Rattle.model.specs.Answer.{Answer, number, place, count}
+use Rattle.model.specs.Answer.{Answer, numberIn, placeIn, countIn}
 use Rattle.model.specs.Quick.{Independence}
 use Rattle.ticket_refusals.specs.declared.Refusal.{Refusal}
 use Rattle.ticket_refusals.specs.Refusals.{numberOf, placeOf}
@@ -20,27 +20,27 @@ fields-is n p c = refl
 -- ---- an answer with a count
 
 pub accepted-packed : (q n : ℕ) (a : Counted.Answer) → q ≡ fields 0 0 n → a ≡ Accepted n → q ≡ packed (Counts.answerOf a)
-unfolding packed number place count
+unfolding packed numberIn placeIn countIn
 accepted-packed q n a e h = e ∙ sym (ap (λ (x : Counted.Answer). packed (Counts.answerOf x)) h)
 
 pub refused-packed : (q : ℕ) (r : Refusal) (a : Counted.Answer) → q ≡ fields (numberOf r) (placeOf r) 0 → a ≡ Refused r
     → q ≡ packed (Counts.answerOf a)
-unfolding packed number place count
+unfolding packed numberIn placeIn countIn
 refused-packed q r a e h = e ∙ sym (ap (λ (x : Counted.Answer). packed (Counts.answerOf x)) h)
 
 -- ---- the quick test's
 
 pub apart-packed : (q : ℕ) (a : Tested.Tested) → q ≡ fields 0 0 1 → a ≡ tested.Apart → q ≡ packed (counted (Tests.answerOf a))
-unfolding packed counted number place count
+unfolding packed counted numberIn placeIn countIn
 apart-packed q a e h = e ∙ sym (ap (λ (x : Tested.Tested). packed (counted (Tests.answerOf x))) h)
 
 pub perhaps-packed : (q : ℕ) (a : Tested.Tested) → q ≡ fields 0 0 0 → a ≡ tested.Perhaps → q ≡ packed (counted (Tests.answerOf a))
-unfolding packed counted number place count
+unfolding packed counted numberIn placeIn countIn
 perhaps-packed q a e h = e ∙ sym (ap (λ (x : Tested.Tested). packed (counted (Tests.answerOf x))) h)
 
 pub refused-test : (q : ℕ) (r : Refusal) (a : Tested.Tested) → q ≡ fields (numberOf r) (placeOf r) 0 → a ≡ tested.Refused r
     → q ≡ packed (counted (Tests.answerOf a))
-unfolding packed counted number place count
+unfolding packed counted numberIn placeIn countIn
 refused-test q r a e h = e ∙ sym (ap (λ (x : Tested.Tested). packed (counted (Tests.answerOf x))) h)
 
 -- ---- any answer

@@ -1,8 +1,15 @@
--- WHAT IS PROMISED of the definitions in `specs/`, in the order of document 01. Each statement is proved where its citation says.
+-- WHAT IS PROMISED of the definitions in `specs/`, in the order of document 01. Each statement speaks of `specs/` alone (`tests/demands` tests it);
+-- behind its '=' stands the proof. How to read one:
+--   `(x : A) → B` for every x; `A → B` if A then B; `A ↔ B` exactly if; `{x : A} → B` for every x, which the checker finds by itself
+--   `(x : A) × B` there is an x with B; `A × B` both; `A ⊎ B` one or the other; `A → ⊥` not A; `Unit` and `tt` what is always true
+--   `a ≡ b` they are equal; `T t` the test t passes; `Mem x l` x stands in l; `All P l` every x in l has P; `Ordered R l` each R every later one
+--   `accepted v` the number 0 with the value v; `refused n p` the number n with the place p
+--   a record (`specs/Promises`, `specs/Reasons`) is the list of what holds together; `r .field` is one of these
+--   `List ℕ` are bytes, or the words of a store; `decode b` is what the grammar makes of a ticket's bytes b
 use mathlib.Core.Path.{_≡_}
 use mathlib.Core.Logic.{_↔_, _⊎_}
 use mathlib.Core.List.{List, [], _∷_, _++_, map}
-use Prim.Native.Nat.{ℕ, _+_, _<_}
+use Prim.Native.Nat.{ℕ, _+_, _≤_, _<_}
 use lib.Dec.{T}
 use lib.IntN.{ℤ}
 use lib.ListN.{length, take}
@@ -11,45 +18,61 @@ use Rattle.lists.specs.Membership.{Mem, All, Distinct, SameMembers}
 use Rattle.lists.specs.Order.{Ordered, Precedes}
 use Rattle.model.specs.Answer.{accepted, refused}
 use Rattle.model.specs.Words.{bytesOf}
-use Rattle.model.specs.Ticket.{Loop, Step, Nest, Ticket}
+use Rattle.model.specs.Ticket.{Loop, Access, Step, Nest, Ticket}
 use Rattle.model.specs.Grammar.{decode, decodeNest}
 use Rattle.model.specs.Points.{partialPoints, iterations}
 use Rattle.model.specs.Machine.{Instance, Accesses, State, Rules, perform, run}
 use Rattle.model.specs.Directions.{signs, backwards, earlier, conflict, Line}
 use Rattle.model.specs.Steps.{forward, vectors, vectorsAfter, vectorsAfterAll, somePointsBack}
-use Rattle.model.specs.Judge.{Judged, judged, admit, judgeSteps, directionsOf}
-use Rattle.model.specs.Encode.{encode}
+use Rattle.model.specs.Judge.{Judged, judged, admit, directionsOf}
+use Rattle.model.specs.Encode.{encode, ticketWords}
 use Rattle.model.specs.Listing.{linesOf, listing}
 use Rattle.model.specs.Quick.{apart}
-use Rattle.model.specs.Entries.{judge, write, list, quick, runEntry, allAccesses}
+use Rattle.model.specs.Entries.{judge, write, list, quick, runEntry, allAccesses, accessNumber}
 use Rattle.model.specs.Cases.{cases, AllHold}
+use Rattle.model.specs.Readings.{readings, furtherCases}
 use Rattle.model.specs.Inside.{Inside, Earlier}
 use Rattle.model.specs.Shape.{Shaped, Runs, Proper, WellFormed}
-use Rattle.model.specs.Ranges.{TicketRanges, ticketWords, Explained}
+use Rattle.model.specs.Ranges.{StepThere, TicketRanges}
+use Rattle.model.specs.Roles.{Wrong}
+use Rattle.model.specs.Reasons.{StepsPass, NotAdmitted, Because, Short, NoAccess, NotRun}
+use Rattle.model.specs.Promises.{Fitting, Dependence, LineBefore, KeepsPoints, Turns, Attained, Trade, NeverMeet}
+use Rattle.model.specs.Promises.{QuickRule, HandedOut, OneToOne, FitsFields, Promise, Left, SomeAccepts, Whole}
 use Rattle.model.proofs.CaseLaws as CaseLaws
 use Rattle.model.proofs.Grammar.TicketLaws as TicketLaws
 use Rattle.model.proofs.Grammar.GrammarLaws.{decode-sound}
-use Rattle.model.proofs.Grammar.RefusalLaws.{decode-explained}
+use Rattle.model.proofs.Grammar.WrongLaws as WrongLaws
+use Rattle.model.proofs.Grammar.BriefLaws as BriefLaws
+use Rattle.model.proofs.Grammar.CutLaws as CutLaws
 use Rattle.model.proofs.Points.PointLaws as PointLaws
 use Rattle.model.proofs.Points.EarlierLaws as EarlierLaws
 use Rattle.model.proofs.Steps.StepLaws as StepLaws
 use Rattle.model.proofs.Steps.VectorLaws as VectorLaws
+use Rattle.model.proofs.Steps.AttainLaws as AttainLaws
+use Rattle.model.proofs.Quick.QuickRuleLaws as QuickRuleLaws
 use Rattle.model.proofs.Machine.CommuteLaws as CommuteLaws
-use Rattle.model.proofs.Listing.LineLaws.{Fitting}
-use Rattle.model.proofs.Listing.LineOrderLaws.{LineBefore}
+use Rattle.model.proofs.Store.PlaceLaws as PlaceLaws
 use Rattle.model.proofs.Listing.ListingLaws as ListingLaws
-use Rattle.model.proofs.Verdict.JudgeLaws as JudgeLaws
 use Rattle.model.proofs.Verdict.EntryLaws as EntryLaws
-use Rattle.model.proofs.Verdict.RunLaws.{NotRun}
+use Rattle.model.proofs.Verdict.RunLaws as RunLaws
 use Rattle.model.proofs.Promise.TradeLaws as TradeLaws
+use Rattle.model.proofs.Promise.EntryStepLaws as EntryStepLaws
 use Rattle.model.proofs.Promise.ReasonLaws as ReasonLaws
 use Rattle.model.proofs.Promise.PromiseLaws as PromiseLaws
 use Rattle.model.proofs.Promise.WholeLaws as WholeLaws
+use Rattle.model.proofs.Promise.FitLaws as FitLaws
 
 -- ---- the worked cases, and the ticket: the grammar accepts just the bytes of one whose numbers are in range and whose lists fit
 
 pub worked-cases : AllHold cases
 worked-cases = CaseLaws.cases-hold
+
+pub readings-hold : AllHold readings
+readings-hold = CaseLaws.readings-hold
+
+-- of what no theorem says
+pub further-cases : AllHold furtherCases
+further-cases = CaseLaws.further-hold
 
 pub grammar-exact : (b : List ℕ) (K : Ticket) → All (λ x. x < 256) b
     → (decode b ≡ accepted K) ↔ ((b ≡ bytesOf (ticketWords K)) × TicketRanges K × WellFormed (K .nest))
@@ -63,13 +86,13 @@ points-rise = PointLaws.iterations-rise
 pub points-inside : (k : ℕ) (N : List Loop) → All Runs N → (y : List ℤ) → Mem y (partialPoints k N) ↔ Inside (take k N) [] y
 points-inside = PointLaws.partial-inside
 
-pub iterations-counted : (b : List ℕ) {c : ℕ} → judge b ≡ accepted c → (j : Judged) × (judged b ≡ accepted j)
-    × (c ≡ length (partialPoints (length (j .ticket .nest .loops)) (j .ticket .nest .loops)))
+pub iterations-counted : (b : List ℕ) {c : ℕ} → judge b ≡ accepted c
+    → (j : Judged) × (judged b ≡ accepted j) × (c ≡ length (partialPoints (length (j .ticket .nest .loops)) (j .ticket .nest .loops)))
 iterations-counted b = PromiseLaws.judge-counts (decode b)
 
 -- ---- steps: `undo` maps the new points one to one onto the old
 
-pub step-keeps-points : (t : Step) → Proper t → (N : List Loop) → Shaped 0 N → All Runs N → StepLaws.KeepsPoints t N
+pub step-keeps-points : (t : Step) → Proper t → (N : List Loop) → Shaped 0 N → All Runs N → KeepsPoints t N
 step-keeps-points = StepLaws.keeps-points
 
 -- ---- signs, for a general loop number
@@ -77,9 +100,12 @@ step-keeps-points = StepLaws.keeps-points
 pub signs-after : (t : Step) → Proper t → (p q : List ℤ) → length p ≡ length q → Mem (signs (forward t p) (forward t q)) (vectors t (signs p q))
 signs-after = VectorLaws.step-signs
 
+-- and a table has no vector that no two points can have
+pub signs-attained : (m : ℕ) (t : Step) → StepThere m t → (v w : List Sign) → Mem w (vectors t v) → Attained t v w
+signs-attained = AttainLaws.table-attained
+
 -- for exchange and reversal exactly that one
-pub turns-exact : (t : Step) → TradeLaws.Turns t → (p q : List ℤ) → length p ≡ length q
-    → vectors t (signs p q) ≡ signs (forward t p) (forward t q) ∷ []
+pub turns-exact : (t : Step) → Turns t → (p q : List ℤ) → length p ≡ length q → vectors t (signs p q) ≡ signs (forward t p) (forward t q) ∷ []
 turns-exact = TradeLaws.turns-signs
 
 pub backwards-means : (p q : List ℤ) → backwards (signs p q) ≡ earlier q p
@@ -87,7 +113,7 @@ backwards-means = EarlierLaws.backwards-earlier
 
 -- ---- demand 2
 
-pub line-exact : (N : Nest) (l : Line) → Mem l (linesOf N) ↔ (Fitting (length (N .statements)) (length (N .loops)) l × ListingLaws.Dependence N l)
+pub line-exact : (N : Nest) (l : Line) → Mem l (linesOf N) ↔ (Fitting (length (N .statements)) (length (N .loops)) l × Dependence N l)
 line-exact = ListingLaws.linesOf-exact
 
 pub lines-once-in-order : (N : Nest) → Ordered LineBefore (linesOf N) × Distinct (linesOf N)
@@ -96,76 +122,137 @@ lines-once-in-order N = (ListingLaws.linesOf-ordered N, ListingLaws.linesOf-dist
 pub kinds-merged : (N : Nest) (v : List Sign) → Mem v (map (λ l. l .vector) (linesOf N)) ↔ Mem v (directionsOf N)
 kinds-merged = ListingLaws.linesOf-merged
 
--- a reached step is refused with 10 exactly if a vector of the set then points backwards
-pub ten-exact : (k : ℕ) (front : List Step) (t : Step) (back : List Step) (vs : List (List Sign)) (N : Nest) → JudgeLaws.StepsPass front vs N
-    → (judgeSteps k (front ++ t ∷ back) vs N ≡ refused 10 (k + length front)) ↔ T (somePointsBack (vectorsAfter t (vectorsAfterAll front vs)))
-ten-exact = JudgeLaws.ten-exact
+-- a step that judge reaches is refused with 10 exactly if a direction then points backwards
+pub judge-ten : (b : List ℕ) (K : Ticket) → admit b ≡ accepted K
+    → (front : List Step) (t : Step) (back : List Step) → K .steps ≡ front ++ t ∷ back
+    → StepsPass front (directionsOf (K .nest)) (K .nest)
+    → (judge b ≡ refused 10 (1 + length front)) ↔ T (somePointsBack (vectorsAfter t (vectorsAfterAll front (directionsOf (K .nest)))))
+judge-ten b = EntryStepLaws.judge-ten (decode b)
 
--- while all steps so far exchange or reverse, exactly if some conflicting pair of instances trades places at it
-pub ten-trades : (N : Nest) (front : List Step) (t : Step) → All TradeLaws.Turns (front ++ t ∷ []) → JudgeLaws.StepsPass front (directionsOf N) N
-    → (k : ℕ) (back : List Step) → (judgeSteps k (front ++ t ∷ back) (directionsOf N) N ≡ refused 10 (k + length front)) ↔ TradeLaws.Trade N front t
-ten-trades = TradeLaws.ten-trades
+-- while all steps so far exchange or reverse, exactly if two conflicting instances trade places at it
+pub judge-trades : (b : List ℕ) (K : Ticket) → admit b ≡ accepted K
+    → (front : List Step) (t : Step) (back : List Step) → K .steps ≡ front ++ t ∷ back
+    → StepsPass front (directionsOf (K .nest)) (K .nest) → All Turns (front ++ t ∷ [])
+    → (judge b ≡ refused 10 (1 + length front)) ↔ Trade (K .nest) front t
+judge-trades b K a front t back e pass = EntryStepLaws.judge-trades (decode b) K a front t back e pass (decode-sound b)
 
-pub apart-never-meet : (b : List ℕ) (m n : ℕ) → quick b m n ≡ accepted apart → ReasonLaws.NeverMeet (decode b) m n
+-- the quick test says 'apart' exactly on its rule
+pub quick-rule : (b : List ℕ) (K : Ticket) → admit b ≡ accepted K → (m n : ℕ) (u v : Access)
+    → accessNumber (allAccesses (K .nest)) m ≡ accepted u → accessNumber (allAccesses (K .nest)) n ≡ accepted v
+    → (quick b m n ≡ accepted apart) ↔ QuickRule (K .nest .loops) u v
+quick-rule b = QuickRuleLaws.quick-rule (decode b)
+
+pub apart-never-meet : (b : List ℕ) (m n : ℕ) → quick b m n ≡ accepted apart → NeverMeet (decode b) m n
 apart-never-meet b = ReasonLaws.apart-never (decode b) (decode-sound b)
 
--- ---- refusal only on its condition; a refused entry leaves lent memory as it was
+-- ---- refusal exactly on its condition, for each number from 1 to 16; a refused entry leaves lent memory as it was
 
-pub judge-refuses : (b : List ℕ) {n p : ℕ} → judge b ≡ refused n p → ReasonLaws.Because (Explained b) (decode b) n p
-judge-refuses b = ReasonLaws.judge-because (Explained b) (decode b) (λ n p e. decode-explained b e)
+-- 1 to 6: the first offending word from the front
+pub grammar-refuses : (b : List ℕ) (n p : ℕ) → (decode b ≡ refused n p) ↔ Wrong b n p
+grammar-refuses = WrongLaws.decode-exact
 
-pub write-refuses : (b buffer : List ℕ) {n p : ℕ} → write b buffer .answer ≡ refused n p
-    → (write b buffer .memory ≡ buffer) × (ReasonLaws.Because (Explained b) (decode b) n p
-    ⊎ ((j : Judged) × (judged b ≡ accepted j) × EntryLaws.Short (encode (j .new)) buffer n p))
-write-refuses b = ReasonLaws.write-because (Explained b) (decode b) (λ n p e. decode-explained b e)
+-- 1 to 13
+pub judge-refuses : (b : List ℕ) (n p : ℕ) → (judge b ≡ refused n p) ↔ Because (Wrong b) (decode b) n p
+judge-refuses b = ReasonLaws.judge-exact (Wrong b) (decode b) (WrongLaws.decode-exact b)
 
-pub list-refuses : (b buffer : List ℕ) {n p : ℕ} → list b buffer .answer ≡ refused n p
-    → (list b buffer .memory ≡ buffer) × (ReasonLaws.NotAdmitted (Explained b) (decode b) n p
-    ⊎ ((K : Ticket) × (admit b ≡ accepted K) × EntryLaws.Short (listing (K .nest)) buffer n p))
-list-refuses b = ReasonLaws.list-because (Explained b) (decode b) (λ n p e. decode-explained b e)
+pub write-refuses : (b buffer : List ℕ) (n p : ℕ)
+    → (write b buffer .answer ≡ refused n p)
+    ↔ (Because (Wrong b) (decode b) n p ⊎ ((j : Judged) × (judged b ≡ accepted j) × Short (encode (j .new)) buffer n p))
+write-refuses b = ReasonLaws.write-exact (Wrong b) (decode b) (WrongLaws.decode-exact b)
 
-pub quick-refuses : (b : List ℕ) (m k : ℕ) {n p : ℕ} → quick b m k ≡ refused n p
-    → ReasonLaws.NotAdmitted (Explained b) (decode b) n p ⊎ ((K : Ticket) × (admit b ≡ accepted K)
-    × (EntryLaws.NoAccess (allAccesses (K .nest)) m n p ⊎ EntryLaws.NoAccess (allAccesses (K .nest)) k n p))
-quick-refuses b = ReasonLaws.quick-because (Explained b) (decode b) (λ n p e. decode-explained b e)
+pub list-refuses : (b buffer : List ℕ) (n p : ℕ)
+    → (list b buffer .answer ≡ refused n p)
+    ↔ (NotAdmitted (Wrong b) (decode b) n p ⊎ ((K : Ticket) × (admit b ≡ accepted K) × Short (listing (K .nest)) buffer n p))
+list-refuses b = ReasonLaws.list-exact (Wrong b) (decode b) (WrongLaws.decode-exact b)
 
-pub run-refuses : (b words : List ℕ) {n p : ℕ} → runEntry b words .answer ≡ refused n p
-    → (runEntry b words .memory ≡ words) × (ReasonLaws.Because (Explained b) (decode b) n p
-    ⊎ ((j : Judged) × (judged b ≡ accepted j) × NotRun j words n p))
-run-refuses b = ReasonLaws.run-because (Explained b) (decode b) (λ n p e. decode-explained b e)
+pub quick-refuses : (b : List ℕ) (m k n p : ℕ)
+    → (quick b m k ≡ refused n p)
+    ↔ (NotAdmitted (Wrong b) (decode b) n p
+    ⊎ ((K : Ticket) × (admit b ≡ accepted K) × (NoAccess (allAccesses (K .nest)) m n p ⊎ NoAccess (allAccesses (K .nest)) k n p)))
+quick-refuses b = ReasonLaws.quick-exact (Wrong b) (decode b) (WrongLaws.decode-exact b)
+
+pub run-refuses : (b words : List ℕ) (n p : ℕ)
+    → (runEntry b words .answer ≡ refused n p) ↔ (Because (Wrong b) (decode b) n p ⊎ ((j : Judged) × (judged b ≡ accepted j) × NotRun j words n p))
+run-refuses b = ReasonLaws.run-exact (Wrong b) (decode b) (WrongLaws.decode-exact b)
+
+pub write-keeps : (b buffer : List ℕ) (n p : ℕ) → write b buffer .answer ≡ refused n p → write b buffer .memory ≡ buffer
+write-keeps b buffer n p e = EntryLaws.write-refused (decode b) buffer e .0
+
+pub list-keeps : (b buffer : List ℕ) (n p : ℕ) → list b buffer .answer ≡ refused n p → list b buffer .memory ≡ buffer
+list-keeps b buffer n p e = EntryLaws.list-refused (decode b) buffer e .0
+
+pub run-keeps : (b words : List ℕ) (n p : ℕ) → runEntry b words .answer ≡ refused n p → runEntry b words .memory ≡ words
+run-keeps b words n p e = RunLaws.run-refused (decode b) words e .0
+
+-- ---- answers fit the fields that they are handed out in; no ticket needs more than 504 words, so that the first 1009 bytes of an input decide
+
+pub judge-fits : (b : List ℕ) → FitsFields (judge b)
+judge-fits b = FitLaws.judge-fits (Wrong b) (decode b) (WrongLaws.decode-exact b) (λ n p. BriefLaws.wrong-place b) (decode-sound b)
+
+pub write-fits : (b buffer : List ℕ) → FitsFields (write b buffer .answer)
+write-fits b = FitLaws.write-fits (Wrong b) (decode b) (WrongLaws.decode-exact b) (λ n p. BriefLaws.wrong-place b) (decode-sound b)
+
+pub list-fits : (b buffer : List ℕ) → FitsFields (list b buffer .answer)
+list-fits b = FitLaws.list-fits (Wrong b) (decode b) (WrongLaws.decode-exact b) (λ n p. BriefLaws.wrong-place b) (decode-sound b)
+
+pub run-fits : (b words : List ℕ) → FitsFields (runEntry b words .answer)
+run-fits b = FitLaws.run-fits (Wrong b) (decode b) (WrongLaws.decode-exact b) (λ n p. BriefLaws.wrong-place b) (decode-sound b)
+
+-- the quick test accepts with one of two values
+pub quick-fits : (b : List ℕ) (m k n p : ℕ) → quick b m k ≡ refused n p → FitsFields (refused n p)
+quick-fits b = FitLaws.quick-fits (Wrong b) (decode b) (WrongLaws.decode-exact b) (λ n p. BriefLaws.wrong-place b) (decode-sound b)
+
+pub refusals-near : (b : List ℕ) (n p : ℕ) → decode b ≡ refused n p → (n ≤ 6) × (p ≤ 505)
+refusals-near b n p e = BriefLaws.wrong-place b (WrongLaws.decode-wrong b e)
+
+pub tickets-short : (b : List ℕ) (K : Ticket) → decode b ≡ accepted K → length b ≤ 1008
+tickets-short b K e = CutLaws.accepted-short b e
+
+pub first-bytes-decide : (b : List ℕ) (m : ℕ) → 1009 ≤ m → decode (take m b) ≡ decode b
+first-bytes-decide = CutLaws.decode-cut
 
 -- ---- the plain machine
 
-pub commute : (A : Accesses) (rules : Rules) (i j : Instance) → (T (conflict A i j) → ⊥) → (s : State)
-    → perform A rules i (perform A rules j s) ≡ perform A rules j (perform A rules i s)
+pub commute : (A : Accesses) (rules : Rules) (i j : Instance) → (T (conflict A i j) → ⊥)
+    → (s : State) → perform A rules i (perform A rules j s) ≡ perform A rules j (perform A rules i s)
 commute = CommuteLaws.commute
 
 pub reordering : (A : Accesses) (rules : Rules) (xs ys : List Instance) → Distinct xs → Distinct ys → SameMembers xs ys
-    → ((i j : Instance) → Precedes xs i j → T (conflict A i j) → Precedes ys i j) → (s : State)
-    → run (perform A rules) xs s ≡ run (perform A rules) ys s
+    → ((i j : Instance) → Precedes xs i j → T (conflict A i j) → Precedes ys i j)
+    → (s : State) → run (perform A rules) xs s ≡ run (perform A rules) ys s
 reordering A rules = CommuteLaws.reordering A rules (CommuteLaws.commute A rules)
+
+-- ---- the store: each element has a place of its own, and each word is an element's
+
+pub places : (arrays : List (List ℕ)) → OneToOne arrays
+places = PlaceLaws.one-to-one
 
 -- ---- demand 3, undivided: wherever judge, write or run gives 0, the original iterations of the new order are those of the old, each once; both
 -- orders end with equal values in every element, for all starting values and all rules; write's bytes are that nest; run's store is, word for
 -- word, what the old order leaves under the ticket's own rules
 
-pub demand-3 : (b buffer words : List ℕ) → WholeLaws.SomeAccepts (decode b) buffer words → (j : Judged) × WholeLaws.Whole (decode b) buffer words j
+pub demand-3 : (b buffer words : List ℕ) → SomeAccepts (decode b) buffer words → (j : Judged) × Whole (decode b) buffer words j
 demand-3 b = WholeLaws.accepted-whole (decode b) (decode-sound b)
 
 -- its parts
 
-pub orders-agree : (b : List ℕ) {j : Judged} → judged b ≡ accepted j → PromiseLaws.Promise (j .ticket .steps) (j .ticket .nest) (j .new)
+pub orders-agree : (b : List ℕ) {j : Judged} → judged b ≡ accepted j → Promise (j .ticket .steps) (j .ticket .nest) (j .new)
 orders-agree b = PromiseLaws.judged-promise (decode b) (decode-sound b)
 
 pub written-nest : (b buffer : List ℕ) {c : ℕ} → write b buffer .answer ≡ accepted c
-    → (j : Judged) × (judged b ≡ accepted j) × EntryLaws.HandedOut (encode (j .new)) buffer c (write b buffer .memory)
+    → (j : Judged) × (judged b ≡ accepted j) × HandedOut (encode (j .new)) buffer c (write b buffer .memory)
     × (decodeNest (encode (j .new)) ≡ accepted (j .new))
 written-nest b = PromiseLaws.write-hands (decode b) (decode-sound b)
 
-pub listed-text : (b buffer : List ℕ) {c : ℕ} → list b buffer .answer ≡ accepted c → (K : Ticket) × (admit b ≡ accepted K)
-    × EntryLaws.HandedOut (listing (K .nest)) buffer c (list b buffer .memory)
+pub listed-text : (b buffer : List ℕ) {c : ℕ} → list b buffer .answer ≡ accepted c
+    → (K : Ticket) × (admit b ≡ accepted K) × HandedOut (listing (K .nest)) buffer c (list b buffer .memory)
 listed-text b = EntryLaws.list-accepted (decode b)
 
-pub run-store : (b words : List ℕ) {c : ℕ} → runEntry b words .answer ≡ accepted c → (j : Judged) × (judged b ≡ accepted j)
-    × PromiseLaws.Left (j .ticket .nest) words (runEntry b words .memory)
+pub run-store : (b words : List ℕ) {c : ℕ} → runEntry b words .answer ≡ accepted c
+    → (j : Judged) × (judged b ≡ accepted j) × Left (j .ticket .nest) words (runEntry b words .memory)
 run-store b = PromiseLaws.run-leaves (decode b) (decode-sound b)
+
+-- and its count is that of the iterations
+pub run-counts : (b words : List ℕ) {c : ℕ} → runEntry b words .answer ≡ accepted c
+    → (j : Judged) × (judged b ≡ accepted j) × (c ≡ length (iterations (j .ticket .nest .loops)))
+run-counts b words e = let r = RunLaws.run-accepted (decode b) words e in (r .0, r .1 .verdict, r .2)

@@ -1,7 +1,10 @@
 -- What is promised of accepted tickets.
 pub mod TradeLaws
+pub mod EntryStepLaws
 pub mod KeptLaws
 pub mod WrittenLaws
 pub mod PromiseLaws
 pub mod ReasonLaws
 pub mod WholeLaws
+pub mod SizeLaws
+pub mod FitLaws

@@ -17,3 +17,4 @@ pub mod StepLaws
 pub mod WellFormedLaws
 pub mod KeepLaws
 pub mod AccessLaws
+pub mod AttainLaws

@@ -21,14 +21,14 @@ require t n p = cond t (accepted tt) (refused n p)
 
 -- Document 01 decides the number 0 at acceptance, and number and place at a refusal. It decides neither a place at acceptance nor a count at
 -- a refusal: these are 0.
-unfoldable pub number : {A : Type 0} → Answer A → ℕ
-number (accepted a) = 0
-number (refused n p) = n
+unfoldable pub numberIn : {A : Type 0} → Answer A → ℕ
+numberIn (accepted a) = 0
+numberIn (refused n p) = n
 
-unfoldable pub place : {A : Type 0} → Answer A → ℕ
-place (accepted a) = 0
-place (refused n p) = p
+unfoldable pub placeIn : {A : Type 0} → Answer A → ℕ
+placeIn (accepted a) = 0
+placeIn (refused n p) = p
 
-unfoldable pub count : Answer ℕ → ℕ
-count (accepted n) = n
-count (refused n p) = 0
+unfoldable pub countIn : Answer ℕ → ℕ
+countIn (accepted n) = n
+countIn (refused n p) = 0

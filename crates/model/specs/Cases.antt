@@ -1,14 +1,43 @@
--- The starred worked cases, 1 to 8, as one table: the ticket's words, and what an entry must answer. `proofs/CaseLaws` computes it.
+-- The starred worked cases, 1 to 8, as one table: a ticket, and what an entry must answer. Tickets, words and texts are quoted as document 01 has
+-- them; `proofs/CaseLaws` computes the table.
 use mathlib.Core.Path.{_≡_}
-use mathlib.Core.List.{List, [], _∷_}
-use Prim.Native.Nat.{ℕ}
-use lib.IntN.{ℤ, pos, negsuc}
+use mathlib.Core.Bool.{cond}
+use mathlib.Core.List.{List, [], _∷_, _++_}
+use Prim.Native.Nat.{ℕ, _+_, _*_, _-_}
+use Prim.Native.Char.{code}
+use Prim.Native.String.{String, [] as none, _∷_ as _then_}
+use lib.Dec.{eqb}
+use lib.IntN.{ℤ, pos, negℤ}
 use lib.ListN.{replicate, length}
 use Rattle.model.specs.Answer.{Answer, accepted, refused, _>>=_}
 use Rattle.model.specs.Words.{bytesOf}
 use Rattle.model.specs.Points.{iterations}
 use Rattle.model.specs.Judge.{judged}
-use Rattle.model.specs.Entries.{Outcome, judge, list, write, runEntry}
+use Rattle.model.specs.Quick.{Independence}
+use Rattle.model.specs.Entries.{Outcome, judge, list, write, quick, runEntry}
+
+-- ---- quoted text
+
+-- its characters, as bytes
+abbrev pub text : String → List ℕ
+text none = []
+text (c then s) = code c ∷ text s
+
+-- decimal numbers parted by one space; 32 is the space, 45 the minus, 48 the digit 0
+abbrev numbersFrom : (ℤ → ℤ) → ℕ → List ℕ → List ℤ
+numbersFrom minus n [] = minus (pos n) ∷ []
+numbersFrom minus n (c ∷ cs) =
+    let rest = numbersFrom (cond (eqb c 32) (λ z. z) (cond (eqb c 45) negℤ minus)) (cond (eqb c 32) 0 (cond (eqb c 45) n (n * 10 + (c - 48)))) cs in
+    cond (eqb c 32) (minus (pos n) ∷ rest) rest
+
+abbrev pub words : String → List ℤ
+words s = numbersFrom (λ z. z) 0 (text s)
+
+-- the bytes of a ticket's words
+abbrev pub ticket : String → List ℕ
+ticket s = bytesOf (words s)
+
+-- ---- questions
 
 pub data Question : Type 0 where
   -- what judge answers
@@ -19,11 +48,13 @@ pub data Question : Type 0 where
   writes : List ℤ → Question
   -- the iterations of the new nest
   visits : List (List ℤ) → Question
-  -- what run answers for a store, which a refusal leaves as it was
-  leaves : List ℕ → Answer ℕ → Question
+  -- what the quick test of two accesses answers
+  tests : ℕ → ℕ → Answer Independence → Question
+  -- what run answers for a store, and how it leaves the store
+  runs : List ℕ → Answer ℕ → List ℕ → Question
 
 pub record Case : Type 0 where
-  pub words : List ℤ
+  pub bytes : List ℕ
   pub question : Question
 
 -- the bytes fill a buffer of their size
@@ -31,137 +62,69 @@ unfoldable pub filled : List ℕ → Outcome
 filled bytes = record { answer = accepted (length bytes); memory = bytes }
 
 abbrev pub Answered : List ℕ → Question → Type 0
-Answered ticket (judges a) = judge ticket ≡ a
-Answered ticket (lists text) = list ticket (replicate (length text) 0) ≡ filled text
-Answered ticket (writes ws) = write ticket (replicate (length (bytesOf ws)) 0) ≡ filled (bytesOf ws)
-Answered ticket (visits ps) = (judged ticket >>= (λ j. accepted (iterations (j .new .loops)))) ≡ accepted ps
-Answered ticket (leaves words a) = runEntry ticket words ≡ record { answer = a; memory = words }
+Answered b (judges a) = judge b ≡ a
+Answered b (lists t) = list b (replicate (length t) 0) ≡ filled t
+Answered b (writes ws) = write b (replicate (length (bytesOf ws)) 0) ≡ filled (bytesOf ws)
+Answered b (visits ps) = (judged b >>= (λ j. accepted (iterations (j .new .loops)))) ≡ accepted ps
+Answered b (tests m n a) = quick b m n ≡ a
+Answered b (runs store a left) = runEntry b store ≡ record { answer = a; memory = left }
 
 abbrev pub Holds : Case → Type 0
-Holds c = Answered (bytesOf (c .words)) (c .question)
+Holds c = Answered (c .bytes) (c .question)
 
 abbrev pub AllHold : List Case → Type 0
 AllHold [] = Unit {0}
 AllHold (c ∷ cs) = Holds c × AllHold cs
 
--- ---- tickets
--- i 0..1, j 0..2, A(i+j) = B(i,j), exchange
-unfoldable pub case1 : List ℤ
-case1 = pos 2 ∷ pos 1 ∷ pos 1 ∷ pos 0 ∷ pos 1 ∷ pos 1 ∷ pos 1 ∷ pos 1 ∷ pos 1 ∷ pos 0 ∷ pos 0 ∷ pos 1 ∷ pos 1 ∷ pos 2 ∷ pos 0 ∷ pos 2 ∷ pos 1 ∷ pos
-    4 ∷ pos 2 ∷ pos 2 ∷ pos 3 ∷ pos 1 ∷ pos 3 ∷ pos 0 ∷ pos 1 ∷ pos 0 ∷ pos 1 ∷ pos 1 ∷ pos 1 ∷ pos 2 ∷ pos 0 ∷ pos 1 ∷ pos 0 ∷ pos 0 ∷ pos 0 ∷ pos
-    1 ∷ pos 1 ∷ pos 1 ∷ pos 1 ∷ pos 2 ∷ pos 0 ∷ []
-
--- i 0..2, j 1..3, A(i,j) = A(i,j−1), no steps
-unfoldable pub case2 : List ℤ
-case2 = pos 2 ∷ pos 1 ∷ pos 1 ∷ pos 0 ∷ pos 1 ∷ pos 1 ∷ pos 2 ∷ pos 1 ∷ pos 1 ∷ pos 1 ∷ pos 0 ∷ pos 1 ∷ pos 1 ∷ pos 3 ∷ pos 0 ∷ pos 1 ∷ pos 2 ∷ pos
-    3 ∷ pos 4 ∷ pos 1 ∷ pos 3 ∷ pos 0 ∷ pos 1 ∷ pos 0 ∷ pos 1 ∷ pos 0 ∷ pos 0 ∷ pos 0 ∷ pos 1 ∷ pos 1 ∷ pos 1 ∷ pos 0 ∷ pos 1 ∷ pos 0 ∷ negsuc 0 ∷
-    pos 0 ∷ pos 1 ∷ pos 0 ∷ []
-
-unfoldable pub case2exchanged : List ℤ
-case2exchanged = pos 2 ∷ pos 1 ∷ pos 1 ∷ pos 0 ∷ pos 1 ∷ pos 1 ∷ pos 2 ∷ pos 1 ∷ pos 1 ∷ pos 1 ∷ pos 0 ∷ pos 1 ∷ pos 1 ∷ pos 3 ∷ pos 0 ∷ pos 1 ∷ pos
-    2 ∷ pos 3 ∷ pos 4 ∷ pos 1 ∷ pos 3 ∷ pos 0 ∷ pos 1 ∷ pos 0 ∷ pos 1 ∷ pos 0 ∷ pos 0 ∷ pos 0 ∷ pos 1 ∷ pos 1 ∷ pos 1 ∷ pos 0 ∷ pos 1 ∷ pos 0 ∷
-    negsuc 0 ∷ pos 0 ∷ pos 1 ∷ pos 1 ∷ pos 1 ∷ pos 1 ∷ pos 2 ∷ pos 0 ∷ []
-
-unfoldable pub case2reversed2 : List ℤ
-case2reversed2 = pos 2 ∷ pos 1 ∷ pos 1 ∷ pos 0 ∷ pos 1 ∷ pos 1 ∷ pos 2 ∷ pos 1 ∷ pos 1 ∷ pos 1 ∷ pos 0 ∷ pos 1 ∷ pos 1 ∷ pos 3 ∷ pos 0 ∷ pos 1 ∷ pos
-    2 ∷ pos 3 ∷ pos 4 ∷ pos 1 ∷ pos 3 ∷ pos 0 ∷ pos 1 ∷ pos 0 ∷ pos 1 ∷ pos 0 ∷ pos 0 ∷ pos 0 ∷ pos 1 ∷ pos 1 ∷ pos 1 ∷ pos 0 ∷ pos 1 ∷ pos 0 ∷
-    negsuc 0 ∷ pos 0 ∷ pos 1 ∷ pos 1 ∷ pos 2 ∷ pos 2 ∷ pos 0 ∷ pos 0 ∷ []
-
-unfoldable pub case2reversed1 : List ℤ
-case2reversed1 = pos 2 ∷ pos 1 ∷ pos 1 ∷ pos 0 ∷ pos 1 ∷ pos 1 ∷ pos 2 ∷ pos 1 ∷ pos 1 ∷ pos 1 ∷ pos 0 ∷ pos 1 ∷ pos 1 ∷ pos 3 ∷ pos 0 ∷ pos 1 ∷ pos
-    2 ∷ pos 3 ∷ pos 4 ∷ pos 1 ∷ pos 3 ∷ pos 0 ∷ pos 1 ∷ pos 0 ∷ pos 1 ∷ pos 0 ∷ pos 0 ∷ pos 0 ∷ pos 1 ∷ pos 1 ∷ pos 1 ∷ pos 0 ∷ pos 1 ∷ pos 0 ∷
-    negsuc 0 ∷ pos 0 ∷ pos 1 ∷ pos 1 ∷ pos 2 ∷ pos 1 ∷ pos 0 ∷ pos 0 ∷ []
-
--- i 1..2, j 0..2, A(i,j) = A(i−1,j+1), no steps
-unfoldable pub case3 : List ℤ
-case3 = pos 2 ∷ pos 1 ∷ pos 1 ∷ pos 1 ∷ pos 1 ∷ pos 1 ∷ pos 2 ∷ pos 1 ∷ pos 1 ∷ pos 0 ∷ pos 0 ∷ pos 1 ∷ pos 1 ∷ pos 2 ∷ pos 0 ∷ pos 1 ∷ pos 2 ∷ pos
-    3 ∷ pos 4 ∷ pos 1 ∷ pos 3 ∷ pos 0 ∷ pos 1 ∷ pos 0 ∷ pos 1 ∷ pos 0 ∷ pos 0 ∷ pos 0 ∷ pos 1 ∷ pos 1 ∷ pos 1 ∷ negsuc 0 ∷ pos 1 ∷ pos 0 ∷ pos 1 ∷
-    pos 0 ∷ pos 1 ∷ pos 0 ∷ []
-
-unfoldable pub case3reversed : List ℤ
-case3reversed = pos 2 ∷ pos 1 ∷ pos 1 ∷ pos 1 ∷ pos 1 ∷ pos 1 ∷ pos 2 ∷ pos 1 ∷ pos 1 ∷ pos 0 ∷ pos 0 ∷ pos 1 ∷ pos 1 ∷ pos 2 ∷ pos 0 ∷ pos 1 ∷ pos
-    2 ∷ pos 3 ∷ pos 4 ∷ pos 1 ∷ pos 3 ∷ pos 0 ∷ pos 1 ∷ pos 0 ∷ pos 1 ∷ pos 0 ∷ pos 0 ∷ pos 0 ∷ pos 1 ∷ pos 1 ∷ pos 1 ∷ negsuc 0 ∷ pos 1 ∷ pos 0 ∷
-    pos 1 ∷ pos 0 ∷ pos 1 ∷ pos 2 ∷ pos 2 ∷ pos 2 ∷ pos 0 ∷ pos 0 ∷ pos 1 ∷ pos 1 ∷ pos 2 ∷ pos 0 ∷ []
-
-unfoldable pub case3skewed : List ℤ
-case3skewed = pos 2 ∷ pos 1 ∷ pos 1 ∷ pos 1 ∷ pos 1 ∷ pos 1 ∷ pos 2 ∷ pos 1 ∷ pos 1 ∷ pos 0 ∷ pos 0 ∷ pos 1 ∷ pos 1 ∷ pos 2 ∷ pos 0 ∷ pos 1 ∷ pos 2
-    ∷ pos 3 ∷ pos 4 ∷ pos 1 ∷ pos 3 ∷ pos 0 ∷ pos 1 ∷ pos 0 ∷ pos 1 ∷ pos 0 ∷ pos 0 ∷ pos 0 ∷ pos 1 ∷ pos 1 ∷ pos 1 ∷ negsuc 0 ∷ pos 1 ∷ pos 0 ∷ pos
-    1 ∷ pos 0 ∷ pos 1 ∷ pos 2 ∷ pos 3 ∷ pos 1 ∷ pos 2 ∷ pos 1 ∷ pos 1 ∷ pos 1 ∷ pos 2 ∷ pos 0 ∷ []
-
--- i 0..6, A(i) = A(6−i)
-unfoldable pub case4 : List ℤ
-case4 = pos 1 ∷ pos 1 ∷ pos 1 ∷ pos 0 ∷ pos 1 ∷ pos 1 ∷ pos 6 ∷ pos 1 ∷ pos 1 ∷ pos 7 ∷ pos 1 ∷ pos 3 ∷ pos 0 ∷ pos 1 ∷ pos 0 ∷ pos 1 ∷ pos 1 ∷ pos
-    1 ∷ pos 6 ∷ negsuc 0 ∷ pos 0 ∷ []
-
--- i 0..2, j i..2, exchange
-unfoldable pub case5 : List ℤ
-case5 = pos 2 ∷ pos 1 ∷ pos 1 ∷ pos 0 ∷ pos 1 ∷ pos 1 ∷ pos 2 ∷ pos 1 ∷ pos 1 ∷ pos 0 ∷ pos 1 ∷ pos 1 ∷ pos 1 ∷ pos 2 ∷ pos 0 ∷ pos 1 ∷ pos 2 ∷ pos
-    3 ∷ pos 3 ∷ pos 1 ∷ pos 1 ∷ pos 1 ∷ pos 1 ∷ pos 0 ∷ pos 1 ∷ pos 0 ∷ pos 0 ∷ pos 0 ∷ pos 1 ∷ pos 0 ∷ pos 1 ∷ pos 1 ∷ pos 1 ∷ pos 2 ∷ pos 0 ∷ []
-
--- i 0..3, j 2i..2i, exchange
-unfoldable pub case6 : List ℤ
-case6 = pos 2 ∷ pos 1 ∷ pos 1 ∷ pos 0 ∷ pos 1 ∷ pos 1 ∷ pos 3 ∷ pos 1 ∷ pos 1 ∷ pos 0 ∷ pos 2 ∷ pos 1 ∷ pos 1 ∷ pos 0 ∷ pos 2 ∷ pos 1 ∷ pos 2 ∷ pos
-    4 ∷ pos 7 ∷ pos 1 ∷ pos 1 ∷ pos 1 ∷ pos 1 ∷ pos 0 ∷ pos 1 ∷ pos 0 ∷ pos 0 ∷ pos 0 ∷ pos 1 ∷ pos 0 ∷ pos 1 ∷ pos 1 ∷ pos 1 ∷ pos 2 ∷ pos 0 ∷ []
-
--- i 0..6, section 4
-unfoldable pub case7 : List ℤ
-case7 = pos 1 ∷ pos 1 ∷ pos 1 ∷ pos 0 ∷ pos 1 ∷ pos 1 ∷ pos 6 ∷ pos 1 ∷ pos 1 ∷ pos 7 ∷ pos 1 ∷ pos 1 ∷ pos 1 ∷ pos 1 ∷ pos 0 ∷ pos 1 ∷ pos 0 ∷ pos
-    1 ∷ pos 4 ∷ pos 1 ∷ pos 4 ∷ pos 0 ∷ []
-
--- i 0..−1
-unfoldable pub case8 : List ℤ
-case8 = pos 1 ∷ pos 1 ∷ pos 1 ∷ pos 0 ∷ pos 1 ∷ pos 1 ∷ negsuc 0 ∷ pos 1 ∷ pos 1 ∷ pos 1 ∷ pos 1 ∷ pos 1 ∷ pos 1 ∷ pos 1 ∷ pos 0 ∷ pos 1 ∷ pos 0 ∷
-    pos 0 ∷ []
-
 -- ---- the table
+
+-- i 0..2, j 1..3, A(i,j) = A(i,j−1); the steps follow
+abbrev pub nest2 : List ℕ
+nest2 = ticket "2 1 1 0 1 1 2 1 1 1 0 1 1 3 0 1 2 3 4 1 3 0 1 0 1 0 0 0 1 1 1 0 1 0 -1 0 1"
+
+-- i 1..2, j 0..2, A(i,j) = A(i−1,j+1)
+abbrev nest3 : List ℕ
+nest3 = ticket "2 1 1 1 1 1 2 1 1 0 0 1 1 2 0 1 2 3 4 1 3 0 1 0 1 0 0 0 1 1 1 -1 1 0 1 0 1"
+
+abbrev case1 : List ℕ
+case1 = ticket "2 1 1 0 1 1 1 1 1 0 0 1 1 2 0 2 1 4 2 2 3 1 3 0 1 0 1 1 1 2 0 1 0 0 0 1 1 1 1 2 0"
+
+abbrev case6 : List ℕ
+case6 = ticket "2 1 1 0 1 1 3 1 1 0 2 1 1 0 2 1 2 4 7 1 1 1 1 0 1 0 0 0 1 0 1 1 1 2 0"
+
+abbrev case7 : List ℕ
+case7 = ticket "1 1 1 0 1 1 6 1 1 7 1 1 1 1 0 1 0 1 4 1 4 0"
 
 unfoldable pub cases : List Case
 cases =
     -- 1. i 0..1, j 0..2, A(i+j) = B(i,j), exchange
-    record { words = case1; question = lists (50 ∷ 32 ∷ 54 ∷ 32 ∷ 49 ∷ 10 ∷ 79 ∷ 32 ∷ 49 ∷ 32 ∷ 49 ∷ 32 ∷ 60 ∷ 62 ∷ 10 ∷ []) }
-    ∷ record { words = case1; question = judges (refused 10 1) }
-    -- 2. i 0..2, j 1..3, A(i,j) = A(i,j−1): exchange, reverse 2, reverse 1
-    ∷ record { words = case2; question = lists (50 ∷ 32 ∷ 57 ∷ 32 ∷ 49 ∷ 10 ∷ 70 ∷ 32 ∷ 49 ∷ 32 ∷ 49 ∷ 32 ∷ 61 ∷ 60 ∷ 10 ∷ []) }
-    ∷ record { words = case2exchanged; question = judges (accepted 9) }
-    ∷ record { words = case2reversed2; question = judges (refused 10 1) }
-    ∷ record { words = case2reversed1; question = judges (accepted 9) }
-    -- 3. i 1..2, j 0..2, A(i,j) = A(i−1,j+1): reverse 2 then exchange; skew by 1 then exchange
-    ∷ record { words = case3; question = lists (50 ∷ 32 ∷ 54 ∷ 32 ∷ 49 ∷ 10 ∷ 70 ∷ 32 ∷ 49 ∷ 32 ∷ 49 ∷ 32 ∷ 60 ∷ 62 ∷ 10 ∷ []) }
-    ∷ record { words = case3reversed; question = judges (accepted 6) }
-    ∷ record { words = case3skewed; question = judges (refused 10 2) }
+    record { bytes = case1; question = lists (text "2 6 1\nO 1 1 <>\n") }
+    ∷ record { bytes = case1; question = judges (refused 10 1) }
+    -- 2. only =<; exchange, reverse 2, reverse 1
+    ∷ record { bytes = nest2 ++ ticket "0"; question = lists (text "2 9 1\nF 1 1 =<\n") }
+    ∷ record { bytes = nest2 ++ ticket "1 1 1 2 0"; question = judges (accepted 9) }
+    ∷ record { bytes = nest2 ++ ticket "1 2 2 0 0"; question = judges (refused 10 1) }
+    ∷ record { bytes = nest2 ++ ticket "1 2 1 0 0"; question = judges (accepted 9) }
+    -- 3. only <>; reverse 2 then exchange; skew by 1 then exchange
+    ∷ record { bytes = nest3 ++ ticket "0"; question = lists (text "2 6 1\nF 1 1 <>\n") }
+    ∷ record { bytes = nest3 ++ ticket "2 2 2 0 0 1 1 2 0"; question = judges (accepted 6) }
+    ∷ record { bytes = nest3 ++ ticket "2 3 1 2 1 1 1 2 0"; question = judges (refused 10 2) }
     -- 4. i 0..6, A(i) = A(6−i)
-    ∷ record {
-      words = case4;
-      question = lists (49 ∷ 32 ∷ 55 ∷ 32 ∷ 50 ∷ 10 ∷ 70 ∷ 32 ∷ 49 ∷ 32 ∷ 49 ∷ 32 ∷ 60 ∷ 10 ∷ 65 ∷ 32 ∷ 49 ∷ 32 ∷ 49 ∷ 32 ∷
-          60 ∷ 10 ∷ []);
-    }
+    ∷ record { bytes = ticket "1 1 1 0 1 1 6 1 1 7 1 3 0 1 0 1 1 1 6 -1 0"; question = lists (text "1 7 2\nF 1 1 <\nA 1 1 <\n") }
     -- 5. i 0..2, j i..2, exchange: j 0..2; i ≥ 0, i ≤ 2, i ≤ j
     ∷ record {
-      words = case5;
-      question = writes (pos 2 ∷ pos 1 ∷ pos 1 ∷ pos 0 ∷ pos 1 ∷ pos 1 ∷ pos 2 ∷ pos 1 ∷ pos 1 ∷ pos 0 ∷ pos 0 ∷ pos 2 ∷ pos
-          1 ∷ pos 2 ∷ pos 0 ∷ pos 1 ∷ pos 0 ∷ pos 1 ∷ pos 1 ∷ pos 2 ∷ pos 3 ∷ pos 3 ∷ pos 1 ∷ pos 1 ∷ pos 1 ∷ pos 1 ∷ pos 0 ∷ pos 0 ∷ pos 1 ∷ pos 0 ∷
-          pos 1 ∷ pos 0 ∷ pos 0 ∷ pos 0 ∷ []);
+      bytes = ticket "2 1 1 0 1 1 2 1 1 0 1 1 1 2 0 1 2 3 3 1 1 1 1 0 1 0 0 0 1 0 1 1 1 2 0";
+      question = writes (words "2 1 1 0 1 1 2 1 1 0 0 2 1 2 0 1 0 1 1 2 3 3 1 1 1 1 0 0 1 0 1 0 0 0");
     }
     -- 6. i 0..3, j 2i..2i, exchange: j 0..6; i ≥ 0, 2i ≥ j, i ≤ 3, 2i ≤ j; 4 iterations
-    ∷ record {
-      words = case6;
-      question = writes (pos 2 ∷ pos 1 ∷ pos 1 ∷ pos 0 ∷ pos 1 ∷ pos 1 ∷ pos 6 ∷ pos 2 ∷ pos 1 ∷ pos 0 ∷ pos 0 ∷ pos 2 ∷ pos
-          0 ∷ pos 1 ∷ pos 2 ∷ pos 1 ∷ pos 3 ∷ pos 0 ∷ pos 2 ∷ pos 0 ∷ pos 1 ∷ pos 1 ∷ pos 2 ∷ pos 4 ∷ pos 7 ∷ pos 1 ∷ pos 1 ∷ pos 1 ∷ pos 1 ∷ pos 0 ∷
-          pos 0 ∷ pos 1 ∷ pos 0 ∷ pos 1 ∷ pos 0 ∷ pos 0 ∷ pos 0 ∷ []);
-    }
-    ∷ record { words = case6; question = judges (accepted 4) }
+    ∷ record { bytes = case6; question = writes (words "2 1 1 0 1 1 6 2 1 0 0 2 0 1 2 1 3 0 2 0 1 1 2 4 7 1 1 1 1 0 0 1 0 1 0 0 0") }
+    ∷ record { bytes = case6; question = judges (accepted 4) }
     -- 7. i 0..6, section 4: S 0..1; 4 and 3 iterations
+    ∷ record { bytes = case7; question = writes (words "2 1 4 -3 1 4 6 2 1 0 0 1 0 -4 2 1 3 0 1 6 -4 1 1 7 1 1 1 1 0 4 1 0 0") }
     ∷ record {
-      words = case7;
-      question = writes (pos 2 ∷ pos 1 ∷ pos 4 ∷ negsuc 2 ∷ pos 1 ∷ pos 4 ∷ pos 6 ∷ pos 2 ∷ pos 1 ∷ pos 0 ∷ pos 0 ∷ pos 1 ∷
-          pos 0 ∷ negsuc 3 ∷ pos 2 ∷ pos 1 ∷ pos 3 ∷ pos 0 ∷ pos 1 ∷ pos 6 ∷ negsuc 3 ∷ pos 1 ∷ pos 1 ∷ pos 7 ∷ pos 1 ∷ pos 1 ∷ pos 1 ∷ pos 1 ∷ pos 0
-          ∷ pos 4 ∷ pos 1 ∷ pos 0 ∷ pos 0 ∷ []);
-    }
-    ∷ record {
-      words = case7;
-      question = visits ((pos 0 ∷ pos 0 ∷ []) ∷ (pos 0 ∷ pos 1 ∷ []) ∷ (pos 0 ∷ pos 2 ∷ []) ∷ (pos 0 ∷ pos 3 ∷ []) ∷
-          (pos 1 ∷ pos 0 ∷ []) ∷ (pos 1 ∷ pos 1 ∷ []) ∷ (pos 1 ∷ pos 2 ∷ []) ∷ []);
+      bytes = case7;
+      question = visits (words "0 0" ∷ words "0 1" ∷ words "0 2" ∷ words "0 3" ∷ words "1 0" ∷ words "1 1" ∷ words "1 2" ∷ []);
     }
     -- 8. i 0..−1
-    ∷ record { words = case8; question = judges (accepted 0) }
+    ∷ record { bytes = ticket "1 1 1 0 1 1 -1 1 1 1 1 1 1 1 0 1 0 0"; question = judges (accepted 0) }
     ∷ []

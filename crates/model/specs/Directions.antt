@@ -75,7 +75,8 @@ pub record Line : Type 0 where
   pub sink : ℕ
   pub vector : List Sign
 
--- the earlier instance is the source: of an earlier iteration, or of the same one and earlier in the body
+-- the earlier instance is the source: of an earlier iteration, or of the same one and earlier in the body. In the order of a nest that is the one
+-- that stands before the other, so that the vectors of the lines are those of `step_directions` (`kinds-merged` in `proofs/Demands`)
 unfoldable pub comesFirst : Instance → Instance → Bool
 comesFirst i j = earlier (i .iteration) (j .iteration) || (sameBy eqZ (i .iteration) (j .iteration) && ltb (i .statement) (j .statement))
 
@@ -110,8 +111,10 @@ signVectors (suc d) = flatMap (λ s. map (λ v. s ∷ v) (signVectors d)) (less 
 -- every line that there could be, by source, sink, kind F A O, then signs
 unfoldable pub allLines : ℕ → ℕ → List Line
 allLines n d =
-    flatMap (λ s. flatMap (λ t. flatMap (λ k. map (λ v. record { kind = k; source = s; sink = t; vector = v }) (signVectors d)) kinds) (upFrom 0 n))
-    (upFrom 0 n)
+    flatMap (λ s.
+    flatMap (λ t.
+    flatMap (λ k. map (λ v. record { kind = k; source = s; sink = t; vector = v }) (signVectors d)) kinds)
+    (upFrom 0 n)) (upFrom 0 n)
 
 -- n statements, d loops
 unfoldable pub lines : Accesses → ℕ → ℕ → List (List ℤ) → List Line

@@ -53,8 +53,10 @@ accessNumber l n =
 -- quick: judges 1 to 9, then its access numbers
 unfoldable pub quickOf : Answer Ticket → ℕ → ℕ → Answer Independence
 quickOf d a b =
-    admitOf d >>= (λ T. accessNumber (allAccesses (T .nest)) a >>= (λ u. accessNumber (allAccesses (T .nest)) b >>=
-    (λ v. accepted (quickTest (T .nest .loops) u v))))
+    admitOf d
+    >>= (λ T. accessNumber (allAccesses (T .nest)) a
+    >>= (λ u. accessNumber (allAccesses (T .nest)) b
+    >>= (λ v. accepted (quickTest (T .nest .loops) u v))))
 
 -- 15, opaque, at the first statement with rule 0, from number k on
 unfoldable pub transparent : ℕ → List Statement → Answer (Unit {0})

@@ -21,3 +21,6 @@ pub mod Readings
 pub mod Inside
 pub mod Shape
 pub mod Ranges
+pub mod Roles
+pub mod Reasons
+pub mod Promises

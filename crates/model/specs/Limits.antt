@@ -41,8 +41,7 @@ unfoldable pub skewLimit : ℕ → ℤ → Limit → Limit
 skewLimit a c l = record {
   multiplier = l .multiplier;
   constant = l .constant;
-  coefficients = under a
-      (onHead (λ x. x +ℤ (c *ℤ (pos (l .multiplier))))) (l .coefficients);
+  coefficients = under a (onHead (λ x. x +ℤ (c *ℤ (pos (l .multiplier))))) (l .coefficients);
 }
 
 unfoldable pub skewInner : ℕ → ℕ → ℤ → List Loop → List Loop
@@ -71,8 +70,7 @@ unfoldable pub elementLimit : ℕ → Limit → Limit
 elementLimit w l = record {
   multiplier = l .multiplier;
   constant = l .constant;
-  coefficients = l .coefficients ++
-      (negℤ (pos (l .multiplier) *ℤ pos w) ∷ []);
+  coefficients = l .coefficients ++ (negℤ (pos (l .multiplier) *ℤ pos w) ∷ []);
 }
 
 unfoldable pub constantLimit : ℕ → ℕ → Limit
@@ -125,12 +123,15 @@ unfoldable pub solvedPositive : ℕ → ℕ → Limit → Limit
 solvedPositive a n l = record {
   multiplier = n;
   constant = negℤ (l .constant);
-  coefficients = map negℤ (take a (l .coefficients)) ++
-      (pos (l .multiplier) ∷ []);
+  coefficients = map negℤ (take a (l .coefficients)) ++ (pos (l .multiplier) ∷ []);
 }
 
 unfoldable pub solvedNegative : ℕ → ℕ → Limit → Limit
-solvedNegative a n l = record { multiplier = n; constant = l .constant; coefficients = take a (l .coefficients) ++ (negℤ (pos (l .multiplier)) ∷ []) }
+solvedNegative a n l = record {
+  multiplier = n;
+  constant = l .constant;
+  coefficients = take a (l .coefficients) ++ (negℤ (pos (l .multiplier)) ∷ []);
+}
 
 unfoldable pub whenPositive : ℕ → ℤ → Limit → List Limit
 whenPositive a (pos zero) l = []
@@ -148,10 +149,10 @@ widened l = record { multiplier = l .multiplier; constant = l .constant; coeffic
 -- I keeps its limits, then takes each J limit with c ≠ 0, lower ones first
 unfoldable pub newInner : ℕ → Loop → Loop → Loop
 newInner a I J = record {
-  lower = map widened (I .lower) ++ (flatMap (λ l. whenNegative a (outerCoefficient a l) l) (J .lower) ++ flatMap
-      (λ l. whenPositive a (outerCoefficient a l) l) (J .upper));
-  upper = map widened (I .upper) ++ (flatMap (λ l. whenPositive a (outerCoefficient a l) l) (J .lower) ++ flatMap
-      (λ l. whenNegative a (outerCoefficient a l) l) (J .upper));
+  lower = map widened (I .lower)
+      ++ (flatMap (λ l. whenNegative a (outerCoefficient a l) l) (J .lower) ++ flatMap (λ l. whenPositive a (outerCoefficient a l) l) (J .upper));
+  upper = map widened (I .upper)
+      ++ (flatMap (λ l. whenPositive a (outerCoefficient a l) l) (J .lower) ++ flatMap (λ l. whenNegative a (outerCoefficient a l) l) (J .upper));
 }
 
 unfoldable pub sameLimit : Limit → Limit → Bool
@@ -191,8 +192,7 @@ statementAfter t s = record {
   rule = s .rule;
   constant = s .constant;
   writes = map (accessAfter t) (s .writes);
-  reads = map (accessAfter t)
-      (s .reads);
+  reads = map (accessAfter t) (s .reads);
 }
 
 unfoldable pub nestAfter : Step → Nest → Nest

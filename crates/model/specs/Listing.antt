@@ -30,7 +30,8 @@ signChar greater = 62
 
 -- fields parted by one space, a newline after each line; statements count from 1
 unfoldable pub lineText : Line → List ℕ
-lineText l = letter (l .kind) ∷ 32 ∷ (decimal (suc (l .source)) ++ (32 ∷ (decimal (suc (l .sink)) ++ (32 ∷ (map signChar (l .vector) ++ (10 ∷ []))))))
+lineText l =
+    letter (l .kind) ∷ 32 ∷ (decimal (suc (l .source)) ++ (32 ∷ (decimal (suc (l .sink)) ++ (32 ∷ (map signChar (l .vector) ++ (10 ∷ []))))))
 
 unfoldable pub headText : ℕ → ℕ → ℕ → List ℕ
 headText loops points found = decimal loops ++ (32 ∷ (decimal points ++ (32 ∷ (decimal found ++ (10 ∷ [])))))

@@ -4,7 +4,7 @@ use mathlib.Core.List.{List, [], _∷_, _++_, map}
 use Prim.Native.Nat.{ℕ, _%_}
 use lib.Dec.{eqb}
 use lib.IntN.{ℤ, pos, negsuc, negℤ, natAbs, _+ℤ_, _-ℤ_, _*ℤ_}
-use lib.Signed.{ltZ}
+use lib.Signed.{ltZ, _≤ℤ_}
 use Rattle.integers.specs.Division.{floorDiv, ceilDiv}
 use Rattle.integers.specs.Gcd.{gcdOf}
 use Rattle.lists.specs.Tests.{any}
@@ -15,6 +15,17 @@ use Rattle.model.specs.Points.{maxZ, minZ, largest, smallest}
 pub record Range : Type 0 where
   pub least : ℤ
   pub greatest : ℤ
+
+pub record Contains (r : Range) (x : ℤ) : Type 0 where
+  pub low : r .least ≤ℤ x
+  pub high : x ≤ℤ r .greatest
+
+-- each index in its range
+abbrev pub InRanges : List Range → List ℤ → Type 0
+InRanges [] [] = Unit {0}
+InRanges [] (x ∷ xs) = ⊥
+InRanges (r ∷ rs) [] = ⊥
+InRanges (r ∷ rs) (x ∷ xs) = Contains r x × InRanges rs xs
 
 -- a coefficient times its index: least values for positive coefficients and greatest for negative, and the reverse
 unfoldable pub leastTerm : ℤ → Range → ℤ

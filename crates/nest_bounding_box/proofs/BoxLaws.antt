@@ -21,11 +21,12 @@ use Rattle.model.specs.Points.{maxZ, minZ, ints, indices, points, partialPoints
 use Rattle.model.specs.Bounds.{lastOf, newSpace}
 use Rattle.model.specs.Inside.{InLimits, Inside}
 use Rattle.model.specs.Shape.{Runs}
-use Rattle.model.specs.Quick.{Range, cut, rangeOf, rangesFrom, ranges}
+use Rattle.model.specs.Quick.{Range, cut, rangeOf, rangesFrom, ranges, Contains, InRanges}
+use Rattle.model.specs.Reasons.{Passes}
 use Rattle.model.proofs.Points.LoopLaws.{max-iff, min-iff, mem-ints, span-iff, indices-inside, indices-rise}
 use Rattle.model.proofs.Points.PointLaws.{partial-inside}
-use Rattle.model.proofs.Points.BoundLaws.{Passes, accepted-survey}
-use Rattle.model.proofs.Quick.QuickRangeLaws.{InRange, InRanges, ranges-append, largest-low, smallest-high}
+use Rattle.model.proofs.Points.BoundLaws.{accepted-survey}
+use Rattle.model.proofs.Quick.QuickRangeLaws.{ranges-append, largest-low, smallest-high}
 use Rattle.nest_loop_ranges.specs.declared.Range as Held
 use Rattle.nest_loop_ranges.specs.Ranges.{rangesOf}
 use Rattle.nest_loop_ranges.specs.Values.{RangesAre}
@@ -52,7 +53,7 @@ length-ints a zero = refl
 length-ints a (suc n) = ap suc (length-ints _ n)
 
 module _ (rs : List Range) (outer : List ℤ) (inn : InRanges rs outer) (L : Loop) (r : Runs L) (u : Unclamped (rangeOf rs L)) where
-  index-in : (x : ℤ) → InLimits L outer x → InRange (rangeOf rs L) x
+  index-in : (x : ℤ) → InLimits L outer x → Contains (rangeOf rs L) x
   unfolding rangeOf
   index-in x h = record {
     low = unclamped-low _ x (largest-low rs outer inn x L r h) (u .low);
@@ -115,7 +116,7 @@ points-few (L ∷ N) rs outer r u h =
 
 -- ---- refusal 13
 
-index-near : (r : Range) (x : ℤ) → Unclamped r → InRange r x → natAbs x ≤ 100000
+index-near : (r : Range) (x : ℤ) → Unclamped r → Contains r x → natAbs x ≤ 100000
 index-near r x u h = let a = u .low in let b = u .high in let c = h .low in let d = h .high in
     omega (arith, size-natAbs x, size-of x 32767 (omega zarith) (omega zarith))
 

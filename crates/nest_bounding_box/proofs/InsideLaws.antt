@@ -20,12 +20,13 @@ use Rattle.model.specs.Grammar.{extents}
 use Rattle.model.specs.Points.{iterations}
 use Rattle.model.specs.Bounds.{subscriptAt, space, accessesOf, inArrays, admitted}
 use Rattle.model.specs.Quick as Model
-use Rattle.model.specs.Quick.{leastSum, greatestSum}
+use Rattle.model.specs.Quick.{leastSum, greatestSum, InRanges}
 use Rattle.model.specs.Entries.{allAccesses}
+use Rattle.model.specs.Reasons.{Off, OffAt, Violates}
 use Rattle.model.proofs.Points.PointLaws.{iterations-inside}
 use Rattle.model.proofs.Points.WithinLaws.{space-within}
-use Rattle.model.proofs.Points.ArrayLaws.{Off, OffAt, Violates, accepted-arrays}
-use Rattle.model.proofs.Quick.QuickRangeLaws.{InRanges, least-sum, greatest-sum, in-ranges}
+use Rattle.model.proofs.Points.ArrayLaws.{accepted-arrays}
+use Rattle.model.proofs.Quick.QuickRangeLaws.{least-sum, greatest-sum, in-ranges}
 use Rattle.nest_flat.specs.Layout.{arraysOf, accessAt, AccessesOk}
 use Rattle.nest_elements.proofs.LayoutLaws.{array-in, extents-are, extents-length, extent-read}
 use Rattle.nest_elements.proofs.PlaceLaws.{forms-getD}

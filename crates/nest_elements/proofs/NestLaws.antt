@@ -14,7 +14,8 @@ use Rattle.model.specs.Ticket.{Access}
 use Rattle.model.specs.Bounds.{inArrays, violates}
 use Rattle.model.specs.Machine.{element}
 use Rattle.model.specs.Store.{placeOf}
-use Rattle.model.proofs.Store.PlaceLaws.{Valid, element-valid, place-below}
+use Rattle.model.specs.Promises.{Valid}
+use Rattle.model.proofs.Store.PlaceLaws.{element-valid, place-below}
 use Rattle.nest_elements.specs.Search as Elements
 use Rattle.nest_elements.specs.Places as Places
 use Rattle.nest_elements.specs.Places.{placeAt, placesOf, numbered}

@@ -11,8 +11,9 @@ use Rattle.model.specs.Bounds.{newSpace}
 use Rattle.model.specs.Limits.{nestAfterAll}
 use Rattle.model.specs.Judge as Judge
 use Rattle.model.specs.Judge.{judgeSteps, directionsOf, judgeTicket}
+use Rattle.model.specs.Reasons.{StepsPass}
 use Rattle.model.proofs.Answers.PassLaws.{bind-pass, bind-stop}
-use Rattle.model.proofs.Verdict.JudgeLaws.{StepsPass, judgeSteps-accepted}
+use Rattle.model.proofs.Verdict.JudgeLaws.{judgeSteps-accepted}
 use Rattle.model.proofs.Promise.WrittenLaws.{new-formed, new-ranges}
 use Rattle.ticket_refusals.proofs.StatusLaws.{not-fine}
 use Rattle.ticket_refusals.specs.declared.Refusal.{Refusal}

@@ -6,7 +6,7 @@
 ghost use mathlib.Core.Path.{_≡_};
 ghost use Prim.Native.Nat.{_+_, _*_, _<_, _≤_};
 ghost use lib.ListN.{length};
-ghost use Rattle.model.specs.Answer.{count};
+ghost use Rattle.model.specs.Answer.{countIn};
 ghost use Rattle.entry_answers.specs.Answers.{answerOf};
 use entry_answers::Answer;
 use entry_quick::Tested;
@@ -36,7 +36,7 @@ fn print_refusal(r: Refusal) {
 
 // Returns the count, which is 0 of a refusal.
 fn print_answer(a: Answer) -> usize
-    ensures { λ r. ⌜ r ≡ count (answerOf a) ⌝ }
+    ensures { λ r. ⌜ r ≡ countIn (answerOf a) ⌝ }
 {
     match a {
         Answer::Accepted(n) => {

@@ -1,7 +1,7 @@
 -- The bytes of a whole nest. In order: its sections, written one after another; room for its bytes, and what stands in the buffer when they
 -- are written; the nest on a flat nest.
 use mathlib.Core.Path.{_≡_, refl, sym, ap, _∙_, subst}
-use mathlib.Core.List.{List, [], _∷_, _++_, append-assoc}
+use mathlib.Core.List.{List, [], _∷_, _++_}
 use Prim.Native.Nat.{ℕ, suc, _+_, _≤_, _<_}
 use native.Mathlib.Omega.{arith}
 use lib.IntN.{ℤ, pos}
@@ -12,7 +12,7 @@ use Rattle.lists.proofs.PartLaws.{put-all}
 use Rattle.model.specs.Ticket as Model
 use Rattle.model.specs.Words.{bytesOf}
 use Rattle.model.specs.Encode.{counted, loopWords, arrayWords, statementWords, nestWords, encode}
-use Rattle.model.specs.Ranges.{Small, nestSections}
+use Rattle.model.specs.Ranges.{Small}
 use Rattle.model.proofs.Grammar.RoundTripLaws.{encode-length, nest-small}
 use Rattle.nest_flat.specs.Flat.{loopsFrom}
 use Rattle.nest_flat.specs.Layout.{arraysOf}
@@ -25,6 +25,7 @@ use Rattle.ticket_encoding.specs.declared.Encoded.the-variants.{Complete
 use Rattle.ticket_encoding.specs.Encodable.{StatementsIn, Encodable, FlatNestEncodable}
 use Rattle.ticket_encoding.specs.Encoding.{Encodes}
 use Rattle.ticket_encoding.proofs.StatementLaws.{first, second, third, fourth, four}
+use Rattle.model.proofs.Grammar.WordLaws.{nestSections, sections-then}
 
 -- ---- sections
 
@@ -90,9 +91,7 @@ module _ (N : Model.Nest) (o : List ℕ) (n : ℕ) (e : n ≡ length (encode N))
 
 nest-sections : (N : Model.Nest) → nestSections N ++ (pos 0 ∷ []) ≡ nestWords N
 unfolding nestWords
-nest-sections N = let ls = counted loopWords (N .loops) in let as′ = counted arrayWords (N .arrays) in let ss = counted statementWords
-    (N .statements) in
-    append-assoc ls (as′ ++ ss) (pos 0 ∷ []) ∙ ap (ls ++_) (append-assoc as′ ss (pos 0 ∷ []))
+nest-sections N = sym (sections-then N (pos 0 ∷ []))
 
 -- ---- a flat nest
 

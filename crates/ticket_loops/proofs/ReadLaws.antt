@@ -15,7 +15,7 @@ use Rattle.model.specs.Ticket.{Limit, Loop}
 use Rattle.model.specs.Grammar as Grammar
 use Rattle.model.specs.Grammar.{count, side, loop, loops, done}
 use Rattle.model.specs.Shape.{Sized, Shaped}
-use Rattle.model.specs.Ranges.{LoopRanges, CountRange}
+use Rattle.model.specs.Ranges.{LoopRanges}
 use Rattle.model.proofs.Answers.AnswerLaws.{leads-accepted}
 use Rattle.model.proofs.Grammar.LoopReading.{LoopRead, loop-meets}
 use Rattle.nest_flat.specs.Flat.{loopsFrom, NestOk}
@@ -89,8 +89,7 @@ module _ (b : List ℕ) (at k : ℕ) (w : List ℤ) (c : List ℕ) (q : Room w c
 
 pub loop-read : (k : ℕ) (b : List ℕ) (at : ℕ) (L : Loop) (next : ℕ) → Reached b at → loop 4 k b at ≡ accepted (record { value = L; next = next })
     → LoopRead 4 k L
-loop-read k b at L next r e = leads-accepted _ _ (loop-meets CountRange.toFour k .from b at
-    (record { first = r .counted; there = r .there }) .leads) e .holds .holds
+loop-read k b at L next r e = leads-accepted _ _ (loop-meets 4 k .from b at (record { first = r .counted; there = r .there }) .leads) e .holds .holds
 
 shaped-more : (k : ℕ) (N : List Loop) (L : Loop) → Shaped k N → Sized (k + length N) (L .lower) × Sized (k + length N) (L .upper)
     → Shaped k (N ++ (L ∷ []))

@@ -11,18 +11,9 @@ use Rattle.lists.specs.Membership.{All}
 use Rattle.lists.proofs.MembershipLaws.{all-nil, all-cons, all-imp}
 use Rattle.lists.proofs.TestLaws.{refuted}
 use Rattle.model.specs.Answer.{Answer, accepted, refused, require, _>>_}
+use Rattle.model.specs.Reasons.{FirstBad}
 use Rattle.model.proofs.Answers.AnswerLaws.{not-both, then-accepted, then-refused, require-accepted, require-refused}
 use Rattle.model.proofs.Answers.PassLaws.{then-pass, then-stop, require-pass, require-stop}
-
--- the item with number p, of those from number k on, is bad and all before it are good
-pub record FirstBad {A : Type 0} (Bad Good : A → Type 0) (k : ℕ) (xs : List A) (p : ℕ) : Type 0 where
-  pub front : List A
-  pub item : A
-  pub back : List A
-  pub parts : xs ≡ front ++ item ∷ back
-  pub number : p ≡ k + length front
-  pub bad : Bad item
-  pub good : All Good front
 
 pub firstBad-map : {A : Type 0} {Bad Good : A → Type 0} {k p : ℕ} {xs : List A} (Bad′ Good′ : A → Type 0)
     → ((x : A) → Bad x → Bad′ x) → ((x : A) → Good x → Good′ x) → FirstBad Bad Good k xs p → FirstBad Bad′ Good′ k xs p

@@ -1,10 +1,10 @@
 -- What the grammar says of a ticket that it accepts: it is well formed, its steps are proper, its numbers are in their ranges, and its words are
--- the bytes, to the last. First the nest and the ticket as they are read, then the theorems on `decode`. What it says of a refusal is in `RefusalLaws`.
-use mathlib.Core.Path.{_≡_, ap, _∙_, subst}
+-- the bytes, to the last. First the nest and the ticket as they are read, then the theorems on `decode`. What it refuses is in `WrongLaws`.
+use mathlib.Core.Path.{_≡_, sym, ap, _∙_, subst}
 use mathlib.Core.List.{List, [], _∷_, _++_, append-nil}
 use Prim.Native.Nat.{ℕ, _+_, _*_, _-_, _≤_}
 use native.Mathlib.Omega.{arith}
-use lib.Dec.{leb, leb→le, nleb→lt, not-T}
+use lib.Dec.{leb, leb→le}
 use lib.IntN.{ℤ}
 use lib.ListN.{length, length-append}
 use Rattle.lists.specs.Membership.{All}
@@ -12,14 +12,14 @@ use Rattle.lists.proofs.MembershipLaws.{all-nil, all-cons}
 use Rattle.model.specs.Answer.{Answer, accepted}
 use Rattle.model.specs.Ticket.{Loop, Step, exchange, reversal, skew, section, Nest, Ticket}
 use Rattle.model.specs.Grammar.{Reader, _>>=_, _>>_, nest, end, ticket, decode}
-use Rattle.model.specs.Encode.{counted, loopWords, arrayWords, statementWords}
+use Rattle.model.specs.Encode.{counted, loopWords, arrayWords, statementWords, stepWords, ticketWords}
 use Rattle.model.specs.Shape.{Runs, Proper, WellFormed}
-use Rattle.model.specs.Ranges.{InRange, stepWords, nestSections, ticketWords, LoopRanges, NestRanges, StepThere, StepsThere, TicketRanges, Spells, CountRange, Explained, trailing}
+use Rattle.model.specs.Ranges.{InRange, LoopRanges, NestRanges, StepThere, StepsThere, TicketRanges}
 use Rattle.model.proofs.Answers.AnswerLaws.{Leads, leads-bind, leads-accepted}
-use Rattle.model.proofs.Grammar.WordLaws.{Reaches, reaches-first, spells-reach}
-use Rattle.model.proofs.Grammar.ReaderLaws.{MeetsAt, Met, As, bind-at, mustAt-at, done-at}
+use Rattle.model.proofs.Grammar.WordLaws.{sections-then, Reaches, reaches-first, spells-reach, nestSections, Spells}
+use Rattle.model.proofs.Grammar.ReaderLaws.{Unsaid, MeetsAt, Met, As, bind-at, mustAt-at, done-at}
 use Rattle.model.proofs.Grammar.LoopReading.{loops-meets}
-use Rattle.model.proofs.Grammar.ArrayReading.{arrays-at}
+use Rattle.model.proofs.Grammar.ArrayReading.{arrays-meets}
 use Rattle.model.proofs.Grammar.StatementReading.{statements-meets}
 use Rattle.model.proofs.Grammar.StepReading.{steps-meets}
 
@@ -46,7 +46,8 @@ ranges-wider h k r = record {
   few-loops = wider h (r .few-loops);
   loops = λ L i. let l = r .loops L i in record {
     few-lower = wider k (l .few-lower);
-    few-upper = wider k (l .few-upper);
+    few-upper = wider k
+        (l .few-upper);
     lower = l .lower;
     upper = l .upper;
   };
@@ -75,10 +76,12 @@ pub record LoopsRead (N : Nest) : Type 0 where
 
 nest-at : (b : List ℕ) → MeetsAt b 1 (nest 4 4) (As LoopsRead nestSections)
 unfolding nest
-nest-at b = bind-at (loops-meets CountRange.toFour CountRange.toFour .from b 1 (reaches-first b)) (λ ls l s. bind-at (arrays-at b ls s) (λ as′ a z.
+nest-at b = bind-at (loops-meets 4 4 .from b 1 (reaches-first b))
+    (λ ls l s. bind-at (arrays-meets .from b (1 + length (counted loopWords ls)) (spells-reach b 1 (counted loopWords ls) (reaches-first b) s))
+    (λ as′ a z.
     let r = spells-reach b (1 + length (counted loopWords ls)) (counted arrayWords as′)
     (spells-reach b 1 (counted loopWords ls) (reaches-first b) s) z in
-    bind-at (statements-meets (length ls) as′ (a .few) .from b (1 + length (counted loopWords ls) + length (counted arrayWords as′)) r) (λ ss t _.
+    bind-at (statements-meets (length ls) as′ .from b (1 + length (counted loopWords ls) + length (counted arrayWords as′)) r) (λ ss t _.
     done-at (record { loops = ls; arrays = as′; statements = ss }) (record {
       holds = record {
         ranges = record {
@@ -107,9 +110,7 @@ end-at : {A : Type 0} {b : List ℕ} {k : ℕ} {r : Reader A} {P : A → List �
     → MeetsAt b k (end >> r) P
 unfolding end _>>_ _>>=_
 end-at {b = b} {k = k} r h = record {
-  leads = mustAt-at (leb (length b) ((k - 1) * 2)) 2
-      (λ f. trailing (r .first) (nleb→lt (length b) ((k - 1) * 2) (not-T (leb (length b) ((k - 1) * 2)) f)))
-      (λ t. h (leb→le (length b) ((k - 1) * 2) t)) .leads;
+  leads = mustAt-at (leb (length b) ((k - 1) * 2)) 2 k (λ t. h (leb→le (length b) ((k - 1) * 2) t)) .leads;
 }
 
 record TicketRead (b : List ℕ) (T : Ticket) (ws : List ℤ) : Type 0 where
@@ -130,22 +131,22 @@ ticket-at b = bind-at (nest-at b) (λ N n s. let u = n .ranges .few-loops .low i
     end-at (spells-reach b k (counted stepWords ts) r z) (λ h. done-at (record { nest = N; steps = ts }) (record {
       ranges = record { nest = n .ranges; few-steps = t .few .high; steps = t .holds };
       formed = n .formed;
-      words = e;
+      words = e ∙ sym (sections-then N (counted stepWords ts));
       ends = omega arith;
     }))))
 
 -- both outcomes at once
-pub decode-leads : (b : List ℕ) → Leads (Decoded b) (Explained b) (decode b)
+pub decode-leads : (b : List ℕ) → Leads (Decoded b) Unsaid (decode b)
 unfolding decode
-decode-leads b = leads-bind (Met (TicketRead b) b 1) (Explained b) (Decoded b) (ticket b 1) (λ r. accepted (r .value)) (ticket-at b .leads) (λ r e t.
+decode-leads b = leads-bind (Met (TicketRead b) b 1) Unsaid (Decoded b) (ticket b 1) (λ r. accepted (r .value)) (ticket-at b .leads) (λ r e t.
     let h = t .holds in
     let s : Spells b 1 (ticketWords (r .value)) = subst (Spells b 1) (h .words) (t .spelled) in
     record {
       ranges = h .ranges;
       formed = h .formed;
       spelled = s;
-      whole = let u = spells-reach b 1 (ticketWords (r .value)) (reaches-first b) s .there in let v = h .ends in let l = ap length (h .words)
-          in omega arith;
+      whole = let u = spells-reach b 1 (ticketWords (r .value)) (reaches-first b) s .there in let v = h .ends in let l = ap length (h .words) in
+          omega arith;
     })
 
 -- ---- accepted tickets
@@ -157,7 +158,7 @@ pub record Sound (d : Answer Ticket) : Type 0 where
 
 module _ (b : List ℕ) {T : Ticket} (e : decode b ≡ accepted T) where
   pub decoded : Decoded b T
-  decoded = leads-accepted (Decoded b) (Explained b) (decode-leads b) e
+  decoded = leads-accepted (Decoded b) Unsaid (decode-leads b) e
 
   pub decode-ranges : TicketRanges T
   decode-ranges = decoded .ranges

@@ -13,19 +13,23 @@ use Rattle.lists.proofs.MembershipLaws.{length-one}
 use Rattle.lists.proofs.FlatMapLaws.{flatMap-alone}
 use Rattle.lists.proofs.TestLaws.{cond-cases}
 use Rattle.model.specs.Ticket.{Limit, Loop, Subscript, Access, Statement, Nest}
-use Rattle.model.specs.Grammar.{number, times, limit, side, loop, loopsFrom, loops, elements, total, shape, array, arraysFrom, arrays, extents, subscript, access, statement, statements, nest, mostStatements}
+use Rattle.model.specs.Grammar.{number, times, limit, side, loop, loopsFrom, loops, elements, total, shape, array, arraysFrom, arrays, extents}
+use Rattle.model.specs.Grammar.{subscript, access, statement, statements, nest, mostStatements}
 use Rattle.model.specs.Encode.{counted, limitWords, loopWords, arrayWords, accessWords, statementWords}
 use Rattle.model.specs.Shape.{Sized, Shaped, Fits, FitsAll, WellFormed}
-use Rattle.model.specs.Ranges.{InRange, nestSections, Small, LimitRanges, LoopRanges, ArrayRanges, SubscriptRanges, AccessRanges, StatementRanges, NestRanges}
+use Rattle.model.specs.Ranges.{InRange, Small, LimitRanges, LoopRanges, ArrayRanges, SubscriptRanges, AccessRanges, StatementRanges}
+use Rattle.model.specs.Ranges.{NestRanges}
 use Rattle.model.proofs.Grammar.ReaderLaws.{alone, one}
 use Rattle.model.proofs.Grammar.StatementReading.{subscriptWords}
-use Rattle.model.proofs.Grammar.YieldLaws.{Yields, yields-cast, yields-value, yields-done, yields-bind, yields-last, yields-must, yields-count, yields-natural, yields-number, yields-times, yields-counted}
+use Rattle.model.proofs.Grammar.YieldLaws.{Yields, yields-cast, yields-value, yields-done, yields-bind, yields-last, yields-must}
+use Rattle.model.proofs.Grammar.YieldLaws.{yields-count, yields-natural, yields-number, yields-times, yields-counted}
+use Rattle.model.proofs.Grammar.WordLaws.{nestSections}
 
 -- ---- loops
 
 yields-numbers : (n : ℕ) (l : List ℤ) → length l ≡ n → All Small l → Yields (times n number) l l
-yields-numbers n l e h = subst (λ i. Yields (times i number) l l) e (yields-cast (flatMap-alone l)
-    (yields-times alone l (λ z m. yields-number z (h z m))))
+yields-numbers n l e h = subst (λ i. Yields (times i number) l l) e
+    (yields-cast (flatMap-alone l) (yields-times alone l (λ z m. yields-number z (h z m))))
 
 yields-limit : (k : ℕ) (l : Limit) → LimitRanges l → length (l .coefficients) ≡ k → Yields (limit k) (limitWords l) l
 unfolding limit limitWords
@@ -48,7 +52,8 @@ yields-loopsFrom m k [] r s = yields-done []
 yields-loopsFrom m k (L ∷ N) r s = yields-bind _ (yields-loop m k L (r L (List·Memᴰ·head refl)) (s .0 .0) (s .0 .1))
     (yields-last (L ∷_) (yields-loopsFrom m (suc k) N (λ x i. r x (List·Memᴰ·tail i)) (s .1)))
 
-pub yields-loops : (d m : ℕ) (N : List Loop) → InRange 1 d (length N) → All (LoopRanges m) N → Shaped 0 N → Yields (loops d m) (counted loopWords N) N
+pub yields-loops : (d m : ℕ) (N : List Loop) → InRange 1 d (length N) → All (LoopRanges m) N → Shaped 0 N
+    → Yields (loops d m) (counted loopWords N) N
 unfolding loops
 yields-loops d m N f r s = yields-counted _ loopWords N f (yields-loopsFrom m 0 N r s)
 
@@ -90,15 +95,16 @@ yields-access n as′ a r f =
     let l : length (a .subscripts) ≡ length (extents as′ (suc (a .array) - 1)) = f .dimensions ∙ ap (λ i. length (extents as′ i)) (sym e) in
     let q : InRange 1 (length as′) (suc (a .array)) = record { low = omega arith; high = t } in
     yields-value (ap (λ i. record { array = i; subscripts = a .subscripts }) e) (yields-bind _ (yields-natural q)
-    (yields-last (λ ss. record { array = suc (a .array) - 1; subscripts = ss }) (subst
-    (λ i. Yields (times i (subscript n)) (flatMap subscriptWords (a .subscripts)) (a .subscripts)) l
+    (yields-last (λ ss. record { array = suc (a .array) - 1; subscripts = ss })
+    (subst (λ i. Yields (times i (subscript n)) (flatMap subscriptWords (a .subscripts)) (a .subscripts)) l
     (yields-times subscriptWords (a .subscripts) (λ s i. yields-subscript n s (r s i) (f .wide s i))))))
 
 -- a statement with this write
 abbrev writing : Statement → List Access → Statement
 writing s ws = record { rule = s .rule; constant = s .constant; writes = ws; reads = s .reads }
 
-yields-statement : (n : ℕ) (as′ : List (List ℕ)) (s : Statement) → StatementRanges s → FitsAll as′ n s → Yields (statement n as′) (statementWords s) s
+yields-statement : (n : ℕ) (as′ : List (List ℕ)) (s : Statement) → StatementRanges s → FitsAll as′ n s
+    → Yields (statement n as′) (statementWords s) s
 unfolding statement statementWords flatMap counted
 yields-statement n as′ s r f =
     let o = length-one (s .writes) (r .one-write) in
@@ -112,16 +118,16 @@ yields-statement n as′ s r f =
     let u : InRange 0 3 (s .rule) = record { low = omega arith; high = r .rule } in
     subst (λ ws. Yields (statement n as′) (statementWords (writing s ws)) (writing s ws)) (sym (o .1))
     (yields-cast (ap (λ ws. pos (s .rule) ∷ pos (s .constant) ∷ (ws ++ counted accessWords (s .reads))) (sym (append-nil (accessWords w))))
-    (yields-bind _ (yields-natural u) (yields-bind _ (yields-natural c) (yields-bind _ (yields-access n as′ w (r .writes w i) (f .writes w i))
-    (yields-bind _ (yields-count k)
+    (yields-bind _ (yields-natural u) (yields-bind _ (yields-natural c)
+    (yields-bind _ (yields-access n as′ w (r .writes w i) (f .writes w i)) (yields-bind _ (yields-count k)
     (yields-last (λ rs. record { rule = s .rule; constant = s .constant; writes = w ∷ []; reads = rs })
     (yields-times accessWords (s .reads) (λ a j. yields-access n as′ a (r .reads a j) (f .reads a j)))))))))
 
 pub yields-statements : (n : ℕ) (as′ : List (List ℕ)) (ss : List Statement) → InRange 1 mostStatements (length ss) → All StatementRanges ss
     → All (FitsAll as′ n) ss → Yields (statements n as′) (counted statementWords ss) ss
 unfolding statements
-yields-statements n as′ ss h r f = yields-counted _ statementWords ss h (yields-times statementWords ss
-    (λ s i. yields-statement n as′ s (r s i) (f s i)))
+yields-statements n as′ ss h r f = yields-counted _ statementWords ss h
+    (yields-times statementWords ss (λ s i. yields-statement n as′ s (r s i) (f s i)))
 
 -- ---- the nest
 

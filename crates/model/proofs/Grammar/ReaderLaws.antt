@@ -1,10 +1,10 @@
--- Laws of readers. `Meets r P`: wherever r stands, it accepts with P of the value and of the words read, or refuses with what `Explained` says of
--- it. Closed under `_>>=_`, so that each reader of the grammar is read through once, for its values, its words and its refusals alike.
--- In order: the notion; `done` and `_>>=_`; tests; single words; lists. What an accepted reader gives at any place, as equations, is in `AcceptedLaws`.
-use mathlib.Core.Path.{_≡_, refl, sym, ap, ap₂, _∙_, subst}
+-- Laws of readers. `Meets r P`: wherever r stands, it is refused, or accepts with P of the value and of the words read. Closed under `_>>=_`, so that
+-- each reader of the grammar is read through once, for its values and its words alike. What it refuses is in `WrongLaws`.
+-- In order: the notion; `done` and `_>>=_`; tests; single words; lists.
+use mathlib.Core.Path.{_≡_, refl, sym, ap, ap₂, subst}
 use mathlib.Core.Bool.{Bool}
 use mathlib.Core.List.{List, [], _∷_, _++_, flatMap, append-nil}
-use Prim.Native.Nat.{ℕ, zero, suc, _+_, _*_, _-_, _≤_}
+use Prim.Native.Nat.{ℕ, zero, suc, _+_, _-_}
 use native.Mathlib.Omega.{arith}
 use lib.Dec.{T, leb→le}
 use lib.IntN.{ℤ, pos, negsuc, natAbs}
@@ -12,15 +12,15 @@ use lib.Signed.{leZ}
 use lib.ListN.{length, length-append}
 use Rattle.lists.specs.Membership.{All}
 use Rattle.lists.proofs.MembershipLaws.{all-nil, all-cons}
-use Rattle.lists.proofs.TestLaws.{and-both, true-T, false-not-T, cond-cases}
+use Rattle.lists.proofs.TestLaws.{and-both, true-T, cond-cases}
 use Rattle.model.specs.Answer as Answer
 use Rattle.model.specs.Answer.{Answer, accepted, refused, require}
 use Rattle.model.specs.Words.{wordAt}
 use Rattle.model.specs.Grammar.{Read, Reader, _>>=_, _>>_, done, word, must, mustAt, between, count, within, natural, number, times}
 use Rattle.model.specs.Encode.{counted}
-use Rattle.model.specs.Ranges.{InRange, Small, Spells, CountRange, WordRange, WordIs, Explained, truncated, badCount, badWord}
+use Rattle.model.specs.Ranges.{InRange, Small}
 use Rattle.model.proofs.Answers.AnswerLaws.{Leads, leads-map, leads-bind}
-use Rattle.model.proofs.Grammar.WordLaws.{Reaches, Truncated, word-there, spells-append, spells-reach}
+use Rattle.model.proofs.Grammar.WordLaws.{Reaches, spells-append, spells-reach, Spells}
 
 -- ---- the notion
 
@@ -31,8 +31,12 @@ pub record Met {A : Type 0} (P : A → List ℤ → Type 0) (b : List ℕ) (k : 
   pub next : r .next ≡ k + length words
   pub holds : P (r .value) words
 
+-- of a refusal nothing is said
+abbrev pub Unsaid : ℕ → ℕ → Type 0
+Unsaid n p = Unit {0}
+
 pub record MeetsAt {A : Type 0} (b : List ℕ) (k : ℕ) (r : Reader A) (P : A → List ℤ → Type 0) : Type 0 where
-  pub leads : Leads (Met P b k) (Explained b) (r b k)
+  pub leads : Leads (Met P b k) Unsaid (r b k)
 
 pub record Meets {A : Type 0} (r : Reader A) (P : A → List ℤ → Type 0) : Type 0 where
   pub from : (b : List ℕ) (k : ℕ) → Reaches b k → MeetsAt b k r P
@@ -59,10 +63,10 @@ module _ {A B : Type 0} {P : A → List ℤ → Type 0} {Q : B → List ℤ → 
       → MeetsAt b k (m >>= g) Q
   unfolding _>>=_
   bind-with {b} {k} {m} {g} h rest = record {
-    leads = leads-bind (Met P b k) (Explained b) (Met Q b k) (m b k) (λ r. g (r .value) b (r .next)) (h .leads) (λ r e t.
+    leads = leads-bind (Met P b k) Unsaid (Met Q b k) (m b k) (λ r. g (r .value) b (r .next)) (h .leads) (λ r e t.
         let us = t .words in
-        leads-map (Met (λ c vs. Q c (us ++ vs)) b (k + length us)) (Explained b) (g (r .value) b (r .next)) (joined us (t .spelled))
-        (subst (λ j. Leads (Met (λ c vs. Q c (us ++ vs)) b (k + length us)) (Explained b) (g (r .value) b j)) (sym (t .next))
+        leads-map (Met (λ c vs. Q c (us ++ vs)) b (k + length us)) Unsaid (g (r .value) b (r .next)) (joined us (t .spelled))
+        (subst (λ j. Leads (Met (λ c vs. Q c (us ++ vs)) b (k + length us)) Unsaid (g (r .value) b j)) (sym (t .next))
         (rest (r .value) us (t .holds) (t .spelled) .leads)));
   }
     where
@@ -88,7 +92,7 @@ module _ {A B : Type 0} {P : A → Type 0} {f : A → List ℤ} {Q : B → List 
 module _ {A : Type 0} {r : Reader A} {P Q : A → List ℤ → Type 0} where
   pub meets-at-map : {b : List ℕ} {k : ℕ} → ((a : A) (ws : List ℤ) → P a ws → Q a ws) → MeetsAt b k r P → MeetsAt b k r Q
   meets-at-map {b} {k} f h = record {
-    leads = leads-map (Met P b k) (Explained b) (r b k)
+    leads = leads-map (Met P b k) Unsaid (r b k)
         (λ x u. record { words = u .words; spelled = u .spelled; next = u .next; holds = f (x .value) (u .words) (u .holds) }) (h .leads);
   }
 
@@ -98,18 +102,18 @@ module _ {A : Type 0} {r : Reader A} {P Q : A → List ℤ → Type 0} where
 -- ---- tests
 
 module _ {A : Type 0} {b : List ℕ} {k : ℕ} (t : Bool) (n : ℕ) {r : Reader A} {P : A → List ℤ → Type 0} where
-  pub mustAt-at : {p : ℕ} → ((T t → ⊥) → Explained b n p) → (T t → MeetsAt b k r P) → MeetsAt b k (mustAt t n p >> r) P
+  pub mustAt-at : (p : ℕ) → (T t → MeetsAt b k r P) → MeetsAt b k (mustAt t n p >> r) P
   unfolding mustAt require _>>_ _>>=_ Answer._>>=_
-  mustAt-at {p} fails passes = record {
+  mustAt-at p passes = record {
     leads =
-        cond-cases (λ (x : Answer (Unit {0})). Leads (Met P b k) (Explained b) (Answer._>>=_
-        (Answer._>>=_ {B = Read (Unit {0})} x (λ u. accepted (record { value = u; next = k }))) (λ s. r b (s .next))))
-        t (accepted tt) (refused n p) (λ e. passes (true-T t e) .leads) (λ e. fails (false-not-T t e));
+        cond-cases (λ (x : Answer (Unit {0})). Leads (Met P b k) Unsaid
+        (Answer._>>=_ (Answer._>>=_ {B = Read (Unit {0})} x (λ u. accepted (record { value = u; next = k }))) (λ s. r b (s .next))))
+        t (accepted tt) (refused n p) (λ e. passes (true-T t e) .leads) (λ e. tt);
   }
 
-  pub must-at : ((T t → ⊥) → Explained b n (k - 1)) → (T t → MeetsAt b k r P) → MeetsAt b k (must t n >> r) P
+  pub must-at : (T t → MeetsAt b k r P) → MeetsAt b k (must t n >> r) P
   unfolding must mustAt _>>_ _>>=_
-  must-at fails passes = record { leads = mustAt-at fails passes .leads }
+  must-at passes = record { leads = mustAt-at (k - 1) passes .leads }
 
 -- ---- single words
 
@@ -125,62 +129,62 @@ unfolding word
 word-meets = record {
   from = λ b k r. record {
     leads =
-        leads-bind (λ _. k * 2 ≤ length b) (Explained b) (Met (As (λ _. Unit {0}) alone) b k) (wordAt b k)
-        (λ w. accepted (record { value = w; next = suc k }))
-        (truncated-word b k r (wordAt b k) (word-there b k r))
-        (λ w e h. record { words = w ∷ []; spelled = (e, tt); next = omega arith; holds = record { holds = tt; words = refl } });
+        leads-bind (λ _. Unit {0}) Unsaid (Met (As (λ _. Unit {0}) alone) b k) (wordAt b k) (λ w. accepted (record { value = w; next = suc k }))
+        (either (wordAt b k)) (λ w e h. record {
+          words = w ∷ [];
+          spelled = (e, tt);
+          next = omega arith;
+          holds = record
+              { holds = tt; words = refl };
+        });
   };
 }
   where
-    truncated-word : (b : List ℕ) (k : ℕ) → Reaches b k → (x : Answer ℤ) → Leads (λ _. k * 2 ≤ length b) (Truncated b k) x
-        → Leads (λ _. k * 2 ≤ length b) (Explained b) x
-    truncated-word b k r (accepted w) h = h
-    truncated-word b k r (refused n p) h = subst (λ i. Explained b i p) (sym (h .number))
-        (subst (Explained b 1) (sym (h .place)) (truncated (r .first) (r .there) (h .short)))
+    either : (x : Answer ℤ) → Leads (λ _. Unit {0}) Unsaid x
+    either (accepted w) = tt
+    either (refused n p) = tt
 
 -- a word that must pass a test, and a value made of it
 pub checked-meets : {A : Type 0} (t : ℤ → Bool) (n : ℕ) (v : ℤ → A) (P : A → List ℤ → Type 0)
-    → ((b : List ℕ) (p : ℕ) (w : ℤ) → WordIs b p w → (T (t w) → ⊥) → Explained b n p)
     → ((w : ℤ) → T (t w) → P (v w) (w ∷ []))
     → Meets (word >>= (λ w. must (t w) n >> done (v w))) P
-checked-meets t n v P fails passes = record {
+checked-meets t n v P passes = record {
   from = λ b k r. bind-at (word-meets .from b k r) (λ w _ s.
-      must-at (t w) n (λ f. let p : k + 1 - 1 ≡ k = omega arith in subst (Explained b n) (sym p)
-      (fails b k w (record { counted = r .first; read = s .0 }) f)) (λ h. done-at (v w) (passes w h)));
+      must-at (t w) n (λ h. done-at (v w) (passes w h)));
 }
 
 -- ---- counts and numbers
 
 pub between-natural : (lo hi : ℕ) (w : ℤ) → T (between (pos lo) (pos hi) w) → InRange lo hi (natAbs w) × (w ≡ pos (natAbs w))
 unfolding between
-between-natural lo hi (pos n) h = let r = and-both (leZ (pos lo) (pos n)) (leZ (pos n) (pos hi)) h
-    in (record { low = leb→le lo n (r .0); high = leb→le n hi (r .1) }, refl)
+between-natural lo hi (pos n) h = let r = and-both (leZ (pos lo) (pos n)) (leZ (pos n) (pos hi)) h in
+    (record { low = leb→le lo n (r .0); high = leb→le n hi (r .1) }, refl)
 between-natural lo hi (negsuc n) h = absurd h
 
 pub between-small : (w : ℤ) → T (between (negsuc 32766) (pos 32767) w) → Small w
 unfolding between
 between-small (pos n) h = let r = and-both (leZ (negsuc 32766) (pos n)) (leZ (pos n) (pos 32767)) h in leb→le n 32767 (r .1)
-between-small (negsuc n) h = let r = and-both (leZ (negsuc 32766) (negsuc n)) (leZ (negsuc n) (pos 32767)) h in let g = leb→le n 32766 (r .0)
-    in omega arith
+between-small (negsuc n) h = let r = and-both (leZ (negsuc 32766) (negsuc n)) (leZ (negsuc n) (pos 32767)) h in let g = leb→le n 32766 (r .0) in
+    omega arith
 
-pub count-meets : {lo hi : ℕ} → CountRange lo hi → Meets (count lo hi) (As (InRange lo hi) one)
+pub count-meets : (lo hi : ℕ) → Meets (count lo hi) (As (InRange lo hi) one)
 unfolding count
-count-meets {lo} {hi} c = checked-meets (between (pos lo) (pos hi)) 3 natAbs (As (InRange lo hi) one) (λ b p w e f. badCount c e f)
+count-meets lo hi = checked-meets (between (pos lo) (pos hi)) 3 natAbs (As (InRange lo hi) one)
     (λ w h. let r = between-natural lo hi w h in record { holds = r .0; words = ap alone (r .1) })
 
-pub within-meets : {lo hi : ℤ} → WordRange lo hi → Meets (within lo hi) (As (λ w. T (between lo hi w)) alone)
+pub within-meets : (lo hi : ℤ) → Meets (within lo hi) (As (λ w. T (between lo hi w)) alone)
 unfolding within
-within-meets {lo} {hi} c = checked-meets (between lo hi) 4 (λ w. w) (As (λ w. T (between lo hi w)) alone) (λ b p w e f. badWord c e f)
+within-meets lo hi = checked-meets (between lo hi) 4 (λ w. w) (As (λ w. T (between lo hi w)) alone)
     (λ w h. record { holds = h; words = refl })
 
-pub natural-meets : {lo hi : ℕ} → WordRange (pos lo) (pos hi) → Meets (natural lo hi) (As (InRange lo hi) one)
+pub natural-meets : (lo hi : ℕ) → Meets (natural lo hi) (As (InRange lo hi) one)
 unfolding natural
-natural-meets {lo} {hi} c = bind (within-meets c) (λ w h. let r = between-natural lo hi w h in done-meets (natAbs w)
-    (record { holds = r .0; words = ap alone (r .1) }))
+natural-meets lo hi = bind (within-meets (pos lo) (pos hi)) (λ w h. let r = between-natural lo hi w h in
+    done-meets (natAbs w) (record { holds = r .0; words = ap alone (r .1) }))
 
 pub number-meets : Meets number (As Small alone)
 unfolding number
-number-meets = meets-map (λ w ws h. record { holds = between-small w (h .holds); words = h .words }) (within-meets WordRange.number)
+number-meets = meets-map (λ w ws h. record { holds = between-small w (h .holds); words = h .words }) (within-meets _ _)
 
 -- ---- lists
 
@@ -214,7 +218,6 @@ counted-from f {lo} {hi} r l ws h = record {
   words = ap₂ (λ i vs. pos i ∷ vs) (sym (h .holds .number)) (h .words);
 }
 
-pub counted-meets : {A : Type 0} {g : ℕ → Reader (List A)} {Q : List A → Type 0} (f : A → List ℤ) {lo hi : ℕ}
-    → CountRange lo hi → ((n : ℕ) → InRange lo hi n → Meets (g n) (As (Long n Q) (flatMap f)))
-    → Meets (count lo hi >>= g) (As (Few lo hi Q) (counted f))
-counted-meets f c h = bind (count-meets c) (λ n r. meets-map (counted-from f r) (h n r))
+pub counted-meets : {A : Type 0} {g : ℕ → Reader (List A)} {Q : List A → Type 0} (f : A → List ℤ) (lo hi : ℕ)
+    → ((n : ℕ) → InRange lo hi n → Meets (g n) (As (Long n Q) (flatMap f))) → Meets (count lo hi >>= g) (As (Few lo hi Q) (counted f))
+counted-meets f lo hi h = bind (count-meets lo hi) (λ n r. meets-map (counted-from f r) (h n r))

@@ -1,7 +1,7 @@
 -- A written nest reads as that nest. In order: the words of a nest are within ±32767; the bytes of such words spell them; `encode`, its length, and
 -- `decodeNest` of it.
 use mathlib.Core.Path.{_≡_, sym, ap, _∙_}
-use mathlib.Core.List.{List, [], _∷_, _++_, flatMap, append-nil, append-assoc}
+use mathlib.Core.List.{List, [], _∷_, _++_, flatMap, append-nil}
 use Prim.Native.Nat.{ℕ, _+_, _*_, _-_, _≤_}
 use native.Mathlib.Nat.{mul-comm}
 use native.Mathlib.Omega.{arith}
@@ -18,8 +18,8 @@ use Rattle.model.specs.Ticket.{Limit, Loop, Subscript, Access, Statement
 use Rattle.model.specs.Grammar.{Reader, _>>=_, _>>_, done, count, nest, end, decode, written, decodeNest}
 use Rattle.model.specs.Encode.{counted, limitWords, loopWords, arrayWords, accessWords, statementWords, nestWords, encode}
 use Rattle.model.specs.Shape.{Fits, FitsAll, WellFormed}
-use Rattle.model.specs.Ranges.{nestSections, Small, LimitRanges, LoopRanges, ArrayRanges, AccessRanges, StatementRanges, NestRanges, Spells}
-use Rattle.model.proofs.Grammar.WordLaws.{length-bytes, bytes-spell, spells-left, spells-right}
+use Rattle.model.specs.Ranges.{Small, LimitRanges, LoopRanges, ArrayRanges, AccessRanges, StatementRanges, NestRanges}
+use Rattle.model.proofs.Grammar.WordLaws.{sections-then, length-bytes, bytes-spell, spells-left, spells-right, nestSections, Spells}
 use Rattle.model.proofs.Grammar.ReaderLaws.{one}
 use Rattle.model.proofs.Grammar.GrammarLaws.{ranges-wider, decode-formed, decode-ranges}
 use Rattle.model.proofs.Grammar.YieldLaws.{bind-reads, mustAt-reads, yields-count}
@@ -37,8 +37,8 @@ limit-small l r = all-cons Small (r .multiplier .high) (all-cons Small (r .const
 
 loop-small : {m : ℕ} (L : Loop) → m ≤ 32767 → LoopRanges m L → All Small (loopWords L)
 unfolding loopWords
-loop-small L h r = let u = r .few-lower .high in let v = r .few-upper .high in all-append Small (counted limitWords (L .lower))
-    (counted limitWords (L .upper))
+loop-small L h r = let u = r .few-lower .high in let v = r .few-upper .high in
+    all-append Small (counted limitWords (L .lower)) (counted limitWords (L .upper))
     (counted-small limitWords (L .lower) (omega arith) (λ l i. limit-small l (r .lower l i)))
     (counted-small limitWords (L .upper) (omega arith) (λ l i. limit-small l (r .upper l i)))
 
@@ -55,8 +55,8 @@ access-small as′ a h r f = let t = f .there in all-cons Small (omega arith)
 
 statement-small : {n : ℕ} (as′ : List (List ℕ)) (s : Statement) → length as′ ≤ 4 → StatementRanges s → FitsAll as′ n s → All Small (statementWords s)
 unfolding statementWords
-statement-small as′ s h r f = let u = r .rule in let v = r .few-reads in all-cons Small (omega arith)
-    (all-cons Small (r .constant) (all-append Small (flatMap accessWords (s .writes)) (counted accessWords (s .reads))
+statement-small as′ s h r f = let u = r .rule in let v = r .few-reads in
+    all-cons Small (omega arith) (all-cons Small (r .constant) (all-append Small (flatMap accessWords (s .writes)) (counted accessWords (s .reads))
     (all-flatMap accessWords Small (s .writes) (λ a i. access-small as′ a h (r .writes a i) (f .writes a i)))
     (counted-small accessWords (s .reads) (omega arith) (λ a i. access-small as′ a h (r .reads a i) (f .reads a i)))))
 
@@ -82,8 +82,7 @@ end-reads r b k h = mustAt-reads (leb (length b) ((k - 1) * 2)) 2 k r b k (le→
 
 nest-words : (N : Nest) → nestWords N ≡ nestSections N ++ one 0
 unfolding nestWords
-nest-words N = let ls = counted loopWords (N .loops) in let as′ = counted arrayWords (N .arrays) in let ss = counted statementWords (N .statements) in
-    sym (append-assoc ls (as′ ++ ss) (one 0) ∙ ap (ls ++_) (append-assoc as′ ss (one 0)))
+nest-words N = sections-then N (one 0)
 
 pub encode-length : (N : Nest) → length (encode N) ≡ 2 * length (nestWords N)
 unfolding encode

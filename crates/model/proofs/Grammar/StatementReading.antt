@@ -15,7 +15,7 @@ use Rattle.model.specs.Ticket.{Subscript, Access, Statement}
 use Rattle.model.specs.Grammar.{extents, subscript, access, statement, statements, mostStatements}
 use Rattle.model.specs.Encode.{counted, accessWords, statementWords}
 use Rattle.model.specs.Shape.{Fits, FitsAll}
-use Rattle.model.specs.Ranges.{InRange, SubscriptRanges, AccessRanges, StatementRanges, CountRange, WordRange}
+use Rattle.model.specs.Ranges.{SubscriptRanges, AccessRanges, StatementRanges}
 use Rattle.model.proofs.Grammar.ReaderLaws.{Meets, As, Few, bind, done-meets, counted-from, counted-meets, count-meets, natural-meets, number-meets, times-meets}
 use Rattle.model.proofs.Grammar.LoopReading.{numbers-meet}
 
@@ -38,10 +38,10 @@ pub record AccessRead (depth : ℕ) (as′ : List (List ℕ)) (a : Access) : Typ
   pub ranges : AccessRanges a
   pub fits : Fits as′ depth a
 
-module _ (depth : ℕ) (as′ : List (List ℕ)) (few : InRange 1 4 (length as′)) where
+module _ (depth : ℕ) (as′ : List (List ℕ)) where
   access-meets : Meets (access depth as′) (As (AccessRead depth as′) accessWords)
   unfolding access accessWords
-  access-meets = bind (natural-meets (WordRange.array few)) (λ a r. bind (times-meets (length (extents as′ (a - 1))) (subscript-meets depth)) (λ ss e.
+  access-meets = bind (natural-meets 1 (length as′)) (λ a r. bind (times-meets (length (extents as′ (a - 1))) (subscript-meets depth)) (λ ss e.
       let l = r .low in let h = r .high in
       done-meets (record { array = a - 1; subscripts = ss }) (record {
         holds = record {
@@ -59,10 +59,10 @@ module _ (depth : ℕ) (as′ : List (List ℕ)) (few : InRange 1 4 (length as�
 
   statement-meets : Meets (statement depth as′) (As StatementRead statementWords)
   unfolding statement statementWords flatMap
-  statement-meets = bind (natural-meets WordRange.rule) (λ r h.
-      bind (natural-meets (cond-cases (λ n. WordRange (pos 0) (pos n)) (eqb r 3) 0 32767 (λ _. WordRange.nought) (λ _. WordRange.constant))) (λ c g.
+  statement-meets = bind (natural-meets 0 3) (λ r h.
+      bind (natural-meets 0 (cond (eqb r 3) 0 32767)) (λ c g.
       bind access-meets (λ w i.
-      bind (count-meets (cond-cases (λ n. CountRange n 4) (eqb r 3) 1 0 (λ _. CountRange.toFour) (λ _. CountRange.reads))) (λ n j.
+      bind (count-meets (cond (eqb r 3) 1 0) 4) (λ n j.
       bind (times-meets n access-meets) (λ rs e.
       let q = counted-from accessWords j rs (flatMap accessWords rs) (record { holds = e; words = refl }) in
       done-meets (record { rule = r; constant = c; writes = w ∷ []; reads = rs }) (record {
@@ -85,4 +85,4 @@ module _ (depth : ℕ) (as′ : List (List ℕ)) (few : InRange 1 4 (length as�
 
   pub statements-meets : Meets (statements depth as′) (As (Few 1 mostStatements (All StatementRead)) (counted statementWords))
   unfolding statements
-  statements-meets = counted-meets statementWords CountRange.statements (λ n _. times-meets n statement-meets)
+  statements-meets = counted-meets statementWords 1 mostStatements (λ n _. times-meets n statement-meets)

@@ -1,8 +1,8 @@
 -- The grammar and the words of tickets are each other's inverse: the bytes of a ticket in its ranges decode to it, bytes that decode to a ticket are
 -- those of its words, and so two tickets' bytes differ where the tickets do. In order: steps, the ticket, bytes back from words.
-use mathlib.Core.Path.{_≡_, refl, sym, ap, ap₂, _∙_}
+use mathlib.Core.Path.{_≡_, sym, ap, ap₂, _∙_}
 use mathlib.Core.Logic.{_↔_}
-use mathlib.Core.Bool.{Bool, true, false, not, _&&_}
+use mathlib.Core.Bool.{Bool, not, _&&_}
 use mathlib.Core.List.{List, [], _∷_, _++_, flatMap, append-nil}
 use Prim.Native.Nat.{ℕ, suc, _+_, _*_, _-_, _≤_, _<_, zero}
 use native.Mathlib.Omega.{arith}
@@ -19,15 +19,17 @@ use Rattle.model.specs.Answer as Answer
 use Rattle.model.specs.Answer.{accepted}
 use Rattle.model.specs.Words.{bytesOf}
 use Rattle.model.specs.Ticket.{Step, exchange, reversal, skew, section, Ticket}
-use Rattle.model.specs.Grammar.{_>>=_, natural, between, loopNumber, exchangeStep, reversalStep, skewStep, sectionStep, mostFactor, stepOf, depthAfter, stepsFrom, steps, nest, done, ticket, decode}
-use Rattle.model.specs.Encode.{counted}
+use Rattle.model.specs.Grammar.{_>>=_, natural, between, loopNumber, exchangeStep, reversalStep, skewStep, sectionStep, mostFactor, stepOf}
+use Rattle.model.specs.Grammar.{depthAfter, stepsFrom, steps, nest, done, ticket, decode}
+use Rattle.model.specs.Encode.{counted, kindOf, arguments, stepWords, ticketWords}
 use Rattle.model.specs.Shape.{WellFormed}
-use Rattle.model.specs.Ranges.{InRange, Small, kindOf, arguments, stepWords, nestSections, ticketWords, StepThere, StepsThere, TicketRanges, Spells}
-use Rattle.model.proofs.Grammar.WordLaws.{Byte, spelled-bytes, length-bytes, spells-left, spells-right}
+use Rattle.model.specs.Ranges.{InRange, Small, StepThere, StepsThere, TicketRanges}
+use Rattle.model.proofs.Grammar.WordLaws.{sections-then, Byte, spelled-bytes, length-bytes, spells-left, spells-right, nestSections, Spells}
 use Rattle.model.proofs.Grammar.ReaderLaws.{one}
 use Rattle.model.proofs.Grammar.StepReading.{depth-there}
 use Rattle.model.proofs.Grammar.GrammarLaws.{decoded, decode-ranges, decode-formed}
-use Rattle.model.proofs.Grammar.YieldLaws.{Yields, yields-value, yields-done, yields-bind, yields-last, yields-must, yields-mustAt, yields-within, yields-natural, yields-number, yields-counted, natural-between, bind-reads}
+use Rattle.model.proofs.Grammar.YieldLaws.{Yields, yields-value, yields-done, yields-bind, yields-last, yields-must, yields-mustAt}
+use Rattle.model.proofs.Grammar.YieldLaws.{yields-within, yields-natural, yields-number, yields-counted, natural-between, bind-reads}
 use Rattle.model.proofs.Grammar.NestYields.{yields-nest}
 use Rattle.model.proofs.Grammar.RoundTripLaws.{nest-small, bytes-words, end-reads}
 
@@ -68,8 +70,9 @@ module _ (k m : ℕ) (few : m ≤ 6) where
   unfolding stepOf exchangeStep reversalStep skewStep sectionStep
   yields-step (exchange a) h = yields-value (ap exchange (less-one a)) (yields-bind _ (yields-outer a (omega arith))
       (yields-bind _ (yields-loop (λ w. eqZ w (pos (suc (suc a)))) (suc a) h (eqb-refl (suc (suc a)))) (yields-nought (exchange (suc a - 1)))))
-  yields-step (reversal a) h = yields-value (ap reversal (less-one a)) (yields-bind _ (yields-outer a h)
-      (yields-bind _ (yields-natural (record { low = omega arith; high = omega arith })) (yields-nought (reversal (suc a - 1)))))
+  yields-step (reversal a) h = yields-value (ap reversal (less-one a))
+      (yields-bind _ (yields-outer a h) (yields-bind _ (yields-natural (record { low = omega arith; high = omega arith }))
+      (yields-nought (reversal (suc a - 1)))))
   yields-step (skew a d c) h = let r = factor-word c (h .1) in
       yields-value (ap₂ (λ i j. skew i j c) (less-one a) (inner a d)) (yields-bind _ (yields-outer a (let z = h .0 in omega arith))
       (yields-bind _ (yields-loop (λ w. ltZ (pos (suc a)) w) (suc (a + d)) (h .0) (lt→ltb (suc a) (suc (suc (a + d))) (omega arith)))
@@ -102,8 +105,8 @@ yields-steps m ts r l h = yields-counted (stepsFrom 1 m) stepWords ts (record { 
 arguments-small : (t : Step) (m : ℕ) → m ≤ 6 → StepThere m t → All Small (arguments t)
 arguments-small (exchange a) m l h = all-cons Small (omega arith) (all-cons Small (omega arith) (all-cons Small (omega arith) (all-nil Small)))
 arguments-small (reversal a) m l h = all-cons Small (omega arith) (all-cons Small (omega arith) (all-cons Small (omega arith) (all-nil Small)))
-arguments-small (skew a d c) m l h = let z = h .0 in let f = h .1 .high in all-cons Small (omega arith)
-    (all-cons Small (omega arith) (all-cons Small (omega arith) (all-nil Small)))
+arguments-small (skew a d c) m l h = let z = h .0 in let f = h .1 .high in
+    all-cons Small (omega arith) (all-cons Small (omega arith) (all-cons Small (omega arith) (all-nil Small)))
 arguments-small (section a w) m l h = let v = h .2 .high in all-cons Small (omega arith)
     (all-cons Small (omega arith) (all-cons Small (omega arith) (all-nil Small)))
 
@@ -119,8 +122,8 @@ steps-small (t ∷ ts) m r h = all-append Small (stepWords t) (flatMap stepWords
 few-loops : (T : Ticket) → TicketRanges T → InRange 1 6 (length (T .nest .loops))
 few-loops T r = let u = r .nest .few-loops .low in let v = r .nest .few-loops .high in record { low = omega arith; high = omega arith }
 
-ticket-small : (T : Ticket) → TicketRanges T → WellFormed (T .nest) → All Small (ticketWords T)
-unfolding ticketWords counted
+ticket-small : (T : Ticket) → TicketRanges T → WellFormed (T .nest) → All Small (nestSections (T .nest) ++ counted stepWords (T .steps))
+unfolding counted
 ticket-small T r w = let l = r .few-steps in all-append Small (nestSections (T .nest)) (counted stepWords (T .steps))
     (nest-small (T .nest) (omega arith) (omega arith) (r .nest) w)
     (all-cons Small (omega arith) (steps-small (T .steps) (length (T .nest .loops)) (few-loops T r) (r .steps)))
@@ -136,7 +139,7 @@ ticket-decodes T r w =
     let k = 1 + length us in
     let l = length-bytes (us ++ vs) in
     let m = length-append us vs in
-    ap (λ x. Answer._>>=_ x (λ t. accepted (t .value)))
+    ap (λ ws. decode (bytesOf ws)) (sections-then N vs) ∙ ap (λ x. Answer._>>=_ x (λ t. accepted (t .value)))
     (bind-reads (nest 4 4) _ b 1 (yields-nest 4 4 N (r .nest) w .read b 1 (spells-left b 1 us vs s))
     ∙ bind-reads (steps (length (N .loops))) _ b k (yields-steps (length (N .loops)) (T .steps) (few-loops T r) (r .few-steps) (r .steps) .read b k
     (spells-right b 1 us vs s))
@@ -153,8 +156,8 @@ decode-bytes b {T} a e =
     ∙ append-nil (bytesOf (ticketWords T))
 
 -- the bytes that decode to a ticket
-pub decode-iff : (b : List ℕ) (T : Ticket) → All Byte b → (decode b ≡ accepted T) ↔
-    ((b ≡ bytesOf (ticketWords T)) × TicketRanges T × WellFormed (T .nest))
+pub decode-iff : (b : List ℕ) (T : Ticket) → All Byte b
+    → (decode b ≡ accepted T) ↔ ((b ≡ bytesOf (ticketWords T)) × TicketRanges T × WellFormed (T .nest))
 decode-iff b T a = (λ e. (decode-bytes b a e, decode-ranges b e, decode-formed b e), λ h. ap decode (h .0) ∙ ticket-decodes T (h .1) (h .2))
 
 -- different bytes give different tickets

@@ -16,7 +16,9 @@ use Rattle.lists.proofs.TestLaws.{cond-cases}
 use Rattle.lists.proofs.FlatMapLaws.{flatMap-append, length-flatMap-even}
 use Rattle.model.specs.Answer.{accepted}
 use Rattle.model.specs.Words.{signed, firstWord, wordAt, bits, wordBytes, bytesOf}
-use Rattle.model.specs.Ranges.{Small, Spells, WordIs}
+use Rattle.model.specs.Ticket.{Nest}
+use Rattle.model.specs.Encode.{counted, loopWords, arrayWords, statementWords, sectionsThen}
+use Rattle.model.specs.Ranges.{Small}
 use Rattle.model.proofs.Answers.AnswerLaws.{not-both, accepted-same, Leads}
 
 -- ---- one word
@@ -45,16 +47,12 @@ pub word-there : (b : List ℕ) (k : ℕ) → Reaches b k → Leads (λ w. k * 2
 unfolding wordAt
 word-there b k r = first-word b (drop ((k - 1) * 2) b) k (r .first) (simp length-drop (omega arith))
 
-pub word-is-there : (b : List ℕ) (p : ℕ) (w : ℤ) → WordIs b p w → p * 2 ≤ length b
-unfolding wordAt
-word-is-there b p w h = let l = two-there (drop ((p - 1) * 2) b) (h .read) in let e = length-drop ((p - 1) * 2) b in let f = h .counted in omega arith
-  where
-    two-there : (l : List ℕ) → firstWord p l ≡ accepted w → 2 ≤ length l
-    two-there [] e = unfold firstWord in not-both (sym e)
-    two-there (lo ∷ []) e = unfold firstWord in not-both (sym e)
-    two-there (lo ∷ hi ∷ l) e = omega arith
-
 -- ---- words that follow one another
+
+-- the words of the bytes from number k on begin with these
+abbrev pub Spells : List ℕ → ℕ → List ℤ → Type 0
+Spells b k [] = Unit {0}
+Spells b k (w ∷ ws) = (wordAt b k ≡ accepted w) × Spells b (suc k) ws
 
 pub spells-append : (b : List ℕ) (k : ℕ) (us vs : List ℤ) → Spells b k us → Spells b (k + length us) vs → Spells b k (us ++ vs)
 spells-append b k [] vs h g = subst (λ j. Spells b j vs) (omega arith) g
@@ -73,6 +71,16 @@ spells-reach b k [] r h = subst (Reaches b) (omega arith) r
 spells-reach b k (w ∷ ws) r h =
     let t : k * 2 ≤ length b = subst (Leads (λ w. k * 2 ≤ length b) (Truncated b k)) (h .0) (word-there b k r) in
     subst (Reaches b) (omega arith) (spells-reach b (suc k) ws (record { first = omega arith; there = omega arith }) (h .1))
+
+-- ---- the sections of a nest
+
+abbrev pub nestSections : Nest → List ℤ
+nestSections N = counted loopWords (N .loops) ++ (counted arrayWords (N .arrays) ++ counted statementWords (N .statements))
+
+pub sections-then : (N : Nest) (ws : List ℤ) → sectionsThen N ws ≡ nestSections N ++ ws
+sections-then N ws = let ls = counted loopWords (N .loops) in let as′ = counted arrayWords (N .arrays) in
+    let ss = counted statementWords (N .statements) in
+    sym (append-assoc ls (as′ ++ ss) ws ∙ ap (ls ++_) (append-assoc as′ ss ws))
 
 -- ---- bytes of words
 
@@ -141,6 +149,6 @@ spelled-bytes b k (w ∷ ws) h a s =
     let m : (k - 1) * 2 + 2 ≡ (suc k - 1) * 2 = omega arith in
     let n : (suc k + length ws - 1) * 2 ≡ (k + suc (length ws) - 1) * 2 = omega arith in
     word-back k (drop ((k - 1) * 2) b) w (all-drop Byte ((k - 1) * 2) b a) (s .0)
-    ∙ ap (wordBytes w ++_) (drop-drop 2 ((k - 1) * 2) b ∙ ap (λ i. drop i b) m ∙ spelled-bytes b (suc k) ws (omega arith) a (s .1)
-    ∙ ap (λ i. bytesOf ws ++ drop i b) n)
+    ∙ ap (wordBytes w ++_) (drop-drop 2 ((k - 1) * 2) b ∙ ap (λ i. drop i b) m ∙ spelled-bytes b (suc k) ws (omega arith) a (s .1) ∙ ap
+    (λ i. bytesOf ws ++ drop i b) n)
     ∙ sym (append-assoc (wordBytes w) (bytesOf ws) (drop ((k + suc (length ws) - 1) * 2) b))

@@ -16,8 +16,8 @@ use Rattle.model.specs.Answer as Answer
 use Rattle.model.specs.Answer.{accepted, require}
 use Rattle.model.specs.Grammar.{Read, Reader, _>>=_, _>>_, done, word, must, mustAt, between, count, within, natural, number, times}
 use Rattle.model.specs.Encode.{counted}
-use Rattle.model.specs.Ranges.{InRange, Small, Spells}
-use Rattle.model.proofs.Grammar.WordLaws.{spells-left, spells-right}
+use Rattle.model.specs.Ranges.{InRange, Small}
+use Rattle.model.proofs.Grammar.WordLaws.{spells-left, spells-right, Spells}
 use Rattle.model.proofs.Grammar.ReaderLaws.{alone, one}
 
 pub record Yields {A : Type 0} (r : Reader A) (ws : List ℤ) (v : A) : Type 0 where

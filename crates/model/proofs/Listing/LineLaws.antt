@@ -5,7 +5,7 @@ use mathlib.Core.Path.{_≡_, refl, sym, ap, _∙_, subst}
 use mathlib.Core.Bool.{Bool, _&&_}
 use mathlib.Core.Logic.{_↔_}
 use mathlib.Core.List.{List, [], _∷_, map, Memᴰ·map, Memᴰ·of-map, Memᴰ·cast}
-use Prim.Native.Nat.{ℕ, suc, _<_}
+use Prim.Native.Nat.{ℕ, suc}
 use native.Mathlib.Omega.{arith}
 use lib.Dec.{T}
 use lib.IntN.{ℤ}
@@ -20,10 +20,11 @@ use Rattle.model.specs.Ticket.{Access, Statement}
 use Rattle.model.specs.Machine.{element, Instance, Accesses, bodyAt, accesses, instances}
 use Rattle.model.specs.Inside.{Earlier}
 use Rattle.model.specs.Directions.{signs, Kind, flow, anti, output, conflictOf, directions, Line, comesFirst, sameSign, occurs, allLines, lines}
+use Rattle.model.specs.Promises.{LineBefore, Fitting, sourceAccesses, sinkAccesses}
 use Rattle.model.proofs.Machine.ElementLaws.{sourceOf, sinkOf, conflictOf-shared, shared-conflictOf, conflict-kind, kind-conflict}
 use Rattle.model.proofs.Machine.InstanceLaws.{instances-mem, mem-instances, precedes-comesFirst, comesFirst-precedes}
 use Rattle.model.proofs.Machine.DirectionLaws.{directions-mem, mem-directions}
-use Rattle.model.proofs.Listing.LineOrderLaws.{LineBefore, line-irreflexive, allLines-mem, mem-allLines, allLines-ordered}
+use Rattle.model.proofs.Listing.LineOrderLaws.{line-irreflexive, allLines-mem, mem-allLines, allLines-ordered}
 
 -- ---- signs compared
 
@@ -50,12 +51,6 @@ vectors-decide : Decides (sameBy sameSign)
 vectors-decide = same-decides sameSign sign-decides
 
 -- ---- lines
-
--- n statements, d loops
-pub record Fitting (n d : ℕ) (l : Line) : Type 0 where
-  pub source : l .source < n
-  pub sink : l .sink < n
-  pub signs : length (l .vector) ≡ d
 
 -- two points at which the source comes first, in a conflict of the kind, with the signs
 pub record Shows (A : Accesses) (ps : List (List ℤ)) (l : Line) : Type 0 where
@@ -121,16 +116,6 @@ module _ (A : Accesses) (n d : ℕ) (ps : List (List ℤ)) where
   lines-distinct = ordered-distinct LineBefore line-irreflexive (lines A n d ps) lines-ordered
 
 -- ---- conflicts of a body's accesses
-
-abbrev pub sourceAccesses : Kind → Statement → List Access
-sourceAccesses flow s = s .writes
-sourceAccesses anti s = s .reads
-sourceAccesses output s = s .writes
-
-abbrev pub sinkAccesses : Kind → Statement → List Access
-sinkAccesses flow s = s .reads
-sinkAccesses anti s = s .writes
-sinkAccesses output s = s .writes
 
 -- an access of the source and one of the sink name one element
 pub record Clash (k : Kind) (ss : List Statement) (i j : Instance) : Type 0 where

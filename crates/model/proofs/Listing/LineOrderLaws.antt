@@ -13,7 +13,8 @@ use Rattle.lists.specs.Order.{Ordered}
 use Rattle.lists.proofs.MembershipLaws.{all-nil, all-cons}
 use Rattle.lists.proofs.OrderLaws.{ordered-map, ordered-distinct}
 use Rattle.lists.proofs.FlatMapLaws.{flatMap-mem, mem-flatMap, ordered-flatMap}
-use Rattle.model.specs.Directions.{Kind, flow, anti, output, kinds, Line, upFrom, signVectors, allLines}
+use Rattle.model.specs.Directions.{Kind, kinds, Line, upFrom, signVectors, allLines}
+use Rattle.model.specs.Promises.{signRank, VectorBefore, kindRank, LineBefore}
 use Rattle.model.proofs.Machine.ElementLaws.{every-kind}
 
 -- ---- numbers
@@ -35,18 +36,6 @@ upFrom-ordered k zero = tt
 upFrom-ordered k (suc n) = (λ x m. (upFrom-mem (suc k) n m) .0, upFrom-ordered (suc k) n)
 
 -- ---- vectors
-
--- < before = before >
-abbrev pub signRank : Sign → ℕ
-signRank less = 0
-signRank equal = 1
-signRank greater = 2
-
--- by the first sign in which they differ
-abbrev pub VectorBefore : List Sign → List Sign → Type 0
-VectorBefore [] w = ⊥
-VectorBefore (s ∷ v) [] = ⊥
-VectorBefore (s ∷ v) (t ∷ w) = (signRank s < signRank t) ⊎ ((s ≡ t) × VectorBefore v w)
 
 vector-irreflexive : (v : List Sign) → VectorBefore v v → ⊥
 vector-irreflexive [] h = h
@@ -95,25 +84,12 @@ signVectors-ordered (suc d) = ordered-flatMap (withFirst d) (λ s t. signRank s 
 
 -- ---- lines
 
--- F before A before O
-abbrev pub kindRank : Kind → ℕ
-kindRank flow = 0
-kindRank anti = 1
-kindRank output = 2
-
 kinds-ordered : Ordered (λ k l. kindRank k < kindRank l) kinds
 unfolding kinds
 kinds-ordered = (
   all-cons (λ k. 0 < kindRank k) (omega arith) (all-cons (λ k. 0 < kindRank k) (omega arith) (all-nil (λ k. 0 < kindRank k))),
   (all-cons (λ k. 1 < kindRank k) (omega arith) (all-nil (λ k. 1 < kindRank k)), (all-nil (λ k. 2 < kindRank k), tt)),
 )
-
-abbrev pub LineBefore : Line → Line → Type 0
-LineBefore l m =
-    (l .source < m .source)
-    ⊎ ((l .source ≡ m .source) × ((l .sink < m .sink)
-    ⊎ ((l .sink ≡ m .sink) × ((kindRank (l .kind) < kindRank (m .kind))
-    ⊎ ((l .kind ≡ m .kind) × VectorBefore (l .vector) (m .vector))))))
 
 pub line-irreflexive : (l : Line) → LineBefore l l → ⊥
 line-irreflexive l (inl h) = omega arith

@@ -1,39 +1,22 @@
 -- The lines of a nest's listing: each is a dependence of the nest and each dependence has its line (`linesOf-exact`), once and in order; and their
 -- vectors are the set that the steps are judged by (`linesOf-merged`).
-use mathlib.Core.Path.{_≡_}
-use mathlib.Core.Logic.{_⊎_, _↔_}
+use mathlib.Core.Logic.{_↔_}
 use mathlib.Core.List.{List, map}
-use Prim.Native.Nat.{_<_}
 use lib.IntN.{ℤ}
 use lib.ListN.{length}
 use Rattle.integers.specs.Sign.{Sign}
 use Rattle.lists.specs.Membership.{Mem, Distinct}
 use Rattle.lists.specs.Order.{Ordered}
-use Rattle.model.specs.Ticket.{Access, Nest}
+use Rattle.model.specs.Ticket.{Nest}
 use Rattle.model.specs.Points.{iterations}
-use Rattle.model.specs.Inside.{Earlier}
-use Rattle.model.specs.Machine.{element, Instance, bodyAt, accesses}
-use Rattle.model.specs.Directions.{signs, Line}
+use Rattle.model.specs.Machine.{Instance, accesses}
+use Rattle.model.specs.Directions.{Line}
 use Rattle.model.specs.Judge.{directionsOf}
 use Rattle.model.specs.Listing.{linesOf}
+use Rattle.model.specs.Promises.{Fitting, LineBefore, Dependence}
 use Rattle.model.proofs.Points.PointLaws.{iterations-rise, iterations-length}
 use Rattle.model.proofs.Machine.InstanceLaws.{comesFirst-before, before-comesFirst}
-use Rattle.model.proofs.Listing.LineOrderLaws.{LineBefore}
-use Rattle.model.proofs.Listing.LineLaws.{Fitting, sourceAccesses, sinkAccesses, clash-exact, line-exact, lines-ordered, lines-distinct, merged}
-
--- two iterations, the source earlier or of the same one and earlier in the body, and an access of each that name one element
-pub record Dependence (N : Nest) (l : Line) : Type 0 where
-  pub early : List ℤ
-  pub late : List ℤ
-  pub early-there : Mem early (iterations (N .loops))
-  pub late-there : Mem late (iterations (N .loops))
-  pub order : Earlier early late ⊎ ((early ≡ late) × (l .source < l .sink))
-  pub from : Access
-  pub to : Access
-  pub from-there : Mem from (sourceAccesses (l .kind) (bodyAt (N .statements) (l .source)))
-  pub to-there : Mem to (sinkAccesses (l .kind) (bodyAt (N .statements) (l .sink)))
-  pub meet : element early from ≡ element late to
-  pub vector : signs early late ≡ l .vector
+use Rattle.model.proofs.Listing.LineLaws.{clash-exact, line-exact, lines-ordered, lines-distinct, merged}
 
 module _ (N : Nest) where
   pub linesOf-exact : (l : Line) → Mem l (linesOf N) ↔ (Fitting (length (N .statements)) (length (N .loops)) l × Dependence N l)

@@ -19,22 +19,10 @@ use Rattle.model.specs.Answer.{accepted, refused, require, _>>_}
 use Rattle.model.specs.Ticket.{Access, Statement}
 use Rattle.model.specs.Grammar.{extents}
 use Rattle.model.specs.Bounds.{subscriptAt, outside, violates, accessesOf, inArrays}
-use Rattle.model.proofs.Answers.CheckLaws.{FirstBad, firstBad-map, checks-accepted, checks-refused, accepted-checks, refused-checks}
+use Rattle.model.specs.Reasons.{FirstBad, Off, On, OffAt, Violates, Stays}
+use Rattle.model.proofs.Answers.CheckLaws.{firstBad-map, checks-accepted, checks-refused, accepted-checks, refused-checks}
 
 -- ---- subscripts and extents
-
-abbrev pub Off : ℕ → ℤ → Type 0
-Off n x = (x <ℤ pos 0) ⊎ (pos n ≤ℤ x)
-
-abbrev pub On : ℕ → ℤ → Type 0
-On n x = (pos 0 ≤ℤ x) × (x <ℤ pos n)
-
--- the dimension in which a subscript is off
-pub record OffAt (ns : List ℕ) (xs : List ℤ) : Type 0 where
-  pub dimension : ℕ
-  pub extent : dimension < length ns
-  pub subscript : dimension < length xs
-  pub off : Off (getD ns dimension 0) (getD xs dimension (pos 0))
 
 pub outside-off : (ns : List ℕ) (xs : List ℤ) → T (outside ns xs) → OffAt ns xs
 unfolding outside
@@ -74,19 +62,6 @@ inside-on ns xs e i a b =
     )
 
 -- ---- the accesses of a statement, at all points
-
-pub record Violates (as′ : List (List ℕ)) (ps : List (List ℤ)) (s : Statement) : Type 0 where
-  pub point : List ℤ
-  pub reached : Mem point ps
-  pub access : Access
-  pub of : Mem access (accessesOf s)
-  pub off : OffAt (extents as′ (access .array)) (map (subscriptAt point) (access .subscripts))
-
--- every subscript at every point from 0 to its extent − 1
-abbrev pub Stays : List (List ℕ) → List (List ℤ) → Statement → Type 0
-Stays as′ ps s = (p : List ℤ) → Mem p ps → (a : Access) → Mem a (accessesOf s) → (i : ℕ) → i < length (extents as′ (a .array))
-    → i < length (a .subscripts)
-    → On (getD (extents as′ (a .array)) i 0) (getD (map (subscriptAt p) (a .subscripts)) i (pos 0))
 
 module _ (as′ : List (List ℕ)) (ps : List (List ℤ)) where
   abbrev someViolates : Statement → Bool

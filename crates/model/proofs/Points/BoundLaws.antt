@@ -8,44 +8,19 @@ use Prim.Native.Nat.{ℕ, zero, suc, _+_, _≤_, _<_}
 use native.Mathlib.Omega.{arith}
 use native.Mathlib.Nat.{eq-or-lt-of-le}
 use lib.Dec.{T, leb, ltb, T-not, not-T, leb→le, le→leb, ltb→lt, lt→ltb, nleb→lt, nltb→le}
-use lib.IntN.{ℤ, natAbs}
+use lib.IntN.{natAbs}
 use lib.ListN.{length}
-use Rattle.lists.specs.Membership.{Mem, All}
 use Rattle.lists.specs.Tests.{any}
 use Rattle.lists.proofs.TestLaws.{any-some, some-any, refuted}
 use Rattle.model.specs.Answer.{Answer, accepted, refused, require, _>>_}
 use Rattle.model.specs.Ticket.{Loop}
 use Rattle.model.specs.Points.{partialPoints}
 use Rattle.model.specs.Bounds.{lastOf, beyond, survey, space, newSpace}
+use Rattle.model.specs.Reasons.{Far, Near, Passes, Excess, Overrun}
 use Rattle.model.proofs.Answers.AnswerLaws.{not-both, then-accepted, then-refused, require-accepted, require-refused}
 use Rattle.model.proofs.Answers.PassLaws.{then-pass, then-stop, require-pass, require-stop}
 
 -- ---- the partial points of depth k
-
--- a last index beyond ±m
-pub record Far (m : ℕ) (N : List Loop) (k : ℕ) : Type 0 where
-  pub point : List ℤ
-  pub there : Mem point (partialPoints k N)
-  pub far : m < natAbs (lastOf point)
-
--- none beyond ±m
-abbrev pub Near : ℕ → List Loop → ℕ → Type 0
-Near m N k = All (λ y. natAbs (lastOf y) ≤ m) (partialPoints k N)
-
-pub record Passes (m most : ℕ) (N : List Loop) (k : ℕ) : Type 0 where
-  pub near : Near m N k
-  pub few : length (partialPoints k N) ≤ most
-
--- why depth k is refused with x: `far` before `many`
-abbrev pub Excess : ℕ → ℕ → ℕ → ℕ → List Loop → ℕ → ℕ → Type 0
-Excess far many m most N k x = ((x ≡ far) × Far m N k) ⊎ ((x ≡ many) × (Near m N k × (most < length (partialPoints k N))))
-
--- why the survey from depth k on, of n depths, is refused with x at p: the first depth that does not pass
-pub record Overrun (far many m most : ℕ) (N : List Loop) (k n x p : ℕ) : Type 0 where
-  pub from : k ≤ p
-  pub before : p < k + n
-  pub pass : (j : ℕ) → k ≤ j → j < p → Passes m most N j
-  pub reason : Excess far many m most N p x
 
 abbrev someFar : ℕ → List Loop → ℕ → Bool
 someFar m N k = any (λ p. beyond m (lastOf p)) (partialPoints k N)
@@ -53,8 +28,8 @@ someFar m N k = any (λ p. beyond m (lastOf p)) (partialPoints k N)
 module _ (m : ℕ) (N : List Loop) (k : ℕ) where
   test-far : T (someFar m N k) → Far m N k
   unfolding beyond
-  test-far h = let r = any-some (λ p. beyond m (lastOf p)) (partialPoints k N) h
-      in record { point = r .0; there = r .1; far = ltb→lt m (natAbs (lastOf (r .0))) (r .2) }
+  test-far h = let r = any-some (λ p. beyond m (lastOf p)) (partialPoints k N) h in
+      record { point = r .0; there = r .1; far = ltb→lt m (natAbs (lastOf (r .0))) (r .2) }
 
   far-test : Far m N k → T (someFar m N k)
   unfolding beyond
@@ -90,12 +65,13 @@ module _ (far many m most : ℕ) (N : List Loop) where
       }
 
   accepted-depth : (k : ℕ) → Passes m most N k → alone k >> together k ≡ accepted tt
-  accepted-depth k h = then-pass (together k) (accepted-alone k (h .near))
-      ∙ require-pass (leb (length (partialPoints k N)) most) many k (le→leb (length (partialPoints k N)) most (h .few))
+  accepted-depth k h = then-pass (together k) (accepted-alone k (h .near)) ∙ require-pass (leb (length (partialPoints k N)) most) many k
+      (le→leb (length (partialPoints k N)) most (h .few))
 
   depth-refused : (k : ℕ) {x p : ℕ} → alone k >> together k ≡ refused x p → (p ≡ k) × Excess far many m most N k x
   depth-refused k e = ⊎-elim
-      (λ f. let r = require-refused (not (someFar m N k)) far k f in (r .place, inl (r .number, test-far m N k (refuted (someFar m N k) (r .fails)))))
+      (λ f. let r = require-refused (not (someFar m N k)) far k f in
+      (r .place, inl (r .number, test-far m N k (refuted (someFar m N k) (r .fails)))))
       (λ f. let r = require-refused (leb (length (partialPoints k N)) most) many k (f .rest) in (
         r .place,
         inr (
@@ -110,8 +86,8 @@ module _ (far many m most : ℕ) (N : List Loop) where
       (then-refused (alone k) (together k) e)
 
   refused-depth : (k : ℕ) {x : ℕ} → Excess far many m most N k x → alone k >> together k ≡ refused x k
-  refused-depth k (inl f) = rw (f .0) (then-stop (together k) (require-stop (not (someFar m N k)) far k
-      (λ g. T-not (someFar m N k) g (far-test m N k (f .1)))))
+  refused-depth k (inl f) = rw (f .0) (then-stop (together k)
+      (require-stop (not (someFar m N k)) far k (λ g. T-not (someFar m N k) g (far-test m N k (f .1)))))
   refused-depth k (inr f) = let h = f .1 .1 in rw (f .0)
       (then-pass (together k) (accepted-alone k (f .1 .0)) ∙ require-stop (leb (length (partialPoints k N)) most) many k
       (λ t. let g = leb→le (length (partialPoints k N)) most t in omega arith))
@@ -129,14 +105,14 @@ module _ (far many m most : ℕ) (N : List Loop) where
   unfolding survey
   accepted-survey k zero h = refl
   accepted-survey k (suc n) h =
-      then-pass (survey far many m most N (suc k) n) (accepted-depth k (h k (omega arith) (omega arith)))
-      ∙ accepted-survey (suc k) n (λ j l g. h j (omega arith) (omega arith))
+      then-pass (survey far many m most N (suc k) n) (accepted-depth k (h k (omega arith) (omega arith))) ∙ accepted-survey (suc k) n
+      (λ j l g. h j (omega arith) (omega arith))
 
   pub survey-refused : (k n x p : ℕ) → survey far many m most N k n ≡ refused x p → Overrun far many m most N k n x p
   unfolding survey
   survey-refused k zero x p e = not-both e
-  survey-refused k (suc n) x p e = ⊎-elim (λ f. here (depth-refused k f)) (λ f. later (depth-accepted k (f .first))
-      (survey-refused (suc k) n x p (f .rest)))
+  survey-refused k (suc n) x p e = ⊎-elim (λ f. here (depth-refused k f))
+      (λ f. later (depth-accepted k (f .first)) (survey-refused (suc k) n x p (f .rest)))
       (then-refused (alone k >> together k) (survey far many m most N (suc k) n) e)
     where
       here : (p ≡ k) × Excess far many m most N k x → Overrun far many m most N k (suc n) x p
@@ -174,6 +150,10 @@ module _ (N : List Loop) where
   pub space-accepted : space N ≡ accepted tt → (j : ℕ) → 1 ≤ j → j ≤ length N → Passes 32767 4096 N j
   unfolding space
   space-accepted e j h g = survey-accepted 7 8 32767 4096 N 1 (length N) e j h (omega arith)
+
+  pub accepted-space : ((j : ℕ) → 1 ≤ j → j ≤ length N → Passes 32767 4096 N j) → space N ≡ accepted tt
+  unfolding space
+  accepted-space h = accepted-survey 7 8 32767 4096 N 1 (length N) (λ j l g. h j l (omega arith))
 
   pub space-refused : (x p : ℕ) → space N ≡ refused x p → Overrun 7 8 32767 4096 N 1 (length N) x p
   unfolding space

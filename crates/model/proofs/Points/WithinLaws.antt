@@ -16,8 +16,9 @@ use Rattle.model.specs.Points.{partialPoints, iterations}
 use Rattle.model.specs.Bounds.{lastOf, space, newSpace}
 use Rattle.model.specs.Inside.{Inside}
 use Rattle.model.specs.Shape.{Runs}
+use Rattle.model.specs.Reasons.{Passes}
 use Rattle.model.proofs.Points.PointLaws.{inside-length, partial-inside, iterations-inside}
-use Rattle.model.proofs.Points.BoundLaws.{Passes, space-accepted, new-space-accepted}
+use Rattle.model.proofs.Points.BoundLaws.{space-accepted, new-space-accepted}
 
 inside-take : (k : ℕ) (N : List Loop) (outer y : List ℤ) → Inside N outer y → Inside (take k N) outer (take k y)
 inside-take zero N outer y i = tt

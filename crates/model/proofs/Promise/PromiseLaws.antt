@@ -1,12 +1,12 @@
 -- Demand 3 on the definitions: from steps that pass on a well-formed nest to equal iterations and equal values; then for a ticket, however it was read;
 -- then what write hands out and the store that run leaves.
 use mathlib.Core.Path.{_≡_, refl, sym, ap, _∙_, subst}
-use mathlib.Core.List.{List, [], map}
+use mathlib.Core.List.{List}
 use Prim.Native.Nat.{ℕ}
 use lib.Dec.{T}
 use lib.IntN.{pos}
 use lib.ListN.{length, getD}
-use Rattle.lists.specs.Membership.{All, Distinct, SameMembers}
+use Rattle.lists.specs.Membership.{All}
 use Rattle.lists.proofs.TestLaws.{false-not-T}
 use Rattle.model.specs.Answer.{Answer, accepted}
 use Rattle.model.specs.Ticket.{Step, Nest, Ticket}
@@ -20,6 +20,8 @@ use Rattle.model.specs.Store.{placeOf, performOn, runNest, ownRules}
 use Rattle.model.specs.Encode.{encode}
 use Rattle.model.specs.Entries.{judgeOf, writeOf, runOf}
 use Rattle.model.specs.Shape.{Proper, WellFormed}
+use Rattle.model.specs.Reasons.{StepsPass}
+use Rattle.model.specs.Promises.{HandedOut, stateOf, Promise, Left}
 use Rattle.model.proofs.Grammar.GrammarLaws.{Sound, sound-proper}
 use Rattle.model.proofs.Points.PointLaws.{iterations-rise, iterations-full}
 use Rattle.model.proofs.Points.ArrayLaws.{arrays-inside}
@@ -29,25 +31,14 @@ use Rattle.model.proofs.Machine.SameRunLaws.{NamesAlike}
 use Rattle.model.proofs.Machine.DirectionLaws.{directions-mem}
 use Rattle.model.proofs.Machine.CommuteLaws.{commute}
 use Rattle.model.proofs.Machine.OrderedRunLaws.{NoneBackwards, new-run}
-use Rattle.model.proofs.Store.PlaceLaws.{Valid}
-use Rattle.model.proofs.Store.StoreLaws.{stateOf, stateOf-shown, run-shows}
+use Rattle.model.proofs.Store.StoreLaws.{stateOf-shown, run-shows}
 use Rattle.model.proofs.Store.NewStoreLaws.{NoneViolates, instances-in-store, new-store}
-use Rattle.model.proofs.Verdict.JudgeLaws.{StepsPass}
 use Rattle.model.proofs.Verdict.VerdictLaws.{admitted-accepted, admit-accepted, judgeTicket-accepted, judged-accepted}
-use Rattle.model.proofs.Verdict.EntryLaws.{judge-accepted, HandedOut, write-accepted}
+use Rattle.model.proofs.Verdict.EntryLaws.{judge-accepted, write-accepted}
 use Rattle.model.proofs.Promise.WrittenLaws.{judged-written}
 use Rattle.model.proofs.Verdict.RunLaws.{run-accepted}
 use Rattle.model.proofs.Promise.TradeLaws.{pass-forwards, pair-lengths, pair-forwards}
 use Rattle.model.proofs.Promise.KeptLaws.{arrays-kept, statements-kept, rules-kept, constants-kept}
-
--- the promise: the original iterations of the new order are those of the old, each once, and both orders, fed the same values and rules, end
--- with equal values in every element
-pub record Promise (ts : List Step) (old new : Nest) : Type 0 where
-  pub same-iterations : SameMembers (iterations (old .loops)) (map (undoAll ts) (iterations (new .loops)))
-  pub once : Distinct (map (undoAll ts) (iterations (new .loops)))
-  pub count : length (iterations (new .loops)) ≡ length (iterations (old .loops))
-  pub equal-values : (rules : Rules) (s : State) (x : Element)
-      → exec (accesses (old .statements)) rules (order old) s x ≡ exec (accesses (new .statements)) (originally (undoAll ts) rules) (order new) s x
 
 -- ---- steps that pass
 
@@ -75,8 +66,8 @@ module _ (ts : List Step) (proper : All Proper ts) (N : Nest) (formed : WellForm
   equal rules s x =
       new-run (accesses (N .statements)) rules (commute (accesses (N .statements)) rules) n (forwardAll ts) (undoAll ts) (iterations (N .loops))
       (iterations (M .loops)) (accesses (M .statements)) alike
-      (iterations-rise (N .loops)) (iterations-rise (M .loops)) (all-steps-keep-points ts proper N formed) (taken-back ts proper N formed)
-      none-backwards s x
+      (iterations-rise (N .loops)) (iterations-rise (M .loops)) (all-steps-keep-points ts proper N formed)
+      (taken-back ts proper N formed) none-backwards s x
 
   order-new : instances n (iterations (M .loops)) ≡ order M
   unfolding M n
@@ -125,15 +116,15 @@ judged-gives d sound {j} e =
       formed = sound .formed (a .0);
       proper = sound-proper d sound (a .0);
       pass = v .1 .0;
-      stay = λ s m p i c k t. false-not-T _ (arrays-inside (T .nest .arrays) (iterations (T .nest .loops)) 1 (T .nest .statements) (b .1) s m p i c
-          k) t;
+      stay = λ s m p i c k t. false-not-T _ (arrays-inside (T .nest .arrays) (iterations (T .nest .loops)) 1 (T .nest .statements)
+          (b .1) s m p i c k) t;
       new = refl;
     })
 
 pub judged-promise : (d : Answer Ticket) → Sound d → {j : Judged} → judgedOf d ≡ accepted j → Promise (j .ticket .steps) (j .ticket .nest) (j .new)
 judged-promise d sound {j} e = let a = judged-gives d sound e in
-    subst (Promise (j .ticket .steps) (j .ticket .nest)) (sym (a .new)) (promise (j .ticket .steps) (a .proper) (j .ticket .nest) (a .formed)
-    (a .pass))
+    subst (Promise (j .ticket .steps) (j .ticket .nest)) (sym (a .new))
+    (promise (j .ticket .steps) (a .proper) (j .ticket .nest) (a .formed) (a .pass))
 
 -- ---- the count that judge answers
 
@@ -144,20 +135,11 @@ judge-counts d e = let r = judge-accepted d e in (r .0, r .1, r .2 ∙ ap length
 -- ---- what write hands out
 
 pub write-hands : (d : Answer Ticket) → Sound d → (buffer : List ℕ) {c : ℕ} → writeOf d buffer .answer ≡ accepted c
-    → (j : Judged) × (judgedOf d ≡ accepted j) × HandedOut (encode (j .new)) buffer c (writeOf d buffer .memory)
-    × (decodeNest (encode (j .new)) ≡ accepted (j .new))
+    → (j : Judged) × (judgedOf d ≡ accepted j) × HandedOut (encode (j .new)) buffer c (writeOf d buffer .memory) ×
+    (decodeNest (encode (j .new)) ≡ accepted (j .new))
 write-hands d sound buffer e = let r = write-accepted d buffer e in (r .0, r .1, r .2, judged-written d sound (r .1))
 
 -- ---- the store that run leaves
-
--- words shown are the values of elements, in their places
-pub record Left (N : Nest) (words memory : List ℕ) : Type 0 where
-  -- word for word what the old order leaves
-  pub as-old : memory ≡ runNest N words
-  -- and what the plain machine leaves, fed the words and the ticket's own rules
-  pub as-plain : (e : Element) → Valid (N .arrays) e → exec (accesses (N .statements)) (ownRules (N .statements)) (order N)
-      (stateOf (N .arrays) words) e ≡ pos (getD memory (placeOf (N .arrays) e) 0)
-  pub size : length memory ≡ length words
 
 pub run-leaves : (d : Answer Ticket) → Sound d → (words : List ℕ) {c : ℕ} → runOf d words .answer ≡ accepted c
     → (j : Judged) × (judgedOf d ≡ accepted j) × Left (j .ticket .nest) words (runOf d words .memory)
@@ -167,8 +149,8 @@ run-leaves d sound words e =
     let j = r .0 in
     let N = j .ticket .nest in
     let a = judged-gives d sound (r .1 .verdict) in
-    let old : runOf d words .memory ≡ runNest N words = r .3 ∙ ap (λ M. runNest M words) (a .new)
-    ∙ same-store (j .ticket .steps) (a .proper) N (a .formed) (a .pass) (a .stay) words (r .1 .right) in
+    let old : runOf d words .memory ≡ runNest N words = r .3 ∙ ap (λ M. runNest M words) (a .new) ∙ same-store (j .ticket .steps) (a .proper) N
+    (a .formed) (a .pass) (a .stay) words (r .1 .right) in
     let s = run-shows (N .arrays) (N .statements) (order N) words (stateOf (N .arrays) words)
     (instances-in-store (N .arrays) (length (N .loops)) (N .statements) (iterations (N .loops)) (a .formed .fits) (a .stay))
     (stateOf-shown (N .arrays) words (r .1 .right)) in (

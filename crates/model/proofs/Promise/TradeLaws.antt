@@ -1,9 +1,10 @@
 -- Steps and conflicting pairs: through steps a pair's vector stays in the set; steps that pass keep every conflicting pair in order; and where
 -- all steps so far exchange or reverse, a reached step is refused with 10 exactly if some conflicting pair trades places at it.
 use mathlib.Core.Path.{_≡_, refl, sym, ap, ap₂, _∙_, subst}
-use mathlib.Core.Logic.{_↔_, inl, inr}
+use mathlib.Core.Logic.{_↔_, inl, inr, ⊎-elim}
 use mathlib.Core.List.{List, [], _∷_, _++_, List·Memᴰ·head, List·Memᴰ·tail, List·Memᴰ·eq-of-singleton, Memᴰ·append-left}
-use Prim.Native.Nat.{ℕ, _+_}
+use Prim.Native.Nat.{ℕ, _+_, _<_}
+use native.Mathlib.Omega.{arith}
 use lib.Dec.{T}
 use lib.IntN.{ℤ}
 use lib.ListN.{length}
@@ -17,18 +18,25 @@ use Rattle.model.specs.Ticket.{Step, exchange, reversal, skew, section, 
 use Rattle.model.specs.Points.{iterations}
 use Rattle.model.specs.Machine.{Instance, accesses, order}
 use Rattle.model.specs.Directions.{signs, backwards, conflict}
-use Rattle.model.specs.Steps.{forward, forwardAll, vectors, vectorsAfter, vectorsAfterAll, somePointsBack}
+use Rattle.model.specs.Steps.{forward, forwardAll, undoAll, vectors, vectorsAfter, vectorsAfterAll, somePointsBack}
 use Rattle.model.specs.Judge.{judgeSteps, directionsOf}
 use Rattle.model.specs.Inside.{Earlier}
-use Rattle.model.specs.Shape.{Proper}
-use Rattle.model.proofs.Points.EarlierLaws.{backwards-earlier, earlier-asymmetric, earlier-irreflexive}
+use Rattle.model.specs.Limits.{nestAfterAll}
+use Rattle.model.specs.Shape.{Proper, WellFormed}
+use Rattle.model.specs.Reasons.{StepsPass}
+use Rattle.model.specs.Promises.{Turns, moved, Trade}
+use Rattle.model.proofs.Points.EarlierLaws.{backwards-earlier, earlier-asymmetric, earlier-irreflexive, earlier-total}
 use Rattle.model.proofs.Points.PointLaws.{iterations-length, iterations-rise}
 use Rattle.model.proofs.Steps.LengthLaws.{step-length}
+use Rattle.model.proofs.Steps.UndoLaws.{undo-forwardAll}
+use Rattle.model.proofs.Steps.KeepLaws.{steps-length, steps-take-points}
+use Rattle.model.proofs.Promise.KeptLaws.{statements-kept}
 use Rattle.model.proofs.Steps.VectorLaws.{vectors-after, exchange-signs, reversal-signs}
-use Rattle.model.proofs.Machine.InstanceLaws.{Before, whole, instances-mem, instances-ordered}
+use Rattle.model.proofs.Machine.InstanceLaws.{Before, whole, instances-mem, mem-instances, instances-ordered, before-comesFirst}
+use Rattle.model.proofs.Machine.InstanceLaws.{comesFirst-precedes}
 use Rattle.model.proofs.Machine.DirectionLaws.{directions-mem, mem-directions}
 use Rattle.model.proofs.Verdict.JudgeStepLaws.{points-back, back-points}
-use Rattle.model.proofs.Verdict.JudgeLaws.{StepsPass, ten-exact}
+use Rattle.model.proofs.Verdict.JudgeLaws.{ten-exact}
 
 -- ---- a pair of points through steps
 
@@ -40,8 +48,8 @@ carried (t ∷ ts) h vs p q e m =
     carried ts (λ u i. h u (List·Memᴰ·tail i)) (vectorsAfter t vs) (forward t p) (forward t q) (step-length t p q e)
     (vectors-after t (h t (List·Memᴰ·head refl)) vs p q e m)
 
-pub pass-forwards : (ts : List Step) → All Proper ts → (vs : List (List Sign)) (N : Nest) → StepsPass ts vs N → (p q : List ℤ) → length p ≡ length q
-    → Mem (signs p q) vs
+pub pass-forwards : (ts : List Step) → All Proper ts → (vs : List (List Sign)) (N : Nest) → StepsPass ts vs N → (p q : List ℤ)
+    → length p ≡ length q → Mem (signs p q) vs
     → (T (backwards (signs p q)) → ⊥) → T (backwards (signs (forwardAll ts p) (forwardAll ts q))) → ⊥
 unfolding forwardAll
 pass-forwards [] h vs N s p q e m f = f
@@ -51,12 +59,6 @@ pass-forwards (t ∷ ts) h vs N s p q e m f =
     (s .0 .forwards (signs (forward t p) (forward t q)) c)
 
 -- ---- steps whose tables give one vector
-
-abbrev pub Turns : Step → Type 0
-Turns (exchange a) = Unit {0}
-Turns (reversal a) = Unit {0}
-Turns (skew a d c) = ⊥
-Turns (section a w) = ⊥
 
 turns-proper : (t : Step) → Turns t → Proper t
 turns-proper (exchange a) h = tt
@@ -90,13 +92,14 @@ module _ (R : List ℤ → List ℤ → Type 0) where
         source = b .source;
         sink = b .sink;
         pair = b .pair;
-        has = List·Memᴰ·eq-of-singleton (subst (Mem u) (ap (vectors t) (b .has)
-            ∙ turns-signs t turns (f (b .source)) (f (b .sink)) (l (b .source) (b .sink) (b .pair))) (g .2));
+        has = List·Memᴰ·eq-of-singleton (subst (Mem u) (ap (vectors t) (b .has) ∙ turns-signs t turns (f (b .source)) (f (b .sink))
+            (l (b .source) (b .sink) (b .pair))) (g .2));
       }) w m
 
 -- ---- one step more
 
-after-snoc : (front : List Step) (t : Step) (vs : List (List Sign)) → vectorsAfterAll (front ++ t ∷ []) vs ≡ vectorsAfter t (vectorsAfterAll front vs)
+after-snoc : (front : List Step) (t : Step) (vs : List (List Sign))
+    → vectorsAfterAll (front ++ t ∷ []) vs ≡ vectorsAfter t (vectorsAfterAll front vs)
 unfolding vectorsAfterAll
 after-snoc [] t vs = refl
 after-snoc (u ∷ front) t vs = after-snoc front t (vectorsAfter u vs)
@@ -104,14 +107,14 @@ after-snoc (u ∷ front) t vs = after-snoc front t (vectorsAfter u vs)
 -- ---- pairs of a nest
 
 module _ (N : Nest) where
-  -- two conflicting instances that are in order after the steps `front` and change places at the step after them
-  pub record Trade (front : List Step) (t : Step) : Type 0 where
-    pub source : Instance
-    pub sink : Instance
-    pub before : Precedes (order N) source sink
-    pub clash : T (conflict (accesses (N .statements)) source sink)
-    pub kept : Earlier (forwardAll front (sink .iteration)) (forwardAll front (source .iteration)) → ⊥
-    pub traded : Earlier (forwardAll (front ++ t ∷ []) (sink .iteration)) (forwardAll (front ++ t ∷ []) (source .iteration))
+  -- two conflicting instances whose points are in order after the steps `front`, and not after the step that follows
+  record Crossed (front : List Step) (t : Step) : Type 0 where
+    source : Instance
+    sink : Instance
+    old : Precedes (order N) source sink
+    clash : T (conflict (accesses (N .statements)) source sink)
+    kept : Earlier (forwardAll front (sink .iteration)) (forwardAll front (source .iteration)) → ⊥
+    crossed : Earlier (forwardAll (front ++ t ∷ []) (sink .iteration)) (forwardAll (front ++ t ∷ []) (source .iteration))
 
   pub pair-lengths : (i j : Instance) → Precedes (order N) i j → length (i .iteration) ≡ length (j .iteration)
   pair-lengths i j h =
@@ -131,9 +134,54 @@ module _ (N : Nest) where
       go l (inl e) = earlier-asymmetric (i .iteration) (j .iteration) e l
       go l (inr e) = earlier-irreflexive (i .iteration) (subst (λ p. Earlier p (i .iteration)) (sym (e .0)) l)
 
+  -- a source stands before its sink: of an earlier iteration, or of the same one and earlier in the body
+  pair-before : (i j : Instance) → Precedes (order N) i j → Before whole i j
+  pair-before i j h = ordered-precedes (Before whole) (order N)
+      (instances-ordered whole (length (N .statements)) (iterations (N .loops)) (iterations-rise (N .loops))) i j h
+
+  -- points that steps take to one point are one
+  same-origin : (ts : List Step) (p q : List ℤ) → forwardAll ts p ≡ forwardAll ts q → p ≡ q
+  same-origin ts p q e = sym (undo-forwardAll ts p) ∙ ap (undoAll ts) e ∙ undo-forwardAll ts q
+
+  same-rises : (ts : List Step) (i j : Instance) → Precedes (order N) i j → forwardAll ts (i .iteration) ≡ forwardAll ts (j .iteration)
+      → i .statement < j .statement
+  same-rises ts i j h e = ⊎-elim
+      (λ l. absurd (earlier-irreflexive (i .iteration) (subst (Earlier (i .iteration)) (sym (same-origin ts (i .iteration) (j .iteration) e)) l)))
+      (λ r. r .1) (pair-before i j h)
+
+  -- a pair that stands the other way round crossed
+  no-longer-first : (ts : List Step) (i j : Instance) → Precedes (order N) i j → Precedes (order (nestAfterAll ts N)) (moved ts j) (moved ts i)
+      → Earlier (forwardAll ts (j .iteration)) (forwardAll ts (i .iteration))
+  no-longer-first ts i j h g = ⊎-elim (λ l. l) (λ r. absurd (let a = same-rises ts i j h (sym (r .0)) in let b = r .1 in omega arith))
+      (ordered-precedes (Before whole) (order (nestAfterAll ts N))
+      (instances-ordered whole (length (nestAfterAll ts N .statements)) (iterations (nestAfterAll ts N .loops))
+      (iterations-rise (nestAfterAll ts N .loops))) (moved ts j) (moved ts i) g)
+
+  -- ---- where steps take a pair
+
+  module _ (formed : WellFormed N) (ts : List Step) (proper : All Proper ts) where
+    moved-mem : (i : Instance) → Mem i (order N) → Mem (moved ts i) (order (nestAfterAll ts N))
+    moved-mem i m = let r = instances-mem (length (N .statements)) (iterations (N .loops)) i m in
+        mem-instances (length (nestAfterAll ts N .statements)) (iterations (nestAfterAll ts N .loops)) (moved ts i)
+        (subst (λ n. i .statement < n) (sym (statements-kept ts N)) (r .0)) (steps-take-points ts proper N formed (r .1))
+
+    before-moved : (i j : Instance) → Mem i (order N) → Mem j (order N) → Before whole (moved ts i) (moved ts j)
+        → Precedes (order (nestAfterAll ts N)) (moved ts i) (moved ts j)
+    before-moved i j m l h =
+        comesFirst-precedes (length (nestAfterAll ts N .statements)) (iterations (nestAfterAll ts N .loops))
+        (iterations-rise (nestAfterAll ts N .loops)) (moved ts i) (moved ts j)
+        (moved-mem i m) (moved-mem j l) (before-comesFirst (moved ts i) (moved ts j) h)
+
+    still-first : (i j : Instance) → Precedes (order N) i j → (Earlier (forwardAll ts (j .iteration)) (forwardAll ts (i .iteration)) → ⊥)
+        → Precedes (order (nestAfterAll ts N)) (moved ts i) (moved ts j)
+    still-first i j h f = let m = precedes-mem (order N) i j h in before-moved i j (m .0) (m .1)
+        (⊎-elim (λ e. inr (e, same-rises ts i j h e)) (λ r. ⊎-elim inl (λ g. absurd (f g)) r)
+        (earlier-total (forwardAll ts (i .iteration)) (forwardAll ts (j .iteration))
+        (steps-length ts (i .iteration) (j .iteration) (pair-lengths i j h))))
+
   Conflicting : List ℤ → List ℤ → Type 0
-  Conflicting p q = (i : Instance) × (j : Instance) × Precedes (order N) i j × T (conflict (accesses (N .statements)) i j) × (p ≡ i .iteration)
-      × (q ≡ j .iteration)
+  Conflicting p q = (i : Instance) × (j : Instance) × Precedes (order N) i j × T (conflict (accesses (N .statements)) i j) × (p ≡ i .iteration) ×
+      (q ≡ j .iteration)
 
   -- a step that is reached when all steps so far exchange or reverse
   module _ (front : List Step) (t : Step) (turns : All Turns (front ++ t ∷ [])) (pass : StepsPass front (directionsOf N) N) where
@@ -164,9 +212,9 @@ module _ (N : Nest) where
         (pair-forwards i j h)
         (subst T (sym (backwards-earlier (forwardAll front (i .iteration)) (forwardAll front (j .iteration)))) e)
 
-    had-trade : (v : List Sign) → T (backwards v) → Had Conflicting (forwardAll (front ++ t ∷ [])) v → Trade front t
+    had-crossed : (v : List Sign) → T (backwards v) → Had Conflicting (forwardAll (front ++ t ∷ [])) v → Crossed front t
     unfolding Conflicting
-    had-trade v b r =
+    had-crossed v b r =
         let i = r .pair .0 in
         let j = r .pair .1 in
         let fwd = forwardAll (front ++ t ∷ []) in
@@ -174,32 +222,56 @@ module _ (N : Nest) where
         record {
           source = i;
           sink = j;
-          before = r .pair .2;
+          old = r .pair .2;
           clash = r .pair .3;
           kept = still-kept i j (r .pair .2) (r .pair .3);
-          traded = subst T (ap backwards e ∙ backwards-earlier (fwd (i .iteration)) (fwd (j .iteration))) b;
+          crossed = subst T (ap backwards e ∙ backwards-earlier (fwd (i .iteration)) (fwd (j .iteration))) b;
         }
 
-    back-trade : T (somePointsBack (vectorsAfter t (vectorsAfterAll front (directionsOf N)))) → Trade front t
-    back-trade b =
+    back-crossed : T (somePointsBack (vectorsAfter t (vectorsAfterAll front (directionsOf N)))) → Crossed front t
+    back-crossed b =
         let r = points-back (vectorsAfter t (vectorsAfterAll front (directionsOf N))) b in
-        had-trade (r .vector) (r .back)
+        had-crossed (r .vector) (r .back)
         (traced Conflicting (front ++ t ∷ []) turns (λ p. p) same-lengths (directionsOf N) all-had (r .vector)
         (subst (Mem (r .vector)) (sym (after-snoc front t (directionsOf N))) (r .there)))
 
-    trade-back : Trade front t → T (somePointsBack (vectorsAfter t (vectorsAfterAll front (directionsOf N))))
-    trade-back r =
+    crossed-back : Crossed front t → T (somePointsBack (vectorsAfter t (vectorsAfterAll front (directionsOf N))))
+    crossed-back r =
         let p = r .source .iteration in
         let q = r .sink .iteration in
         let fwd = forwardAll (front ++ t ∷ []) in
         back-points (vectorsAfter t (vectorsAfterAll front (directionsOf N))) (record {
           vector = signs (fwd p) (fwd q);
           there = subst (Mem (signs (fwd p) (fwd q))) (after-snoc front t (directionsOf N))
-              (carried (front ++ t ∷ []) proper (directionsOf N) p q (pair-lengths (r .source) (r .sink) (r .before))
-              (in-directions (r .source) (r .sink) (r .before) (r .clash)));
-          back = subst T (sym (backwards-earlier (fwd p) (fwd q))) (r .traded);
+              (carried (front ++ t ∷ []) proper (directionsOf N) p q (pair-lengths (r .source) (r .sink) (r .old))
+              (in-directions (r .source) (r .sink) (r .old) (r .clash)));
+          back = subst T (sym (backwards-earlier (fwd p) (fwd q))) (r .crossed);
         })
 
-    pub ten-trades : (k : ℕ) (back : List Step) → (judgeSteps k (front ++ t ∷ back) (directionsOf N) N ≡ refused 10 (k + length front)) ↔ Trade
-        front t
-    ten-trades k back = let e = ten-exact k front t back (directionsOf N) N pass in (λ h. back-trade (e .0 h), λ r. e .1 (trade-back r))
+    -- the nests before and after the step
+    module _ (formed : WellFormed N) where
+      crossed-trade : Crossed front t → Trade N front t
+      crossed-trade r = record {
+        source = r .source;
+        sink = r .sink;
+        clash = r .clash;
+        old = r .old;
+        before = still-first formed front within-front (r .source) (r .sink) (r .old) (r .kept);
+        after = let m = precedes-mem (order N) (r .source) (r .sink) (r .old) in
+            before-moved formed (front ++ t ∷ []) proper (r .sink) (r .source) (m .1) (m .0) (inl (r .crossed));
+      }
+
+      trade-crossed : Trade N front t → Crossed front t
+      trade-crossed r = record {
+        source = r .source;
+        sink = r .sink;
+        old = r .old;
+        clash = r .clash;
+        kept = still-kept (r .source) (r .sink) (r .old) (r .clash);
+        crossed = no-longer-first (front ++ t ∷ []) (r .source) (r .sink) (r .old) (r .after);
+      }
+
+      pub ten-trades : (k : ℕ) (back : List Step) → (judgeSteps k (front ++ t ∷ back) (directionsOf N) N ≡ refused 10
+          (k + length front)) ↔ Trade N front t
+      ten-trades k back = let e = ten-exact k front t back (directionsOf N) N pass in
+          (λ h. crossed-trade (back-crossed (e .0 h)), λ r. e .1 (crossed-back (trade-crossed r)))

@@ -18,14 +18,12 @@ use Rattle.model.specs.Encode.{encode}
 use Rattle.model.specs.Shape.{Runs, WellFormed}
 use Rattle.model.specs.Ranges.{InRange, Small, LimitRanges, LoopRanges, ArrayRanges, SubscriptRanges, AccessRanges, StatementRanges, NestRanges, StepThere, StepsThere, TicketRanges}
 use Rattle.model.specs.Judge.{Judged, judgedOf}
+use Rattle.model.specs.Reasons.{FewLimits, limitNumbers, loopNumbers, subscriptNumbers, accessNumbers, statementNumbers, nestNumbers, StepsPass}
 use Rattle.model.proofs.Steps.LengthLaws.{There, depth-after}
 use Rattle.model.proofs.Steps.WellFormedLaws.{well-formed-after-all}
 use Rattle.model.proofs.Grammar.StepReading.{depth-there}
 use Rattle.model.proofs.Grammar.GrammarLaws.{Sound, ranges-wider, steps-proper}
 use Rattle.model.proofs.Grammar.RoundTripLaws.{encode-decodes}
-use Rattle.model.proofs.Verdict.SmallLaws.{limitNumbers, loopNumbers, subscriptNumbers, accessNumbers, statementNumbers, nestNumbers}
-use Rattle.model.proofs.Verdict.JudgeStepLaws.{Few}
-use Rattle.model.proofs.Verdict.JudgeLaws.{StepsPass}
 use Rattle.model.proofs.Verdict.StageLaws.{passes-final}
 use Rattle.model.proofs.Verdict.VerdictLaws.{judged-accepted, admit-accepted, judgeTicket-accepted}
 
@@ -151,7 +149,7 @@ statement-ranges s c h =
       reads = λ a i. each a (Memᴰ·append-right (s .writes) i);
     }
 
-nest-ranges : (N : Nest) → NestCounts N → WellFormed N → Few (N .loops) → All Small (nestNumbers N) → NestRanges 6 16 N
+nest-ranges : (N : Nest) → NestCounts N → WellFormed N → FewLimits (N .loops) → All Small (nestNumbers N) → NestRanges 6 16 N
 unfolding nestNumbers
 nest-ranges N c w f s = record {
   few-loops = c .few-loops;

@@ -32,11 +32,11 @@ use Rattle.model.specs.Bounds.{subscriptAt, space, accessesOf}
 use Rattle.model.specs.Machine.{Element, element}
 use Rattle.model.specs.Inside.{Inside}
 use Rattle.model.specs.Shape.{Runs, WellFormed}
-use Rattle.model.specs.Quick.{Range, leastSum, greatestSum, ranges, difference, divides, neverZero, someApart, isApart, apart, perhaps, quickTest}
+use Rattle.model.specs.Quick.{Range, leastSum, greatestSum, ranges, difference, divides, neverZero, someApart, isApart, apart, perhaps, quickTest, InRanges}
 use Rattle.model.specs.Entries.{allAccesses}
 use Rattle.model.proofs.Points.PointLaws.{inside-length, iterations-inside}
 use Rattle.model.proofs.Points.WithinLaws.{space-within}
-use Rattle.model.proofs.Quick.QuickRangeLaws.{InRanges, least-sum, greatest-sum, ranges-append, in-ranges, range-filled}
+use Rattle.model.proofs.Quick.QuickRangeLaws.{least-sum, greatest-sum, ranges-append, in-ranges, range-filled}
 
 -- a test, with its numbers written out: they are not found from its type
 below : (a b : ℤ) → T (ltZ a b) → a <ℤ b

@@ -17,7 +17,7 @@ use Rattle.model.specs.Ticket.{Limit, Loop}
 use Rattle.model.specs.Points.{maxZ, minZ, largest, smallest, value}
 use Rattle.model.specs.Inside.{AtLeast, AtMost, InLimits, Inside}
 use Rattle.model.specs.Shape.{Runs}
-use Rattle.model.specs.Quick.{Range, leastTerm, greatestTerm, leastSum, greatestSum, cut, rangeOf, rangesFrom, ranges}
+use Rattle.model.specs.Quick.{Range, leastTerm, greatestTerm, leastSum, greatestSum, cut, rangeOf, rangesFrom, ranges, Contains, InRanges}
 use Rattle.model.proofs.Points.LoopLaws.{max-iff, min-iff, largest-iff, smallest-iff}
 
 -- ---- cut to ±32767, an index in the range stays in it
@@ -33,23 +33,12 @@ le-cut y x h k = let m = minZ (pos 32767) y in ≤ℤ-trans (min-iff (pos 32767)
 
 -- ---- sums over ranges
 
-pub record InRange (r : Range) (x : ℤ) : Type 0 where
-  pub low : r .least ≤ℤ x
-  pub high : x ≤ℤ r .greatest
-
--- each index in its range
-abbrev pub InRanges : List Range → List ℤ → Type 0
-InRanges [] [] = Unit {0}
-InRanges [] (x ∷ xs) = ⊥
-InRanges (r ∷ rs) [] = ⊥
-InRanges (r ∷ rs) (x ∷ xs) = InRange r x × InRanges rs xs
-
-least-term : (c : ℤ) (r : Range) (x : ℤ) → InRange r x → leastTerm c r ≤ℤ (c *ℤ x)
+least-term : (c : ℤ) (r : Range) (x : ℤ) → Contains r x → leastTerm c r ≤ℤ (c *ℤ x)
 unfolding leastTerm
 least-term c r x h = cond-cases (λ z. z ≤ℤ (c *ℤ x)) (ltZ (pos 0) c) (c *ℤ r .least) (c *ℤ r .greatest)
     (λ e. mulˡ {q = c} (<ℤ-≤ℤ (test-lt {a = pos 0} {b = c} e)) (h .low)) (λ e. mul-flip {q = c} (test-lt-no {a = pos 0} {b = c} e) (h .high))
 
-greatest-term : (c : ℤ) (r : Range) (x : ℤ) → InRange r x → (c *ℤ x) ≤ℤ greatestTerm c r
+greatest-term : (c : ℤ) (r : Range) (x : ℤ) → Contains r x → (c *ℤ x) ≤ℤ greatestTerm c r
 unfolding greatestTerm
 greatest-term c r x h = cond-cases (λ z. (c *ℤ x) ≤ℤ z) (ltZ (pos 0) c) (c *ℤ r .greatest) (c *ℤ r .least)
     (λ e. mulˡ {q = c} (<ℤ-≤ℤ (test-lt {a = pos 0} {b = c} e)) (h .high)) (λ e. mul-flip {q = c} (test-lt-no {a = pos 0} {b = c} e) (h .low))
@@ -107,7 +96,7 @@ module _ (rs : List Range) (outer : List ℤ) (inn : InRanges rs outer) (x : ℤ
       let q = Memᴰ·of-map greatestOf (L .upper) m in subst (λ y. x ≤ℤ y) (q .2) (limit-high (q .0) (r .positive-upper (q .0) (q .1))
       (h .high (q .0) (q .1))))
 
-  in-range : (L : Loop) → Runs L → InLimits L outer x → negsuc 32766 ≤ℤ x → x ≤ℤ pos 32767 → InRange (rangeOf rs L) x
+  in-range : (L : Loop) → Runs L → InLimits L outer x → negsuc 32766 ≤ℤ x → x ≤ℤ pos 32767 → Contains (rangeOf rs L) x
   unfolding rangeOf
   in-range L r h lo hi = record {
     low = cut-le (largest (map leastOf (L .lower))) x (largest-low L r h) lo;

@@ -11,6 +11,7 @@ use Rattle.model.specs.Inside.{Inside}
 use Rattle.model.specs.Steps.{forward, undo}
 use Rattle.model.specs.Limits.{loopsAfter}
 use Rattle.model.specs.Shape.{Shaped, Runs, Proper}
+use Rattle.model.specs.Promises.{KeepsPoints}
 use Rattle.model.proofs.Points.PointLaws.{iterations-inside}
 use Rattle.model.proofs.Steps.ReversalLaws.{reversal-inside}
 use Rattle.model.proofs.Steps.ExchangeLaws.{exchange-inside}
@@ -38,11 +39,6 @@ module _ (t : Step) (h : Proper t) (N : List Loop) (s : Shaped 0 N) where
     pub step-keeps-points : {q : List ℤ} → Mem q (iterations (loopsAfter t N)) → Mem (undo t q) (iterations N) × (forward t (undo t q) ≡ q)
     step-keeps-points {q} m = let o = iterations-inside (loopsAfter t N) (runs-after t h N r) q .0 m
         in (iterations-inside N r (undo t q) .1 (undo-inside q o), forward-undo t h N q o)
-
--- the step takes the points of the nest one to one onto those of the nest that it makes, and `undo` takes them back
-pub record KeepsPoints (t : Step) (N : List Loop) : Type 0 where
-  pub onto : (p : List ℤ) → Mem p (iterations N) → Mem (forward t p) (iterations (loopsAfter t N)) × (undo t (forward t p) ≡ p)
-  pub back : (q : List ℤ) → Mem q (iterations (loopsAfter t N)) → Mem (undo t q) (iterations N) × (forward t (undo t q) ≡ q)
 
 pub keeps-points : (t : Step) → Proper t → (N : List Loop) → Shaped 0 N → All Runs N → KeepsPoints t N
 keeps-points t h N s r = record { onto = λ p m. (step-takes-points t h N s r m, undo-forward t p); back = λ q m. step-keeps-points t h N s r m }

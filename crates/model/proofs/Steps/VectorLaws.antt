@@ -26,7 +26,7 @@ use Rattle.model.specs.Shape.{Proper}
 
 -- ---- sums
 
-any-sign : (s : Sign) → Mem s anySign
+pub any-sign : (s : Sign) → Mem s anySign
 unfolding anySign
 any-sign less = List·Memᴰ·head refl
 any-sign equal = List·Memᴰ·tail (List·Memᴰ·head refl)

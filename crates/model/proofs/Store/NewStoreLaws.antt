@@ -14,9 +14,10 @@ use Rattle.model.specs.Bounds.{violates, accessesOf}
 use Rattle.model.specs.Machine.{Element, element, State, Rules, accesses, bodyAt, instances, run, exec, originally}
 use Rattle.model.specs.Shape.{Fits, FitsAll}
 use Rattle.model.specs.Store.{makeWhole, performOn, ownRules}
+use Rattle.model.specs.Promises.{Valid}
 use Rattle.model.proofs.Machine.InstanceLaws.{instances-mem, mem-instances}
 use Rattle.model.proofs.Machine.SameRunLaws.{instanceAt, NamesAlike}
-use Rattle.model.proofs.Store.PlaceLaws.{Valid, element-valid}
+use Rattle.model.proofs.Store.PlaceLaws.{element-valid}
 use Rattle.model.proofs.Store.StoreLaws.{InStore, run-equal}
 
 -- ---- accesses that stay within bounds

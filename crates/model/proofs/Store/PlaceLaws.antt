@@ -9,7 +9,7 @@ use native.Mathlib.Nat.{div-add-mod', mod-lt, div-lt-iff-lt-mul}
 use native.Mathlib.Decide.{decLt}
 use lib.Dec.{T}
 use lib.IntN.{ℤ, pos, natAbs}
-use lib.Signed.{_≤ℤ_, _<ℤ_, ltZ, leZ}
+use lib.Signed.{ltZ, leZ}
 use lib.ListN.{length, length-map}
 use Rattle.integers.proofs.RingLaws.{zarith}
 use Rattle.integers.proofs.RangeLaws.{abs-below, abs-injective, test-lt-no, test-le-no}
@@ -21,19 +21,9 @@ use Rattle.model.specs.Bounds.{subscriptAt, outside, violates}
 use Rattle.model.specs.Machine.{Element, element}
 use Rattle.model.specs.Shape.{Fits}
 use Rattle.model.specs.Store.{base, placeFrom, placeOf}
+use Rattle.model.specs.Promises.{InExtents, Valid, OneToOne}
 
 -- ---- elements
-
--- as many subscripts as extents, each from 0 to its extent − 1
-abbrev pub InExtents : List ℕ → List ℤ → Type 0
-InExtents [] [] = Unit {0}
-InExtents [] (x ∷ xs) = ⊥
-InExtents (n ∷ ns) [] = ⊥
-InExtents (n ∷ ns) (x ∷ xs) = (pos 0 ≤ℤ x) × (x <ℤ pos n) × InExtents ns xs
-
-pub record Valid (as′ : List (List ℕ)) (e : Element) : Type 0 where
-  pub there : e .array < length as′
-  pub inside : InExtents (extents as′ (e .array)) (e .subscripts)
 
 inside-extents : (ns : List ℕ) (xs : List ℤ) → length xs ≡ length ns → (T (outside ns xs) → ⊥) → InExtents ns xs
 unfolding outside
@@ -159,3 +149,6 @@ module _ (as′ : List (List ℕ)) where
       let r = at-onto as′ k h in
       let i = inner-onto (extents as′ (r .0)) (r .1) (r .3) in
       (record { array = r .0; subscripts = i .0 }, record { there = r .2; inside = i .1 }, ap (base as′ (r .0) +_) (i .2) ∙ r .4)
+
+pub one-to-one : (as′ : List (List ℕ)) → OneToOne as′
+one-to-one as′ = record { below = place-below as′; distinct = place-injective as′; onto = place-onto as′ }

@@ -14,13 +14,14 @@ use Rattle.model.specs.Ticket.{Statement}
 use Rattle.model.specs.Grammar.{total}
 use Rattle.model.specs.Machine.{Element, same, Instance, State, accesses, bodyAt, store, storeAll, perform, run, exec}
 use Rattle.model.specs.Store.{placeOf, make, makeWhole, storeWords, performOn, ownRules}
+use Rattle.model.specs.Promises.{Valid, stateOf}
 use Rattle.model.proofs.Machine.ElementLaws.{same-decides}
 use Rattle.model.proofs.Machine.CommuteLaws.{store-same, store-other}
 use Rattle.model.proofs.Store.WholeRuleLaws.{words-alike}
-use Rattle.model.proofs.Store.PlaceLaws.{Valid, place-below, place-injective, place-onto}
+use Rattle.model.proofs.Store.PlaceLaws.{place-below, place-injective, place-onto}
 
 -- the words have a place for every element, and hold its value there
-pub record Shows (as′ : List (List ℕ)) (w : List ℕ) (s : State) : Type 0 where
+pub record ShowsState (as′ : List (List ℕ)) (w : List ℕ) (s : State) : Type 0 where
   pub whole : length w ≡ total as′
   pub shown : (e : Element) → Valid as′ e → s e ≡ pos (getD w (placeOf as′ e) 0)
 
@@ -32,10 +33,7 @@ pub record InStore (as′ : List (List ℕ)) (ss : List Statement) (i : Instance
 module _ (as′ : List (List ℕ)) where
   -- ---- words as a state
 
-  unfoldable pub stateOf : List ℕ → State
-  stateOf w e = pos (getD w (placeOf as′ e) 0)
-
-  pub stateOf-shown : (w : List ℕ) → length w ≡ total as′ → Shows as′ w (stateOf w)
+  pub stateOf-shown : (w : List ℕ) → length w ≡ total as′ → ShowsState as′ w (stateOf as′ w)
   unfolding stateOf
   stateOf-shown w l = record { whole = l; shown = λ e v. refl }
 
@@ -46,8 +44,8 @@ module _ (as′ : List (List ℕ)) where
 
   -- ---- one store
 
-  module _ (w : List ℕ) (s : State) (h : Shows as′ w s) where
-    store-shows : (e : Element) → Valid as′ e → (v : ℕ) → Shows as′ (set w (placeOf as′ e) v) (store e (pos v) s)
+  module _ (w : List ℕ) (s : State) (h : ShowsState as′ w s) where
+    store-shows : (e : Element) → Valid as′ e → (v : ℕ) → ShowsState as′ (set w (placeOf as′ e) v) (store e (pos v) s)
     store-shows e u v = record { whole = length-set w (placeOf as′ e) v ∙ h .whole; shown = λ f a. at f a (T-cases (same f e)) }
       where
         at : (f : Element) → Valid as′ f → T (same f e) ⊎ (T (same f e) → ⊥)
@@ -66,8 +64,8 @@ module _ (as′ : List (List ℕ)) where
     fetched [] a = refl
     fetched (e ∷ es) a = ap₂ _∷_ (h .shown e (a e (List·Memᴰ·head refl))) (fetched es (λ f m. a f (List·Memᴰ·tail m)))
 
-  storeAll-shows : (v k : ℕ) (es : List Element) (w : List ℕ) (s : State) → All (Valid as′) es → Shows as′ w s
-      → Shows as′ (storeWords as′ v es w) (storeAll (λ _. pos v) k es s)
+  storeAll-shows : (v k : ℕ) (es : List Element) (w : List ℕ) (s : State) → All (Valid as′) es → ShowsState as′ w s
+      → ShowsState as′ (storeWords as′ v es w) (storeAll (λ _. pos v) k es s)
   unfolding storeAll storeWords
   storeAll-shows v k [] w s a h = h
   storeAll-shows v k (e ∷ es) w s a h = storeAll-shows v (suc k) es (set w (placeOf as′ e) v) (store e (pos v) s) (λ f m. a f (List·Memᴰ·tail m))
@@ -76,8 +74,8 @@ module _ (as′ : List (List ℕ)) where
   -- ---- an instance, and a run
 
   module _ (ss : List Statement) where
-    pub perform-shows : (i : Instance) (w : List ℕ) (s : State) → InStore as′ ss i → Shows as′ w s
-        → Shows as′ (performOn as′ ss i w) (perform (accesses ss) (ownRules ss) i s)
+    pub perform-shows : (i : Instance) (w : List ℕ) (s : State) → InStore as′ ss i → ShowsState as′ w s
+        → ShowsState as′ (performOn as′ ss i w) (perform (accesses ss) (ownRules ss) i s)
     unfolding performOn perform ownRules
     perform-shows i w s b h =
         let rule = bodyAt ss (i .statement) .rule in
@@ -85,12 +83,12 @@ module _ (as′ : List (List ℕ)) where
         let reads = accesses ss .reads i in
         let writes = accesses ss .writes i in
         let value = make rule constant (map (λ e. getD w (placeOf as′ e) 0) reads) in
-        subst (λ (v : ℤ). Shows as′ (storeWords as′ value writes w) (storeAll (λ _. v) 0 writes s))
+        subst (λ (v : ℤ). ShowsState as′ (storeWords as′ value writes w) (storeAll (λ _. v) 0 writes s))
         (sym (ap (makeWhole rule constant) (fetched w s h reads (b .reads)) ∙ words-alike rule constant (map (λ e. getD w (placeOf as′ e) 0) reads)))
         (storeAll-shows value 0 writes w s (b .writes) h)
 
-    pub run-shows : (xs : List Instance) (w : List ℕ) (s : State) → All (InStore as′ ss) xs → Shows as′ w s
-        → Shows as′ (run (performOn as′ ss) xs w) (exec (accesses ss) (ownRules ss) xs s)
+    pub run-shows : (xs : List Instance) (w : List ℕ) (s : State) → All (InStore as′ ss) xs → ShowsState as′ w s
+        → ShowsState as′ (run (performOn as′ ss) xs w) (exec (accesses ss) (ownRules ss) xs s)
     unfolding run
     run-shows [] w s a h = h
     run-shows (i ∷ xs) w s a h = run-shows xs (performOn as′ ss i w) (perform (accesses ss) (ownRules ss) i s) (λ j m. a j (List·Memᴰ·tail m))
@@ -104,7 +102,7 @@ module _ (as′ : List (List ℕ)) where
 
   -- ---- equal stores
 
-  pub shown-equal : (w w′ : List ℕ) (s s′ : State) → Shows as′ w s → Shows as′ w′ s′ → ((e : Element) → Valid as′ e → s e ≡ s′ e) → w ≡ w′
+  pub shown-equal : (w w′ : List ℕ) (s s′ : State) → ShowsState as′ w s → ShowsState as′ w′ s′ → ((e : Element) → Valid as′ e → s e ≡ s′ e) → w ≡ w′
   shown-equal w w′ s s′ h h′ same = ext-getD 0 w w′ (h .whole ∙ sym (h′ .whole)) (λ k l.
       let r = place-onto as′ k (subst (k <_) (h .whole) l) in
       let q : pos (getD w (placeOf as′ (r .0)) 0) ≡ pos (getD w′ (placeOf as′ (r .0)) 0) = sym (h .shown (r .0) (r .1)) ∙ same (r .0) (r .1)
@@ -117,4 +115,4 @@ module _ (as′ : List (List ℕ)) where
       → (w : List ℕ) → length w ≡ total as′ → run (performOn as′ ss) xs w ≡ run (performOn as′ ss′) xs′ w
   run-equal ss ss′ xs xs′ a a′ same w l =
       let h = stateOf-shown w l in
-      shown-equal _ _ _ _ (run-shows ss xs w (stateOf w) a h) (run-shows ss′ xs′ w (stateOf w) a′ h) (λ e _. same (stateOf w) e)
+      shown-equal _ _ _ _ (run-shows ss xs w (stateOf as′ w) a h) (run-shows ss′ xs′ w (stateOf as′ w) a′ h) (λ e _. same (stateOf as′ w) e)

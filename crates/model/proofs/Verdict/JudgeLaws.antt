@@ -15,14 +15,10 @@ use Rattle.model.specs.Ticket.{Step, Nest}
 use Rattle.model.specs.Steps.{vectorsAfter, vectorsAfterAll, somePointsBack}
 use Rattle.model.specs.Limits.{nestAfter, nestAfterAll}
 use Rattle.model.specs.Judge.{stages, judgeSteps}
+use Rattle.model.specs.Reasons.{Backwards, StepPasses, Reason, StepsPass, Rejected}
 use Rattle.model.proofs.Answers.AnswerLaws.{not-both, then-accepted, then-refused}
 use Rattle.model.proofs.Answers.PassLaws.{then-pass, then-stop}
-use Rattle.model.proofs.Verdict.JudgeStepLaws.{Backwards, StepPasses, Reason, points-back, back-points, halted-number, ten, taking, step-accepted, accepted-step, step-refused, refused-step}
-
--- every step passes when it is taken
-abbrev pub StepsPass : List Step → List (List Sign) → Nest → Type 0
-StepsPass [] vs N = Unit {0}
-StepsPass (t ∷ ts) vs N = StepPasses t vs N × StepsPass ts (vectorsAfter t vs) (nestAfter t N)
+use Rattle.model.proofs.Verdict.JudgeStepLaws.{points-back, back-points, halted-number, ten, taking, step-accepted, accepted-step, step-refused, refused-step}
 
 pub judgeSteps-accepted : (k : ℕ) (ts : List Step) (vs : List (List Sign)) (N : Nest) {N′ : Nest} → judgeSteps k ts vs N ≡ accepted N′
     → (N′ ≡ nestAfterAll ts N) × StepsPass ts vs N
@@ -57,16 +53,6 @@ judgeSteps-resume k (t ∷ front) ts vs N h =
     then-pass (judgeSteps (suc k) (front ++ ts) (vectorsAfter t vs) (nestAfter t N)) (accepted-step k t vs N (h .0))
     ∙ (judgeSteps-resume (suc k) front ts (vectorsAfter t vs) (nestAfter t N) (h .1)
     ∙ ap (λ j. judgeSteps j ts (vectorsAfterAll front (vectorsAfter t vs)) (nestAfterAll front (nestAfter t N))) (omega arith))
-
--- why the steps from number k on are refused with n at p: the first that does not pass
-pub record Rejected (k : ℕ) (ts : List Step) (vs : List (List Sign)) (N : Nest) (n p : ℕ) : Type 0 where
-  pub front : List Step
-  pub step : Step
-  pub back : List Step
-  pub parts : ts ≡ front ++ step ∷ back
-  pub number : p ≡ k + length front
-  pub pass : StepsPass front vs N
-  pub reason : Reason step (vectorsAfterAll front vs) (nestAfterAll front N) n
 
 pub judgeSteps-refused : (k : ℕ) (ts : List Step) (vs : List (List Sign)) (N : Nest) {n p : ℕ} → judgeSteps k ts vs N ≡ refused n p
     → Rejected k ts vs N n p

@@ -9,7 +9,6 @@ use native.Mathlib.Omega.{arith}
 use lib.Dec.{T, leb, T-not, not-T, leb→le, le→leb, nleb→lt}
 use lib.ListN.{length}
 use Rattle.integers.specs.Sign.{Sign}
-use Rattle.lists.specs.Membership.{Mem, All}
 use Rattle.lists.proofs.TestLaws.{T-cases, and-both, and-intro, all-holds, holds-all, any-some, some-any, refuted, all-fails}
 use Rattle.model.specs.Answer.{Answer, accepted, refused, require, _>>_}
 use Rattle.model.specs.Ticket.{Loop, Step, Nest}
@@ -17,20 +16,12 @@ use Rattle.model.specs.Directions.{backwards}
 use Rattle.model.specs.Steps.{vectorsAfter, somePointsBack}
 use Rattle.model.specs.Limits.{nestAfter, nestAfterAll}
 use Rattle.model.specs.Judge.{fewLimits, smallNumbers, stages, judgeStages}
-use Rattle.model.proofs.Verdict.SmallLaws.{Small, Large, test-small, small-test, test-large, large-test}
+use Rattle.model.specs.Reasons.{AllSmall, Backwards, Forwards, TooMany, FewLimits, StagePasses, StagesPass, StageReason, Halted, StepPasses, Reason}
+use Rattle.model.proofs.Verdict.SmallLaws.{test-small, small-test, test-large, large-test}
 use Rattle.model.proofs.Answers.AnswerLaws.{not-both, then-accepted, then-refused, require-accepted, require-refused}
 use Rattle.model.proofs.Answers.PassLaws.{then-pass, then-stop, require-pass, require-stop}
 
 -- ---- vectors
-
--- a vector that points backwards
-pub record Backwards (vs : List (List Sign)) : Type 0 where
-  pub vector : List Sign
-  pub there : Mem vector vs
-  pub back : T (backwards vector)
-
-abbrev pub Forwards : List (List Sign) → Type 0
-Forwards vs = All (λ v. T (backwards v) → ⊥) vs
 
 pub points-back : (vs : List (List Sign)) → T (somePointsBack vs) → Backwards vs
 unfolding somePointsBack
@@ -48,24 +39,15 @@ forwards-points vs h t = let b = points-back vs t in h (b .vector) (b .there) (b
 
 -- ---- limits
 
--- a loop with more than 16 limits on a side
-pub record TooMany (N : List Loop) : Type 0 where
-  pub loop : Loop
-  pub there : Mem loop N
-  pub many : (16 < length (loop .lower)) ⊎ (16 < length (loop .upper))
-
-abbrev pub Few : List Loop → Type 0
-Few N = All (λ L. (length (L .lower) ≤ 16) × (length (L .upper) ≤ 16)) N
-
 abbrev fewOf : Loop → Bool
 fewOf L = leb (length (L .lower)) 16 && leb (length (L .upper)) 16
 
-pub few-limits : (N : List Loop) → T (fewLimits N) → Few N
+pub few-limits : (N : List Loop) → T (fewLimits N) → FewLimits N
 unfolding fewLimits
 few-limits N h L m = let r = and-both (leb (length (L .lower)) 16) (leb (length (L .upper)) 16) (all-holds fewOf N h L m) in
     (leb→le (length (L .lower)) 16 (r .0), leb→le (length (L .upper)) 16 (r .1))
 
-pub limits-few : (N : List Loop) → Few N → T (fewLimits N)
+pub limits-few : (N : List Loop) → FewLimits N → T (fewLimits N)
 unfolding fewLimits
 limits-few N h = holds-all fewOf N (λ L m. let r = h L m in
     and-intro (leb (length (L .lower)) 16) (leb (length (L .upper)) 16) (le→leb (length (L .lower)) 16 (r .0)) (le→leb (length (L .upper)) 16 (r .1)))
@@ -86,27 +68,6 @@ limits-many N r t = let h = few-limits N t (r .loop) (r .there) in let a = h .0 
     (r .many)
 
 -- ---- the stages of a step
-
-abbrev pub StagePasses : Step → Nest → Type 0
-StagePasses t N = Few (nestAfter t N .loops) × Small (nestAfter t N)
-
--- every stage passes when it is taken
-abbrev pub StagesPass : List Step → Nest → Type 0
-StagesPass [] N = Unit {0}
-StagesPass (t ∷ ts) N = StagePasses t N × StagesPass ts (nestAfter t N)
-
--- 11, then 12
-abbrev pub StageReason : Step → Nest → ℕ → Type 0
-StageReason t N n = ((n ≡ 11) × TooMany (nestAfter t N .loops)) ⊎ ((n ≡ 12) × (Few (nestAfter t N .loops) × Large (nestAfter t N)))
-
--- why the stages ts are refused with n: the first that does not pass
-pub record Halted (ts : List Step) (N : Nest) (n : ℕ) : Type 0 where
-  pub front : List Step
-  pub stage : Step
-  pub back : List Step
-  pub parts : ts ≡ front ++ stage ∷ back
-  pub pass : StagesPass front N
-  pub reason : StageReason stage (nestAfterAll front N) n
 
 module _ (k : ℕ) (t : Step) (N : Nest) where
   abbrev pub eleven : Answer (Unit {0})
@@ -194,21 +155,13 @@ pub refused-stages : (k : ℕ) (ts : List Step) (N : Nest) {n : ℕ} → Halted 
 refused-stages k ts N h = ap (λ us. judgeStages k us N) (h .parts) ∙ halt k (h .front) (h .stage) (h .back) N (h .pass) (h .reason)
 
 -- the nest after the last stage
-pub stages-final : (t : Step) (ts : List Step) (N : Nest) → StagesPass (t ∷ ts) N → Few (nestAfterAll (t ∷ ts) N .loops)
-    × Small (nestAfterAll (t ∷ ts) N)
+pub stages-final : (t : Step) (ts : List Step) (N : Nest) → StagesPass (t ∷ ts) N → FewLimits (nestAfterAll (t ∷ ts) N .loops)
+    × AllSmall (nestAfterAll (t ∷ ts) N)
 unfolding nestAfterAll
 stages-final t [] N h = h .0
 stages-final t (u ∷ ts) N h = stages-final u ts (nestAfter t N) (h .1)
 
 -- ---- one step, of the vectors vs and the nest N before it
-
-pub record StepPasses (t : Step) (vs : List (List Sign)) (N : Nest) : Type 0 where
-  pub forwards : Forwards (vectorsAfter t vs)
-  pub taken : StagesPass (stages t) N
-
--- 10, then 11 and 12 stage by stage
-abbrev pub Reason : Step → List (List Sign) → Nest → ℕ → Type 0
-Reason t vs N n = ((n ≡ 10) × Backwards (vectorsAfter t vs)) ⊎ (Forwards (vectorsAfter t vs) × Halted (stages t) N n)
 
 stage-number : (t : Step) (N : Nest) (n : ℕ) → StageReason t N n → (11 ≤ n) × (n ≤ 12)
 stage-number t N n (inl r) = let q = r .0 in (omega arith, omega arith)

@@ -1,6 +1,6 @@
 -- The entry `run`: refused with 1 to 13, then with 15 at the first opaque statement, then with 16 for a store of the wrong size, and then the
 -- store is as it was; or run in the new order.
-use mathlib.Core.Path.{_≡_, refl, sym, subst}
+use mathlib.Core.Path.{_≡_, refl, sym, ap, ap₂, _∙_, subst}
 use mathlib.Core.Bool.{Bool, not}
 use mathlib.Core.Logic.{_⊎_, inl, inr, ⊎-elim}
 use mathlib.Core.List.{List, [], _∷_}
@@ -9,22 +9,19 @@ use lib.Dec.{T, eqb, eqb→eq, eqb-refl}
 use lib.ListN.{length}
 use Rattle.lists.specs.Membership.{All}
 use Rattle.model.specs.Answer.{Answer, accepted, refused, require, _>>_}
-use Rattle.model.specs.Ticket.{Statement, Nest, Ticket}
+use Rattle.model.specs.Ticket.{Statement, Ticket}
 use Rattle.model.specs.Grammar.{total}
 use Rattle.model.specs.Points.{iterations}
 use Rattle.model.specs.Judge.{judgedOf, Judged}
 use Rattle.model.specs.Store.{runNest}
 use Rattle.model.specs.Entries.{transparent, runnable, runOutcome, runOf}
-use Rattle.model.proofs.Answers.AnswerLaws.{not-both, accepted-same, bind-accepted, bind-refused, then-accepted, then-refused, require-accepted, require-refused}
-use Rattle.model.proofs.Answers.CheckLaws.{FirstBad, firstBad-map, checks-accepted, checks-refused}
+use Rattle.model.specs.Reasons.{FirstBad, Opaque, Clear, NotRun}
+use Rattle.model.proofs.Answers.AnswerLaws.{not-both, accepted-same, bind-accepted, bind-refused, then-accepted, then-refused}
+use Rattle.model.proofs.Answers.AnswerLaws.{require-accepted, require-refused}
+use Rattle.model.proofs.Answers.CheckLaws.{firstBad-map, checks-accepted, checks-refused, accepted-checks, refused-checks}
+use Rattle.model.proofs.Answers.PassLaws.{bind-pass, bind-stop, then-pass, then-stop, require-stop}
 
 -- ---- statements with rule 0
-
-abbrev pub Opaque : Statement → Type 0
-Opaque s = s .rule ≡ 0
-
-abbrev pub Clear : Statement → Type 0
-Clear s = Opaque s → ⊥
 
 abbrev isOpaque : Statement → Bool
 isOpaque s = eqb (s .rule) 0
@@ -48,25 +45,25 @@ pub transparent-refused : (k : ℕ) (ss : List Statement) {n p : ℕ} → transp
 transparent-refused k ss e = let r = checks-refused 15 isOpaque transparent ends checks k ss e in
     (r .0, firstBad-map Opaque Clear (λ s h. eqb→eq (s .rule) 0 h) test-clear (r .1))
 
--- ---- the store's size, then all that is checked
+clear-test : (s : Statement) → Clear s → T (isOpaque s) → ⊥
+clear-test s h t = h (eqb→eq (s .rule) 0 t)
 
--- a store of another size than all arrays
-pub record WrongStore (N : Nest) (words : List ℕ) (n p : ℕ) : Type 0 where
-  pub sixteen : n ≡ 16
-  pub nowhere : p ≡ 0
-  pub wrong : length words ≡ total (N .arrays) → ⊥
+accepted-transparent : (k : ℕ) (ss : List Statement) → All Clear ss → transparent k ss ≡ accepted tt
+accepted-transparent k ss h = accepted-checks 15 isOpaque transparent ends checks k ss (λ s m. clear-test s (h s m))
+
+refused-transparent : (k : ℕ) (ss : List Statement) {p : ℕ} → FirstBad Opaque Clear k ss p → transparent k ss ≡ refused 15 p
+refused-transparent k ss r = ap (transparent k) (r .parts)
+    ∙ refused-checks 15 isOpaque transparent ends checks k (r .front) (r .item) (r .back) (λ s m. clear-test s (r .good s m))
+    (subst (λ i. T (eqb i 0)) (sym (r .bad)) tt)
+    ∙ ap (refused 15) (sym (r .number))
+
+-- ---- the store's size, then all that is checked
 
 -- what may run: accepted, with no opaque statement and a store of the right size
 pub record MayRun (d : Answer Ticket) (words : List ℕ) (j : Judged) : Type 0 where
   pub verdict : judgedOf d ≡ accepted j
   pub clear : All Clear (j .ticket .nest .statements)
   pub right : length words ≡ total (j .ticket .nest .arrays)
-
--- 15 before 16
-abbrev pub NotRun : Judged → List ℕ → ℕ → ℕ → Type 0
-NotRun j words n p =
-    ((n ≡ 15) × FirstBad Opaque Clear 1 (j .ticket .nest .statements) p)
-    ⊎ (All Clear (j .ticket .nest .statements) × WrongStore (j .ticket .nest) words n p)
 
 module _ (d : Answer Ticket) (words : List ℕ) where
   abbrev clearly : Judged → Answer (Unit {0})
@@ -91,8 +88,8 @@ module _ (d : Answer Ticket) (words : List ℕ) where
         right = eqb→eq (length words) (total (j .ticket .nest .arrays)) (require-accepted (rightSize j) 16 0 (s .rest));
       })
 
-  pub runnable-refused : {n p : ℕ} → runnable d words ≡ refused n p → (judgedOf d ≡ refused n p)
-      ⊎ ((j : Judged) × (judgedOf d ≡ accepted j) × NotRun j words n p)
+  pub runnable-refused : {n p : ℕ} → runnable d words ≡ refused n p
+      → (judgedOf d ≡ refused n p) ⊎ ((j : Judged) × (judgedOf d ≡ accepted j) × NotRun j words n p)
   unfolding runnable
   runnable-refused {n} {p} e = ⊎-elim inl (λ r. inr (r .value, r .first, why (r .value) (r .rest))) (bind-refused (judgedOf d) checked e)
     where
@@ -112,6 +109,22 @@ module _ (d : Answer Ticket) (words : List ℕ) where
           (λ g. not-both (g .rest))
           (then-refused (clearly j >> require (rightSize j) 16 0) (accepted j) f)
 
+  refused-runnable : {n p : ℕ} → (judgedOf d ≡ refused n p) ⊎ ((j : Judged) × (judgedOf d ≡ accepted j) × NotRun j words n p)
+      → runnable d words ≡ refused n p
+  unfolding runnable
+  refused-runnable (inl e) = bind-stop checked e
+  refused-runnable {n} {p} (inr r) = bind-pass checked (r .1) ∙ why (r .2)
+    where
+      j : Judged
+      j = r .0
+
+      why : NotRun j words n p → checked j ≡ refused n p
+      why (inl h) = then-stop (accepted j) (then-stop (require (rightSize j) 16 0)
+          (refused-transparent 1 (j .ticket .nest .statements) (h .1) ∙ ap (λ i. refused i p) (sym (h .0))))
+      why (inr h) = then-stop (accepted j) (then-pass (require (rightSize j) 16 0) (accepted-transparent 1 (j .ticket .nest .statements) (h .0))
+          ∙ require-stop (rightSize j) 16 0 (λ t. h .1 .wrong (eqb→eq (length words) (total (j .ticket .nest .arrays)) t)) ∙ sym
+          (ap₂ refused (h .1 .sixteen) (h .1 .nowhere)))
+
 -- ---- the entry
 
 ran-refused : (a : Answer Judged) (words : List ℕ) {n p : ℕ} → runOutcome a words .answer ≡ refused n p → (runOutcome a words .memory ≡ words)
@@ -119,6 +132,10 @@ ran-refused : (a : Answer Judged) (words : List ℕ) {n p : ℕ} → runOutcome 
 unfolding runOutcome
 ran-refused (refused m q) words e = (refl, cc)
 ran-refused (accepted j) words e = not-both e
+
+refused-ran : (a : Answer Judged) (words : List ℕ) {n p : ℕ} → a ≡ refused n p → runOutcome a words .answer ≡ refused n p
+unfolding runOutcome
+refused-ran a words e = ap (λ x. runOutcome x words .answer) e
 
 ran-accepted : (a : Answer Judged) (words : List ℕ) {c : ℕ} → runOutcome a words .answer ≡ accepted c
     → (j : Judged) × (a ≡ accepted j) × (c ≡ length (iterations (j .ticket .nest .loops))) × (runOutcome a words .memory ≡ runNest (j .new) words)
@@ -132,6 +149,11 @@ module _ (d : Answer Ticket) (words : List ℕ) where
       → (runOf d words .memory ≡ words) × ((judgedOf d ≡ refused n p) ⊎ ((j : Judged) × (judgedOf d ≡ accepted j) × NotRun j words n p))
   unfolding runOf
   run-refused e = let r = ran-refused (runnable d words) words e in (r .0, runnable-refused d words (r .1))
+
+  pub refused-run : {n p : ℕ} → (judgedOf d ≡ refused n p) ⊎ ((j : Judged) × (judgedOf d ≡ accepted j) × NotRun j words n p)
+      → runOf d words .answer ≡ refused n p
+  unfolding runOf
+  refused-run h = refused-ran (runnable d words) words (refused-runnable d words h)
 
   pub run-accepted : {c : ℕ} → runOf d words .answer ≡ accepted c
       → (j : Judged) × MayRun d words j × (c ≡ length (iterations (j .ticket .nest .loops))) × (runOf d words .memory ≡ runNest (j .new) words)

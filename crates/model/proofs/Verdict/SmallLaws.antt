@@ -1,37 +1,16 @@
 -- Refusal 12 shows its reason: the numbers of a nest, and that `smallNumbers` fails exactly where one of them is beyond ±32767.
 use mathlib.Core.Path.{_≡_, refl, sym, ap₂, _∙_, subst}
 use mathlib.Core.Bool.{_&&_}
-use mathlib.Core.List.{List, _∷_, _++_, flatMap}
-use Prim.Native.Nat.{_≤_, _<_}
+use mathlib.Core.List.{flatMap}
 use native.Mathlib.Omega.{arith}
 use lib.Dec.{T, leb, not-T, leb→le, le→leb, nleb→lt}
-use lib.IntN.{ℤ, pos, natAbs}
-use Rattle.lists.specs.Membership.{Mem, All}
+use lib.IntN.{natAbs}
 use Rattle.lists.specs.Tests.{all}
 use Rattle.lists.proofs.TestLaws.{all-holds, holds-all, all-join, all-fails, all-parts}
-use Rattle.model.specs.Ticket.{Limit, Loop, Subscript, Access, Statement, Nest}
+use Rattle.model.specs.Ticket.{Limit, Loop, Access, Statement, Nest}
 use Rattle.model.specs.Bounds.{accessesOf}
 use Rattle.model.specs.Judge.{small, smallLimit, smallLoop, smallAccess, smallNumbers}
-
--- ---- the numbers of a nest
-
-unfoldable pub limitNumbers : Limit → List ℤ
-limitNumbers l = pos (l .multiplier) ∷ l .constant ∷ l .coefficients
-
-unfoldable pub loopNumbers : Loop → List ℤ
-loopNumbers L = flatMap limitNumbers (L .lower) ++ flatMap limitNumbers (L .upper)
-
-unfoldable pub subscriptNumbers : Subscript → List ℤ
-subscriptNumbers s = s .constant ∷ s .coefficients
-
-unfoldable pub accessNumbers : Access → List ℤ
-accessNumbers a = flatMap subscriptNumbers (a .subscripts)
-
-unfoldable pub statementNumbers : Statement → List ℤ
-statementNumbers s = flatMap accessNumbers (accessesOf s)
-
-unfoldable pub nestNumbers : Nest → List ℤ
-nestNumbers N = flatMap loopNumbers (N .loops) ++ flatMap statementNumbers (N .statements)
+use Rattle.model.specs.Reasons.{limitNumbers, loopNumbers, subscriptNumbers, accessNumbers, statementNumbers, nestNumbers, AllSmall, SomeLarge}
 
 -- ---- the test is of these
 
@@ -61,27 +40,19 @@ numbers-test N =
 
 -- ---- small or not
 
-abbrev pub Small : Nest → Type 0
-Small N = All (λ x. natAbs x ≤ 32767) (nestNumbers N)
-
-pub record Large (N : Nest) : Type 0 where
-  pub value : ℤ
-  pub there : Mem value (nestNumbers N)
-  pub large : 32767 < natAbs value
-
 module _ (N : Nest) where
-  pub test-small : T (smallNumbers N) → Small N
+  pub test-small : T (smallNumbers N) → AllSmall N
   unfolding small
   test-small h x m = leb→le (natAbs x) 32767 (all-holds small (nestNumbers N) (subst T (numbers-test N) h) x m)
 
-  pub small-test : Small N → T (smallNumbers N)
+  pub small-test : AllSmall N → T (smallNumbers N)
   unfolding small
   small-test h = subst T (sym (numbers-test N)) (holds-all small (nestNumbers N) (λ x m. le→leb (natAbs x) 32767 (h x m)))
 
-  pub test-large : (T (smallNumbers N) → ⊥) → Large N
+  pub test-large : (T (smallNumbers N) → ⊥) → SomeLarge N
   unfolding small
   test-large h = let r = all-fails small (nestNumbers N) (λ t. h (subst T (sym (numbers-test N)) t)) in
       record { value = r .0; there = r .1; large = nleb→lt (natAbs (r .0)) 32767 (not-T (leb (natAbs (r .0)) 32767) (r .2)) }
 
-  pub large-test : Large N → T (smallNumbers N) → ⊥
+  pub large-test : SomeLarge N → T (smallNumbers N) → ⊥
   large-test r t = let a = test-small t (r .value) (r .there) in let b = r .large in omega arith

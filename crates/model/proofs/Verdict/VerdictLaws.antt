@@ -2,7 +2,6 @@
 -- steps and the new nest (`judgeTicket`), and all of them together (`judged`).
 use mathlib.Core.Path.{_≡_, sym, ap, _∙_, subst}
 use mathlib.Core.Logic.{_⊎_, inl, inr, ⊎-elim}
-use mathlib.Core.List.{List}
 use Prim.Native.Nat.{ℕ, _≤_}
 use native.Mathlib.Omega.{arith}
 use lib.ListN.{length}
@@ -13,13 +12,13 @@ use Rattle.model.specs.Bounds.{space, newSpace, inArrays, admitted}
 use Rattle.model.specs.Steps.{vectorsAfterAll}
 use Rattle.model.specs.Limits.{nestAfterAll}
 use Rattle.model.specs.Judge.{judgeSteps, directionsOf, admitOf, Judged, judgeTicket, judgedOf}
+use Rattle.model.specs.Reasons.{FirstBad, Overrun, Violates, Stays, Rejected, StepsPass, made}
 use Rattle.model.proofs.Answers.AnswerLaws.{not-both, accepted-same, bind-accepted, bind-refused, then-accepted, then-refused}
 use Rattle.model.proofs.Answers.PassLaws.{bind-pass, bind-stop, then-pass}
-use Rattle.model.proofs.Points.BoundLaws.{Overrun, space-refused, new-space-refused}
-use Rattle.model.proofs.Answers.CheckLaws.{FirstBad}
-use Rattle.model.proofs.Points.ArrayLaws.{Violates, Stays, arrays-refused}
+use Rattle.model.proofs.Points.BoundLaws.{space-refused, new-space-refused}
+use Rattle.model.proofs.Points.ArrayLaws.{arrays-refused}
 use Rattle.model.proofs.Verdict.JudgeStepLaws.{reason-number}
-use Rattle.model.proofs.Verdict.JudgeLaws.{Rejected, StepsPass, judgeSteps-accepted, accepted-judgeSteps, judgeSteps-refused}
+use Rattle.model.proofs.Verdict.JudgeLaws.{judgeSteps-accepted, accepted-judgeSteps, judgeSteps-refused}
 
 -- ---- 7, 8 and 9
 
@@ -71,15 +70,12 @@ module _ (d : Answer Ticket) where
 -- ---- 10 to 13
 
 module _ (T : Ticket) where
-  -- the new nest, which the steps make
-  abbrev pub made : Nest
-  made = nestAfterAll (T .steps) (T .nest)
-
   abbrev pub verdict : Nest → Answer Judged
   verdict N = newSpace (N .loops) >> accepted (record { ticket = T; new = N })
 
   pub judgeTicket-accepted : {j : Judged} → judgeTicket T ≡ accepted j
-      → (j ≡ record { ticket = T; new = made }) × (StepsPass (T .steps) (directionsOf (T .nest)) (T .nest) × (newSpace (made .loops) ≡ accepted tt))
+      → (j ≡ record { ticket = T; new = made T }) × (StepsPass (T .steps) (directionsOf (T .nest)) (T .nest)
+      × (newSpace (made T .loops) ≡ accepted tt))
   unfolding judgeTicket
   judgeTicket-accepted {j} e =
       let r = bind-accepted (judgeSteps 1 (T .steps) (directionsOf (T .nest)) (T .nest)) verdict e in
@@ -89,20 +85,20 @@ module _ (T : Ticket) where
         (s .1, subst (λ N. newSpace (N .loops) ≡ accepted tt) (s .0) (q .first)),
       )
 
-  pub accepted-judgeTicket : StepsPass (T .steps) (directionsOf (T .nest)) (T .nest) → newSpace (made .loops) ≡ accepted tt
-      → judgeTicket T ≡ accepted (record { ticket = T; new = made })
+  pub accepted-judgeTicket : StepsPass (T .steps) (directionsOf (T .nest)) (T .nest) → newSpace (made T .loops) ≡ accepted tt
+      → judgeTicket T ≡ accepted (record { ticket = T; new = made T })
   unfolding judgeTicket
   accepted-judgeTicket h e = bind-pass verdict (accepted-judgeSteps 1 (T .steps) (directionsOf (T .nest)) (T .nest) h)
-      ∙ then-pass (accepted (record { ticket = T; new = made })) e
+      ∙ then-pass (accepted (record { ticket = T; new = made T })) e
 
   -- 10, 11 and 12 before 13
   pub judgeTicket-refused : {n p : ℕ} → judgeTicket T ≡ refused n p
       → Rejected 1 (T .steps) (directionsOf (T .nest)) (T .nest) n p
-      ⊎ (StepsPass (T .steps) (directionsOf (T .nest)) (T .nest) × Overrun 13 13 100000 65536 (made .loops) 1 (length (made .loops)) n p)
+      ⊎ (StepsPass (T .steps) (directionsOf (T .nest)) (T .nest) × Overrun 13 13 100000 65536 (made T .loops) 1 (length (made T .loops)) n p)
   unfolding judgeTicket
   judgeTicket-refused {n} {p} e = ⊎-elim (λ f. inl (judgeSteps-refused 1 (T .steps) (directionsOf (T .nest)) (T .nest) f))
       (λ r. let s = judgeSteps-accepted 1 (T .steps) (directionsOf (T .nest)) (T .nest) (r .first) in
-      ⊎-elim (λ f. inr (s .1, new-space-refused (made .loops) n p (rw (s .0) at f))) (λ f. not-both (f .rest))
+      ⊎-elim (λ f. inr (s .1, new-space-refused (made T .loops) n p (rw (s .0) at f))) (λ f. not-both (f .rest))
       (then-refused (newSpace (r .value .loops)) (accepted (record { ticket = T; new = r .value })) (r .rest)))
       (bind-refused (judgeSteps 1 (T .steps) (directionsOf (T .nest)) (T .nest)) verdict e)
 

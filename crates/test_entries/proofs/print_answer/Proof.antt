@@ -1,6 +1,6 @@
 -- `print_answer`: the count of the answer.
 use mathlib.Core.Path.{sym, ap}
-use Rattle.model.specs.Answer.{count}
+use Rattle.model.specs.Answer.{countIn}
 use Rattle.entry_answers.specs.declared.Answer.{Answer}
 use Rattle.entry_answers.specs.Answers.{answerOf}
 use borrow.Author.Needs.{needs}
@@ -20,12 +20,12 @@ print-refusal-requires : tie.Need-print-refusal-requires
 print-refusal-requires c κs = search needs
 
 returns : tie.Need-returns
-unfolding count
-returns c = sym (ap (λ (x : Answer). count (answerOf x)) (c .before .before .a .given .1))
+unfolding countIn
+returns c = sym (ap (λ (x : Answer). countIn (answerOf x)) (c .before .before .a .given .1))
 
 returns-2 : tie.Need-returns-2
-unfolding count
-returns-2 c = sym (ap (λ (x : Answer). count (answerOf x)) (c .before .before .a2 .given .1))
+unfolding countIn
+returns-2 c = sym (ap (λ (x : Answer). countIn (answerOf x)) (c .before .before .a2 .given .1))
 
 pub print-answer-spec : {M : Type 1} → statement M
 print-answer-spec =
