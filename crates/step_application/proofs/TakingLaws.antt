@@ -10,8 +10,8 @@ use Rattle.model.specs.Ranges.{StepThere}
 use Rattle.model.specs.Limits.{loopsAfter}
 use Rattle.model.specs.Judge.{smallLoop, smallAccess}
 use Rattle.nest_flat.specs.Flat.{loopsFrom}
-use Rattle.ticket_steps.specs.Steps.{stepOf}
-use Rattle.ticket_steps.specs.declared.Step.{Step}
+use Rattle.step_kinds.specs.Kinds.{stepOf}
+use Rattle.step_kinds.specs.declared.Step.{Step}
 use Rattle.step_loops.specs.After.{After}
 use Rattle.step_loops.specs.declared.Stepped.{Stepped}
 use Rattle.step_subscripts.specs.After.{accessesAfter, AccessesIn, AccessesAfter}

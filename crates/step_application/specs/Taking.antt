@@ -13,8 +13,8 @@ use Rattle.model.specs.Limits.{loopsAfter}
 use Rattle.model.specs.Judge.{fewLimits, smallLoop, smallAccess}
 use Rattle.nest_flat.specs.Flat.{loopsFrom, NestOk}
 use Rattle.nest_flat.specs.Layout.{AccessesOk}
-use Rattle.ticket_steps.specs.Steps.{stepOf}
-use Rattle.ticket_steps.specs.declared.Step.{Step}
+use Rattle.step_kinds.specs.Kinds.{stepOf}
+use Rattle.step_kinds.specs.declared.Step.{Step}
 use Rattle.step_loops.specs.declared.Stepped.{Stepped}
 use Rattle.step_subscripts.specs.After.{accessesAfter, AccessesAfter}
 

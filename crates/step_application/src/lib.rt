@@ -1,10 +1,10 @@
 // A step taken on the limits and the subscripts of a nest where they stand, with the tests of refusals 11 and 12. Loops are counted from 0.
 ghost use mathlib.Core.Path.{_≡_};
-ghost use Rattle.ticket_steps.specs.Steps.{stepOf};
+ghost use Rattle.step_kinds.specs.Kinds.{stepOf};
 ghost use Rattle.step_loops.specs.After.{After};
 ghost use Rattle.step_application.specs.Taking.{LoopsIn, TakingIn, Takes};
+use step_kinds::Step;
 use step_loops::Stepped;
-use ticket_steps::Step;
 
 fn step_loops(limits: &mut [i16], counts: &mut [usize], depth: usize, step: Step) -> Stepped
     requires { ⌜ LoopsIn (now limits) (now counts) depth step ⌝ }

@@ -1,43 +1,56 @@
--- The set after each step: the vectors that come from marked ones are the model's.
-use mathlib.Core.Path.{_≡_, refl, sym, _∙_, subst}
-use mathlib.Core.Bool.{Bool}
-use Prim.Native.Nat.{ℕ, suc, _+_, _-_, _<_}
-use native.Mathlib.Numerals.{add-one}
-use lib.IntN.{ℤ, pos}
-use lib.Signed.{ltZ}
+-- The set after a step: the vectors that come from marked ones are the model's; and the loops after it.
+use mathlib.Core.Path.{_≡_, sym, ap, subst}
+use mathlib.Core.List.{List}
+use Prim.Native.Nat.{ℕ, _≤_}
+use native.Mathlib.Omega.{arith}
+use lib.IntN.{ℤ, pos, natAbs}
+use lib.ListN.{length}
+use Rattle.integers.specs.Sign.{Sign}
 use Rattle.lists.specs.Membership.{SameMembers}
 use Rattle.model.specs.Ticket.{Step, exchange, reversal, skew, section}
-use Rattle.model.specs.Grammar.{depthAfter}
+use Rattle.model.specs.Grammar.{depthAfter, mostLoops, mostFactor}
+use Rattle.model.specs.Ranges.{InRange, StepThere}
 use Rattle.model.specs.Steps.{vectorsAfter}
+use Rattle.step_preimages.specs.Numbers.{marked}
 use Rattle.step_directions.specs.Sets.{vectorsIn, vectorsOf, After}
-use Rattle.step_directions.specs.Changes.{Pulled}
+use Rattle.step_directions.specs.Preimages.{loopsNamed, came}
 use Rattle.step_directions.specs.declared.DirectionSet.{DirectionSet}
-use Rattle.step_directions.specs.declared.VectorChange.the-variants.{Exchange, Reversal, Skew, Section}
 use Rattle.step_directions.proofs.StepLaws.{exchange-after, reversal-after, section-after}
-use Rattle.step_directions.proofs.SkewLaws.{added-sign, skew-after}
+use Rattle.step_directions.proofs.SkewLaws.{skew-after}
+
+-- at most six loops stay at most six
+pub few-after : (t : Step) (m : ℕ) → m ≤ mostLoops → StepThere m t → depthAfter t m ≤ mostLoops
+unfolding depthAfter
+few-after (exchange a) m h i = h
+few-after (reversal a) m h i = h
+few-after (skew a d c) m h i = h
+few-after (section a w) m h i = let k = i .1 in omega arith
+
+-- the loops that a step names are among those after it
+pub named-after : (t : Step) (m : ℕ) → StepThere m t → loopsNamed t ≤ depthAfter t m
+unfolding depthAfter
+named-after (exchange a) m i = omega arith
+named-after (reversal a) m i = omega arith
+named-after (skew a d c) m i = let k = i .0 in omega arith
+named-after (section a w) m i = let k = i .0 in omega arith
+
+not-zero : (c : ℤ) → InRange 1 mostFactor (natAbs c) → c ≡ pos 0 → ⊥
+not-zero c i e = let n = ap natAbs e in let l = i .low in omega arith
 
 module _ (s r : DirectionSet) where
-  after : (t : Step) (d : ℕ) → r .depth ≡ d → d ≡ depthAfter t (s .depth) → SameMembers (vectorsIn (r .marks) d) (vectorsAfter t (vectorsOf s))
-      → After t s r
-  after t d e f m = record { depth = e ∙ f; vectors = subst (λ k. SameMembers (vectorsIn (r .marks) k) (vectorsAfter t (vectorsOf s))) (sym e) m }
-
-  pub exchanged-set : (a : ℕ) → Pulled (Exchange a) (s .depth) s r → After (exchange a) s r
+  vectors-after : (t : Step) → StepThere (s .depth) t
+      → ((v : List Sign) → length v ≡ depthAfter t (s .depth) → marked (r .marks) v ≡ came (s .marks) t v)
+      → SameMembers (vectorsIn (r .marks) (depthAfter t (s .depth))) (vectorsAfter t (vectorsOf s))
   unfolding depthAfter
-  exchanged-set a p = after (exchange a) (s .depth) (p .depth) refl (exchange-after a (s .marks) (r .marks) (s .depth) (p .marks))
+  vectors-after (exchange a) i e = exchange-after a (s .marks) (r .marks) (s .depth) e
+  vectors-after (reversal a) i e = reversal-after a (s .marks) (r .marks) (s .depth) e
+  vectors-after (skew a d c) i e = skew-after a d c (not-zero c (i .1)) (s .marks) (r .marks) (s .depth) (i .0) e
+  vectors-after (section a w) i e = section-after a w (s .marks) (r .marks) (s .depth) (i .0) e
 
-  pub reversed-set : (a : ℕ) → Pulled (Reversal a) (s .depth) s r → After (reversal a) s r
-  unfolding depthAfter
-  reversed-set a p = after (reversal a) (s .depth) (p .depth) refl (reversal-after a (s .marks) (r .marks) (s .depth) (p .marks))
-
-  pub skewed-set : (a b : ℕ) (c : ℤ) (plus : Bool) → plus ≡ ltZ (pos 0) c → (c ≡ pos 0 → ⊥) → a < b → b < s .depth
-      → Pulled (Skew a b plus) (s .depth) s r
-      → After (skew a (b - suc a) c) s r
-  unfolding depthAfter
-  skewed-set a b c plus e n h i p =
-      after (skew a (b - suc a) c) (s .depth) (p .depth) refl (skew-after a b c plus (added-sign c plus e n) (s .marks) (r .marks) (s .depth) h i
-      (p .marks))
-
-  pub sectioned-set : (a w : ℕ) → a < s .depth → Pulled (Section a) (s .depth + 1) s r → After (section a w) s r
-  unfolding depthAfter
-  sectioned-set a w h p = let q = rw (add-one (s .depth)) at p in
-      after (section a w) (suc (s .depth)) (q .depth) refl (section-after a w (s .marks) (r .marks) (s .depth) h (q .marks))
+  pub pulled-after : (t : Step) → StepThere (s .depth) t → r .depth ≡ depthAfter t (s .depth)
+      → ((v : List Sign) → length v ≡ r .depth → marked (r .marks) v ≡ came (s .marks) t v) → After t s r
+  pulled-after t i d e = record {
+    depth = d;
+    vectors = subst (λ m. SameMembers (vectorsIn (r .marks) m) (vectorsAfter t (vectorsOf s))) (sym d)
+        (vectors-after t i (subst (λ m. (v : List Sign) → length v ≡ m → marked (r .marks) v ≡ came (s .marks) t v) d e));
+  }

@@ -1,20 +1,21 @@
 -- Some numbers of vectors, and for each precondition a value that meets it.
-use mathlib.Core.Path.{_≡_, refl, ap}
-use mathlib.Core.Bool.{true, false}
+use mathlib.Core.Path.{_≡_, refl}
+use mathlib.Core.Bool.{false}
 use mathlib.Core.List.{[], _∷_}
 use Prim.Native.Nat.{_+_, _*_}
 use native.Mathlib.Omega.{arith}
-use lib.IntN.{pos, natAbs}
+use lib.IntN.{pos}
 use lib.ListN.{replicate, length-replicate}
 use Rattle.integers.specs.Sign.{less, equal, greater}
+use Rattle.model.specs.Ticket.{skew}
 use Rattle.model.specs.Directions.{vectorCount}
+use Rattle.step_kinds.specs.declared.Step.the-variants.{Exchange, Skew, Section}
 use Rattle.step_preimages.specs.Numbers.{digitsIn, base3, number, Digits}
-use Rattle.step_directions.specs.Sets.{ExchangeIn, ReversalIn, SkewIn, SectionIn, MarksIn}
+use Rattle.step_directions.specs.Sets.{DirectionIn, MarksIn}
 use Rattle.step_preimages.specs.Weights.{ChangeIn}
 use Rattle.step_preimages.specs.Sources.{SourceIn, JoinedIn, SkewSourceIn, GaveIn}
-use Rattle.step_directions.specs.Changes.{ComesIn, PulledIn}
+use Rattle.step_directions.specs.Preimages.{ComesIn}
 use Rattle.step_directions.specs.declared.DirectionSet.{DirectionSet}
-use Rattle.step_directions.specs.declared.VectorChange.the-variants.{Skew, Section}
 use Rattle.step_preimages.proofs.NumberLaws.{vector-digits}
 
 -- ---- numbers
@@ -43,21 +44,17 @@ two-number = refl
 pair : DirectionSet
 pair = record { marks = replicate vectorCount false; depth = 2 }
 
-exchange-met : ExchangeIn pair 0
+exchange-met : DirectionIn pair (Exchange (record { outer = 0 }))
 unfolding pair
-exchange-met = record { few = omega arith; inside = omega arith }
+exchange-met = record { few = omega arith; there = omega arith }
 
-reversal-met : ReversalIn pair 1
+skew-met : DirectionIn pair (Skew (record { outer = 0; distance = 0; factor = pos 1 }))
 unfolding pair
-reversal-met = record { few = omega arith; inside = omega arith }
+skew-met = record { few = omega arith; there = (omega arith, record { low = omega arith; high = omega arith }) }
 
-skew-met : SkewIn pair 0 1 (pos 1)
+section-met : DirectionIn pair (Section (record { target = 1; width = 2 }))
 unfolding pair
-skew-met = record { few = omega arith; outer = omega arith; inside = omega arith; factor = λ e. let n = ap natAbs e in absurd (omega arith) }
-
-section-met : SectionIn pair 1
-unfolding pair
-section-met = record { few = omega arith; inside = omega arith }
+section-met = record { few = omega arith; there = (omega arith, omega arith, record { low = omega arith; high = omega arith }) }
 
 marks-met : MarksIn (replicate vectorCount false) 2
 marks-met = record { room = length-replicate vectorCount false; few = omega arith }
@@ -80,8 +77,5 @@ skewSource-met = record { below = omega arith; outer = omega arith; few = omega 
 gave-met : GaveIn (digitsIn 6 (less ∷ [])) 5 2 2
 gave-met = record { digits = digits-met; inside = omega arith; added = omega arith; replaced = omega arith }
 
-comes-met : ComesIn (Skew 0 5 true) 728
-comes-met = record { below = omega arith; few = omega arith; outer = omega arith }
-
-pulled-met : PulledIn (Section 4) 6
-pulled-met = record { few = omega arith; inside = omega arith; outer = tt }
+comes-met : ComesIn (skew 0 4 (pos 1)) 728
+comes-met = record { below = omega arith; few = omega arith }

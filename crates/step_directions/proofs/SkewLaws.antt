@@ -3,7 +3,7 @@
 use mathlib.Core.Path.{_≡_, refl, sym, _∙_, ap, subst}
 use mathlib.Core.Bool.{Bool, true, false}
 use mathlib.Core.List.{List, [], _∷_, Memᴰ·map, Memᴰ·of-map}
-use Prim.Native.Nat.{ℕ, zero, suc, _+_, _-_, _<_}
+use Prim.Native.Nat.{ℕ, zero, suc, _+_, _<_}
 use native.Mathlib.Omega.{arith}
 use lib.Dec.{T}
 use lib.IntN.{ℤ, pos}
@@ -83,7 +83,7 @@ module _ (c : ℤ) (e : ℕ) where
 -- ---- the set after a skew
 
 -- a factor's sign is all that its table asks
-pub added-sign : (c : ℤ) (plus : Bool) → plus ≡ ltZ (pos 0) c → (c ≡ pos 0 → ⊥) → (s : Sign) → signedSign c s ≡ addedSign plus s
+added-sign : (c : ℤ) (plus : Bool) → plus ≡ ltZ (pos 0) c → (c ≡ pos 0 → ⊥) → (s : Sign) → signedSign c s ≡ addedSign plus s
 unfolding signedSign
 added-sign c true e n s = ap (λ t. bySign t s equal (turned s)) (means-sign less (pos 0) c (test-lt (sym e)))
 added-sign c false e n s = go (sign (pos 0) c) (sign-means (pos 0) c)
@@ -93,16 +93,25 @@ added-sign c false e n s = go (sign (pos 0) c) (sign-means (pos 0) c)
     go equal m = absurd (n (sym m))
     go greater m = refl
 
-module _ (a b : ℕ) (c : ℤ) (plus : Bool) (same : (s : Sign) → signedSign c s ≡ addedSign plus s) (old new : List Bool) (d : ℕ) (outer : a < b)
-    (inside : b < d) where
+module _ (a e : ℕ) (c : ℤ) (nonzero : c ≡ pos 0 → ⊥) (old new : List Bool) (d : ℕ) (inside : suc (a + e) < d) where
+  -- the loop that is skewed
+  abbrev b : ℕ
+  b = a + 1 + e
+
+  abbrev plus : Bool
+  plus = ltZ (pos 0) c
+
   abbrev added : List Sign → Sign
   added v = addedSign plus (getD v a equal)
 
-  place : inner (b - suc a) a ≡ b
-  place = omega (arith, inner-is (b - suc a) a)
+  same : (s : Sign) → signedSign c s ≡ addedSign plus s
+  same = added-sign c plus refl nonzero
+
+  place : inner e a ≡ b
+  place = omega (arith, inner-is e a)
 
   into : (v : List Sign) → length v ≡ d → T (skewSource old a b plus v) → (u : List Sign) × (length u ≡ d) × T (marked old u)
-      × Mem v (vectors (skew a (b - suc a) c) u)
+      × Mem v (vectors (skew a e c) u)
   unfolding skewSource vectors
   into v l h =
       let r = any-some (gave old v b (added v)) anySign h in
@@ -112,18 +121,16 @@ module _ (a b : ℕ) (c : ℤ) (plus : Bool) (same : (s : Sign) → signedSign c
         set v b t,
         length-set v b t ∙ l,
         q .1,
-        subst (λ k. Mem (getD v k equal) (sumSigns t (added v)) → Mem v (underEach a (skewSigns (b - suc a) c) (set v k t))) place
-            (subst (λ x. Mem (getD v (inner (b - suc a) a) equal) (sumSigns t x)
-            → Mem v (underEach a (skewSigns (b - suc a) c) (set v (inner (b - suc a) a) t)))
-            (same (getD v a equal)) (skew-mem c (b - suc a) t a v (omega (arith, place)))) m,
+        subst (λ k. Mem (getD v k equal) (sumSigns t (added v)) → Mem v (underEach a (skewSigns e c) (set v k t))) place
+            (subst (λ x. Mem (getD v (inner e a) equal) (sumSigns t x) → Mem v (underEach a (skewSigns e c) (set v (inner e a) t)))
+            (same (getD v a equal)) (skew-mem c e t a v (omega (arith, place)))) m,
       )
 
-  from : (u v : List Sign) → length u ≡ d → T (marked old u) → Mem v (vectors (skew a (b - suc a) c) u) → (length v ≡ d)
-      × T (skewSource old a b plus v)
+  from : (u v : List Sign) → length u ≡ d → T (marked old u) → Mem v (vectors (skew a e c) u) → (length v ≡ d) × T (skewSource old a b plus v)
   unfolding skewSource vectors
   from u v l h m =
-      let r = subst (λ k. Summed (added v) k u v) place (subst (λ x. Summed x (inner (b - suc a) a) u v) (same (getD v a equal))
-      (mem-skew c (b - suc a) a u v (omega (arith, place)) m)) in
+      let r = subst (λ k. Summed (added v) k u v) place (subst (λ x. Summed x (inner e a) u v) (same (getD v a equal))
+      (mem-skew c e a u v (omega (arith, place)) m)) in
       let t = getD u b equal in (
         r .0 ∙ l,
         some-any (gave old v b (added v)) anySign (every-sign t)
@@ -132,7 +139,7 @@ module _ (a b : ℕ) (c : ℤ) (plus : Bool) (same : (s : Sign) → signedSign c
       )
 
   pub skew-after : ((v : List Sign) → length v ≡ d → marked new v ≡ skewSource old a b plus v)
-      → SameMembers (vectorsIn new d) (vectorsAfter (skew a (b - suc a) c) (vectorsIn old d))
-  skew-after e = after-step (skew a (b - suc a) c) old new d d
-      (λ v l h. into v l (subst T (e v l) h))
-      (λ u v l h m. let r = from u v l h m in (r .0, subst T (sym (e v (r .0))) (r .1)))
+      → SameMembers (vectorsIn new d) (vectorsAfter (skew a e c) (vectorsIn old d))
+  skew-after f = after-step (skew a e c) old new d d
+      (λ v l h. into v l (subst T (f v l) h))
+      (λ u v l h m. let r = from u v l h m in (r .0, subst T (sym (f v (r .0))) (r .1)))

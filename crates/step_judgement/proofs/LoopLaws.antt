@@ -22,7 +22,8 @@ use Rattle.ticket_refusals.specs.declared.Refusal.{Refusal}
 use Rattle.ticket_refusals.specs.declared.Refusal.the-variants.{DependenceReversed}
 use Rattle.ticket_refusals.specs.declared.Status.{Status}
 use Rattle.ticket_refusals.specs.declared.Status.the-variants.{Fine, Refused}
-use Rattle.ticket_steps.specs.Steps.{stepOf, stepsOf, NumberedFrom, StepsIn}
+use Rattle.step_kinds.specs.Kinds.{stepOf}
+use Rattle.ticket_steps.specs.Steps.{stepsOf, NumberedFrom, StepsIn}
 use Rattle.ticket_steps.specs.declared.Numbered.{Numbered}
 use Rattle.ticket_steps.specs.declared.Steps.{Steps}
 use Rattle.nest_flat.specs.declared.Header.{Header}

@@ -3,7 +3,7 @@
 use mathlib.Core.Path.{_≡_, refl, sym, _∙_, ap, subst}
 use mathlib.Core.Bool.{Bool, true, false, not, _&&_}
 use mathlib.Core.List.{List, [], _∷_, _++_, map}
-use Prim.Native.Nat.{ℕ, suc, _+_, _*_, _-_, _≤_}
+use Prim.Native.Nat.{ℕ, suc, _*_, _≤_}
 use native.Mathlib.Omega.{arith}
 use lib.IntN.{ℤ}
 use lib.ListN.{length, take, drop, length-append, length-drop}
@@ -29,39 +29,22 @@ use Rattle.nest_flat.specs.Flat.{loopsFrom}
 use Rattle.nest_flat.specs.Layout.{accessesFrom}
 use Rattle.nest_flat.specs.FlatNests.{FlatNest, extentsIn, accessedIn, wordsIn, nestOf, FlatNestIn, moved}
 use Rattle.nest_flat.proofs.FlatNestLaws.{words-count, accessed-count}
-use Rattle.ticket_steps.specs.Steps.{stepOf}
-use Rattle.ticket_steps.specs.declared.Step.{Step}
-use Rattle.step_directions.specs.Sets.{vectorsOf, After}
+use Rattle.step_kinds.specs.Kinds.{stepOf}
+use Rattle.step_kinds.specs.declared.Step.{Step}
+use Rattle.step_directions.specs.Sets.{vectorsOf, DirectionIn, After}
 use Rattle.step_directions.specs.declared.DirectionSet.{DirectionSet}
+use Rattle.step_directions.proofs.AfterLaws.{few-after}
 use Rattle.step_loops.specs.declared.Stepped.{Stepped}
 use Rattle.step_subscripts.specs.After.{AccessesAfter}
 use Rattle.step_subscripts.specs.Relaid.{Relaid}
 use Rattle.step_subscripts.proofs.FlatNestLaws.{nest-after, small-nest, flat-nest-after, accesses-moved, accesses-held}
-use Rattle.step_judgement.specs.Judgement.{unless, judgedAs, DirectionIn, stageStatus, StageTaken, TakeIn, Taken}
+use Rattle.step_judgement.specs.Judgement.{unless, judgedAs, stageStatus, StageTaken, TakeIn, Taken}
 
--- ---- the step that a match found
-
-module _ (s : DirectionSet) (t d : Step) (e : t ≡ d) where
-  pub there : DirectionIn s t → StepThere (s .depth) (stepOf d)
-  there i = subst (λ (x : Step). StepThere (s .depth) (stepOf x)) e (i .there)
-
--- by the inner loop's number, and by how far inside it is
-pub skew-distance : (s r : DirectionSet) (a d : ℕ) (c : ℤ) → After (skew a (a + 1 + d - suc a) c) s r → After (skew a d c) s r
-skew-distance s r a d c h = let e : a + 1 + d - suc a ≡ d = omega arith in subst (λ n. After (skew a n c) s r) e h
+-- ---- the vectors after a step
 
 -- at most six loops stay at most six
-pub few-after : (t : Model.Step) (m : ℕ) → m ≤ 6 → StepThere m t → depthAfter t m ≤ 6
-unfolding depthAfter
-few-after (exchange a) m h i = h
-few-after (reversal a) m h i = h
-few-after (skew a d c) m h i = h
-few-after (section a w) m h i = let k = i .1 in omega arith
-
-pub vectors-are : (s : DirectionSet) (t d : Step) → t ≡ d → DirectionIn s t → (r : DirectionSet) → After (stepOf d) s r → After (stepOf t) s r
-    × (r .depth ≤ 6)
-vectors-are s t d e i r a =
-    let b : After (stepOf t) s r = subst (λ (x : Step). After (stepOf x) s r) (sym e) a in
-    (b, subst (λ m. m ≤ 6) (sym (b .depth)) (few-after (stepOf t) (s .depth) (i .few) (i .there)))
+pub vectors-are : (s : DirectionSet) (t : Step) → DirectionIn s t → (r : DirectionSet) → After (stepOf t) s r → After (stepOf t) s r × (r .depth ≤ 6)
+vectors-are s t i r a = (a, subst (λ m. m ≤ 6) (sym (a .depth)) (few-after (stepOf t) (s .depth) (i .few) (i .there)))
 
 -- ---- a stage on a flat nest
 

@@ -2,7 +2,7 @@
 use mathlib.Core.Path.{_≡_}
 use mathlib.Core.Bool.{Bool, cond}
 use mathlib.Core.List.{List}
-use Prim.Native.Nat.{ℕ, _≤_}
+use Prim.Native.Nat.{ℕ}
 use lib.IntN.{ℤ}
 use Rattle.lists.specs.Membership.{SameMembers}
 use Rattle.model.specs.Answer.{Answer, accepted}
@@ -17,8 +17,9 @@ use Rattle.ticket_refusals.specs.Refusals.{refusal}
 use Rattle.ticket_refusals.specs.declared.Refusal.the-variants.{TooManyLimits, NumberOutOfRange}
 use Rattle.ticket_refusals.specs.declared.Status.{Status}
 use Rattle.ticket_refusals.specs.declared.Status.the-variants.{Fine, Refused}
-use Rattle.ticket_steps.specs.Steps.{stepOf, stepsOf, StepsIn}
-use Rattle.ticket_steps.specs.declared.Step.{Step}
+use Rattle.step_kinds.specs.Kinds.{stepOf}
+use Rattle.ticket_steps.specs.Steps.{stepsOf, StepsIn}
+use Rattle.step_kinds.specs.declared.Step.{Step}
 use Rattle.ticket_steps.specs.declared.Steps.{Steps}
 use Rattle.step_directions.specs.Sets.{vectorsOf}
 use Rattle.step_directions.specs.declared.DirectionSet.{DirectionSet}
@@ -40,11 +41,6 @@ abbrev pub judgedAs : {A : Type 0} → Status → A → Answer A
 judgedAs s x = unless s (accepted x)
 
 -- ---- one step
-
--- at most six loops, those that the step names among them
-pub record DirectionIn (s : DirectionSet) (t : Step) : Type 0 where
-  pub few : s .depth ≤ 6
-  pub there : StepThere (s .depth) (stepOf t)
 
 -- 11, then 12
 abbrev pub stageStatus : Bool → Bool → ℕ → Status

@@ -5,19 +5,19 @@ ghost use Prim.Native.Nat.{_≤_};
 ghost use Rattle.ticket_refusals.specs.declared.Status.the-variants.{Refused};
 ghost use Rattle.model.specs.Grammar.{depthAfter};
 ghost use Rattle.model.specs.Judge.{stages};
-ghost use Rattle.ticket_steps.specs.Steps.{stepOf};
-ghost use Rattle.step_directions.specs.Sets.{After};
+ghost use Rattle.step_kinds.specs.Kinds.{stepOf};
+ghost use Rattle.step_directions.specs.Sets.{DirectionIn, After};
 ghost use Rattle.nest_flat.specs.FlatNests.{flatNest, FlatNestIn};
 ghost use Rattle.step_application.specs.Taking.{TakingIn};
-ghost use Rattle.step_judgement.specs.Judgement.{DirectionIn, stageStatus, StageTaken, flatNestAt, TakeIn, Taken, SurveyedNew, JudgeIn, JudgesSteps, Judges};
+ghost use Rattle.step_judgement.specs.Judgement.{stageStatus, StageTaken, flatNestAt, TakeIn, Taken, SurveyedNew, JudgeIn, JudgesSteps, Judges};
 use model::ACCESS_ROOM;
 use model::ARRAY_ROOM;
 use nest_flat::Header;
 use nest_points::SpaceCheck;
 use step_directions::DirectionSet;
+use step_kinds::Step;
 use ticket_refusals::Refusal;
 use ticket_refusals::Status;
-use ticket_steps::Step;
 use ticket_steps::Steps;
 
 // The new nest and its directions where the status is Fine; its limits and the words of its accesses stand where the old ones stood.
@@ -39,41 +39,15 @@ fn refused_steps(r: Refusal, header: Header, set: DirectionSet) -> Judged
 
 // ---- one step
 
-fn change_directions(set: DirectionSet, step: Step) -> DirectionSet
-    requires { ⌜ DirectionIn set step ⌝ }
-    ensures { λ r. ⌜ After (stepOf step) set r × (r .depth ≤ 6) ⌝ }
-{
-    match step {
-        Step::Exchange(e) => {
-            let a = e.outer;
-            step_directions::exchange_set(set, a)
-        }
-        Step::Reversal(e) => {
-            let a = e.target;
-            step_directions::reverse_set(set, a)
-        }
-        Step::Skew(e) => {
-            let a = e.outer;
-            let b = a + 1 + e.distance;
-            let factor = e.factor;
-            step_directions::skew_set(set, a, b, factor)
-        }
-        Step::Section(e) => {
-            let a = e.target;
-            step_directions::section_set(set, a)
-        }
-    }
-}
-
 // A set without vectors stays one, whatever the step.
 fn directions_after(set: DirectionSet, step: Step) -> DirectionSet
     requires { ⌜ DirectionIn set step ⌝ }
     ensures { λ r. ⌜ After (stepOf step) set r × (r .depth ≤ 6) ⌝ }
 {
     if step_directions::is_empty(set) {
-        return step_directions::empty(ticket_steps::depth_after(step, set.depth));
+        return step_directions::empty(step_kinds::depth_after(step, set.depth));
     }
-    change_directions(set, step)
+    step_directions::set_after(set, step)
 }
 
 // Refusals 11 and 12 in this order.
@@ -171,7 +145,7 @@ fn judge_steps(
             Status::Fine => {}
             Status::Refused(r) => return refused_steps(r, header, set),
         }
-        depth = ticket_steps::depth_after(step, depth);
+        depth = step_kinds::depth_after(step, depth);
         vectors = after;
         k += 1;
     }

@@ -17,8 +17,8 @@ use Rattle.model.specs.Judge.{smallAccess}
 use Rattle.nest_flat.specs.Layout.{formsFrom, accessAt, accessesFrom, AccessesOk}
 use Rattle.nest_elements.proofs.LayoutLaws.{array-in, array-ends}
 use Rattle.nest_flat.proofs.FlatNestLaws.{accesses-append}
-use Rattle.ticket_steps.specs.Steps.{stepOf}
-use Rattle.ticket_steps.specs.declared.Step.{Step}
+use Rattle.step_kinds.specs.Kinds.{stepOf}
+use Rattle.step_kinds.specs.declared.Step.{Step}
 use Rattle.step_subscripts.specs.After.{smallSubscript, subscriptsAfter, accessesAfter, ChangeIn, Changed, Changes, AccessesIn, AccessesAfter}
 use Rattle.step_subscripts.proofs.FormLaws.{rest-more, forms-front, forms-rest}
 use Rattle.step_subscripts.proofs.ChangeLaws.{depth-few, no}

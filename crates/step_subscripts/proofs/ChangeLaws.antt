@@ -22,9 +22,9 @@ use Rattle.model.specs.Grammar.{depthAfter}
 use Rattle.model.specs.Limits.{coefficientsAfter, subscriptAfter}
 use Rattle.model.specs.Judge.{small}
 use Rattle.nest_flat.specs.Layout.{formAt, formsFrom}
-use Rattle.ticket_steps.specs.Steps.{stepOf}
-use Rattle.ticket_steps.specs.declared.Step.{Step}
-use Rattle.ticket_steps.specs.declared.Step.the-variants.{Exchange, Reversal, Skew, Section}
+use Rattle.step_kinds.specs.Kinds.{stepOf}
+use Rattle.step_kinds.specs.declared.Step.{Step}
+use Rattle.step_kinds.specs.declared.Step.the-variants.{Exchange, Reversal, Skew, Section}
 use Rattle.nest_index_range.proofs.LimitLaws.{within-drop}
 use Rattle.ticket_loops.proofs.PutLaws.{within-put}
 use Rattle.nest_rows.specs.Rows.{RowIs, Tried}

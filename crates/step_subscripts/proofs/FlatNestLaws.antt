@@ -24,8 +24,8 @@ use Rattle.nest_flat.specs.Flat.{loopsFrom, NestOk}
 use Rattle.nest_flat.specs.Layout.{arraysOf, accessAt, accessesFrom, AccessesOk}
 use Rattle.nest_flat.specs.FlatNests.{FlatNest, extentsIn, sizesIn, accessedIn, wordsIn, statementsFrom, nestOf, FlatNestIn, noAccess}
 use Rattle.nest_flat.proofs.FlatNestLaws.{access-at, all-accesses, accessed-count}
-use Rattle.ticket_steps.specs.Steps.{stepOf}
-use Rattle.ticket_steps.specs.declared.Step.{Step}
+use Rattle.step_kinds.specs.Kinds.{stepOf}
+use Rattle.step_kinds.specs.declared.Step.{Step}
 use Rattle.step_subscripts.specs.After.{accessesAfter, AccessesIn, AccessesAfter}
 use Rattle.step_subscripts.specs.Relaid.{Relaid, AccessesMoved}
 

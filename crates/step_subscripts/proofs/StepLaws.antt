@@ -9,8 +9,8 @@ use Rattle.model.specs.Grammar.{depthAfter}
 use Rattle.model.specs.Ranges.{StepThere}
 use Rattle.model.specs.Limits.{coefficientsAfter}
 use Rattle.nest_rows.specs.Rows.{RowIs}
-use Rattle.ticket_steps.specs.Steps.{stepOf}
-use Rattle.ticket_steps.specs.declared.Step.{Step}
+use Rattle.step_kinds.specs.Kinds.{stepOf}
+use Rattle.step_kinds.specs.declared.Step.{Step}
 use Rattle.step_subscripts.specs.After.{StepFits}
 
 module _ (t d : Step) (n : ℕ) (e : t ≡ d) where

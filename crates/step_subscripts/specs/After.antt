@@ -14,8 +14,8 @@ use Rattle.model.specs.Ranges.{StepThere}
 use Rattle.model.specs.Limits.{subscriptAfter, accessAfter}
 use Rattle.model.specs.Judge.{small, smallAccess}
 use Rattle.nest_flat.specs.Layout.{formsFrom, accessesFrom, AccessesOk}
-use Rattle.ticket_steps.specs.Steps.{stepOf}
-use Rattle.ticket_steps.specs.declared.Step.{Step}
+use Rattle.step_kinds.specs.Kinds.{stepOf}
+use Rattle.step_kinds.specs.declared.Step.{Step}
 
 -- every number within ±32767, as `smallAccess` tests it
 abbrev pub smallSubscript : Model.Subscript → Bool

@@ -5,11 +5,11 @@ ghost use Rattle.integers.specs.Affine.{Within};
 ghost use Rattle.model.specs.Grammar.{depthAfter};
 ghost use Rattle.model.specs.Limits.{coefficientsAfter};
 ghost use Rattle.nest_rows.specs.Rows.{RowIs};
-ghost use Rattle.ticket_steps.specs.Steps.{stepOf};
+ghost use Rattle.step_kinds.specs.Kinds.{stepOf};
 ghost use Rattle.step_subscripts.specs.After.{StepFits, ChangeIn, Changes, AccessesIn, AccessesAfter};
 use model::ARRAY_ROOM;
 use model::LOOPS;
-use ticket_steps::Step;
+use step_kinds::Step;
 
 fn row_after(cs: [i32; LOOPS], n: usize, step: Step) -> [i32; LOOPS]
     requires { ⌜ StepFits n step × Within 32767 (take n cs) ⌝ }
@@ -82,7 +82,7 @@ pub fn change_accesses(
     requires { ⌜ AccessesIn (now words) (now accessed) (now extents) depth step ⌝ }
     ensures { λ r. ⌜ AccessesAfter (stepOf step) (now (words .entry)) (now (accessed .entry)) (now (extents .entry)) depth (now (words .exit)) r ⌝ }
 {
-    let m = ticket_steps::depth_after(step, depth);
+    let m = step_kinds::depth_after(step, depth);
     let mut k = 0;
     while k < accessed.len() {
         let at = accessed[k] * ARRAY_ROOM;

@@ -17,19 +17,13 @@ use Rattle.ticket_words.specs.Reads.{Reached, Reads}
 use Rattle.ticket_words.specs.Words.{numberAnswer}
 use Rattle.ticket_words.specs.declared.Number.{Number}
 use Rattle.ticket_words.specs.declared.Number.the-variants as Number
-use Rattle.ticket_steps.specs.declared.Step.{Step}
-use Rattle.ticket_steps.specs.declared.Step.the-variants.{Exchange, Reversal, Skew, Section}
+use Rattle.step_kinds.specs.Kinds.{stepOf}
+use Rattle.step_kinds.specs.declared.Step.{Step}
 use Rattle.ticket_steps.specs.declared.Numbered.{Numbered}
 use Rattle.ticket_steps.specs.declared.Steps.{Steps}
 use Rattle.ticket_steps.specs.declared.StepsRead.{StepsRead}
 use Rattle.ticket_steps.specs.declared.StepRead.{StepRead}
 use Rattle.ticket_steps.specs.declared.StepRead.the-variants as StepRead
-
-abbrev pub stepOf : Step → Model.Step
-stepOf (Exchange e) = Model.exchange (e .outer)
-stepOf (Reversal e) = Model.reversal (e .target)
-stepOf (Skew e) = Model.skew (e .outer) (e .distance) (e .factor)
-stepOf (Section e) = Model.section (e .target) (e .width)
 
 -- ---- one step, of three words after its kind
 

@@ -5,43 +5,20 @@ ghost use Rattle.model.specs.Words.{signed};
 ghost use Rattle.model.specs.Grammar as Grammar;
 ghost use Rattle.model.specs.Grammar.{mostLoops};
 ghost use Rattle.ticket_words.specs.Reads.{Reached};
-ghost use Rattle.ticket_steps.specs.Steps.{ReadsStep, isFactor, ReadsFactor, ReadsSteps, StepsIn, nextLoop, sectionable, oneStep, stepOf};
+ghost use Rattle.ticket_steps.specs.Steps.{ReadsStep, isFactor, ReadsFactor, ReadsSteps, StepsIn, nextLoop, sectionable, oneStep};
 ghost use Rattle.ticket_refusals.specs.declared.Status.the-variants.{Refused};
 ghost use lib.ListN.{length};
 use model::LOOPS;
+use step_kinds::Exchange;
+use step_kinds::Reversal;
+use step_kinds::Section;
+use step_kinds::Skew;
+use step_kinds::Step;
 use ticket_refusals::Refusal;
 use ticket_refusals::Status;
 use ticket_words::Bits;
 use ticket_words::Natural;
 use ticket_words::Number;
-
-// Loops are counted from 0.
-pub struct Exchange {
-    pub outer: usize,
-}
-
-pub struct Reversal {
-    pub target: usize,
-}
-
-// By loop `outer` the loop `distance` + 1 places inside it.
-pub struct Skew {
-    pub outer: usize,
-    pub distance: usize,
-    pub factor: i32,
-}
-
-pub struct Section {
-    pub target: usize,
-    pub width: usize,
-}
-
-pub enum Step {
-    Exchange(Exchange),
-    Reversal(Reversal),
-    Skew(Skew),
-    Section(Section),
-}
 
 // A step with its number, from 1.
 pub struct Numbered {
@@ -209,19 +186,6 @@ pub struct StepsRead {
     pub next: usize,
 }
 
-// The number of loops after a step.
-pub fn depth_after(step: Step, depth: usize) -> usize
-    requires { ⌜ depth ≤ mostLoops ⌝ }
-    ensures { λ r. ⌜ r ≡ Grammar.depthAfter (stepOf step) depth ⌝ }
-{
-    match step {
-        Step::Exchange(_) => depth,
-        Step::Reversal(_) => depth,
-        Step::Skew(_) => depth,
-        Step::Section(_) => depth + 1,
-    }
-}
-
 fn blank_steps() -> [Numbered; 8]
     ensures { λ r. ⌜ length r ≡ 8 ⌝ }
 {
@@ -262,7 +226,7 @@ pub fn read_steps(s: &[u8], at: usize, depth: usize) -> StepsRead
     while k < count {
         match read_step(s, next, k + 1, loops) {
             StepRead::Taken(step) => {
-                loops = depth_after(step, loops);
+                loops = step_kinds::depth_after(step, loops);
                 all[k] = Numbered {
                     number: k + 1,
                     step: step,

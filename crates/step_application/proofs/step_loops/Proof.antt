@@ -1,6 +1,6 @@
 -- `step_loops`: the change that the step's match found.
 use native.Mathlib.Omega.{arith}
-use Rattle.ticket_steps.specs.declared.Step.the-variants.{Exchange, Reversal, Skew, Section}
+use Rattle.step_kinds.specs.declared.Step.the-variants.{Exchange, Reversal, Skew, Section}
 use Rattle.step_limits.proofs.NumberLaws.{small-back, factor-small}
 use Rattle.step_application.proofs.TakingLaws.{there, loops-are}
 use borrow.Author.Needs.{needs}

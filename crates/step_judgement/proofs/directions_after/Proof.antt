@@ -1,7 +1,7 @@
 -- `directions_after`: no vectors give none, and others go by the step.
-use mathlib.Core.Path.{refl, subst}
+use mathlib.Core.Path.{subst}
 use Prim.Native.Nat.{ℕ}
-use Rattle.ticket_steps.specs.Steps.{stepOf}
+use Rattle.step_kinds.specs.Kinds.{stepOf}
 use Rattle.step_directions.specs.Sets.{Empty}
 use Rattle.step_directions.proofs.EmptyLaws.{after-none}
 use Rattle.step_judgement.proofs.StepLaws.{vectors-are}
@@ -23,15 +23,17 @@ returns c =
     let s = c .before .before .before .before in
     let d = c .before .depth-after in
     let r = c .empty in
-    vectors-are (s .args .set) (s .args .step) (s .args .step) refl (s .pre) (r .result)
+    vectors-are (s .args .set) (s .args .step) (s .pre) (r .result)
     (after-none (stepOf (s .args .step)) (s .args .set) (r .result) (c .before .before .before .is-empty .ensures (c .before .before .if1 .taken))
     (subst (λ (n : ℕ). Empty n (r .result)) (d .ensures) (r .ensures)))
 
-change-directions-requires : tie.Need-change-directions-requires
-change-directions-requires c κs = search needs
+set-after-requires : tie.Need-set-after-requires
+set-after-requires c κs = search needs
 
 returns-2 : tie.Need-returns-2
-returns-2 c = search needs
+returns-2 c =
+    let s = c .before .before .before in
+    vectors-are (s .args .set) (s .args .step) (s .pre) (c .set-after .result) (c .set-after .ensures)
 
 pub directions-after-spec : {M : Type 1} → statement M
 directions-after-spec =
@@ -41,5 +43,5 @@ directions-after-spec =
     depth-after-requires
     empty-requires
     returns
-    change-directions-requires
+    set-after-requires
     returns-2)

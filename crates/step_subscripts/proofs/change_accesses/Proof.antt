@@ -4,7 +4,7 @@ use native.Mathlib.Omega.{arith}
 use lib.ListN.{length}
 use borrow.Author.Needs.{needs}
 use borrow.Author.Tests.{not-true, not-false}
-use Rattle.ticket_steps.specs.Steps.{stepOf}
+use Rattle.step_kinds.specs.Kinds.{stepOf}
 use Rattle.step_subscripts.proofs.AccessLaws.{Passed, passed-none, width-inside, next-in, next-fails, next-passes, passed-all}
 use Rattle.step_subscripts.proofs.change_accesses.Statement.{statement}
 use Rattle.step_subscripts.proofs.change_accesses.Tie as tie

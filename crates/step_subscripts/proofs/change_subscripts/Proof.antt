@@ -3,7 +3,7 @@ use Prim.Native.Nat.{_-_, _≤_}
 use native.Mathlib.Omega.{arith}
 use borrow.Author.Needs.{needs}
 use borrow.Author.Tests.{not-true, not-false}
-use Rattle.ticket_steps.specs.Steps.{stepOf}
+use Rattle.step_kinds.specs.Kinds.{stepOf}
 use Rattle.step_subscripts.specs.After.{Changed}
 use Rattle.step_subscripts.proofs.ChangeLaws.{changed-none, next-in, next-fails, next-passes, all-pass}
 use Rattle.step_subscripts.proofs.change_subscripts.Statement.{statement}

@@ -2,7 +2,7 @@ use native.Mathlib.Omega.{arith}
 use borrow.Author.Needs.{needs}
 use Rattle.model.specs.Grammar.{depthAfter}
 use Rattle.model.specs.Limits.{coefficientsAfter}
-use Rattle.ticket_steps.specs.declared.Step.the-variants.{Exchange, Reversal, Skew, Section}
+use Rattle.step_kinds.specs.declared.Step.the-variants.{Exchange, Reversal, Skew, Section}
 use Rattle.step_limits.proofs.NumberLaws.{small-back, factor-small}
 use Rattle.step_subscripts.proofs.StepLaws.{there, row-is, row-longer}
 use Rattle.step_subscripts.proofs.row_after.Statement.{statement}

@@ -12,8 +12,9 @@ use Rattle.model.specs.Grammar.{depthAfter, stepsFrom}
 use Rattle.ticket_words.specs.Reads.{Reached}
 use Rattle.ticket_words.specs.Words.{naturalAnswer, OnNatural}
 use Rattle.ticket_words.proofs.ReaderLaws.{seen, known-of, refused-here, after-value, after-refusal, before, filled-more}
-use Rattle.ticket_steps.specs.Steps.{stepOf, stepAnswer, OnStep, oneStep, stepsOf, NumberedFrom}
-use Rattle.ticket_steps.specs.declared.Step.{Step}
+use Rattle.step_kinds.specs.Kinds.{stepOf}
+use Rattle.step_kinds.specs.declared.Step.{Step}
+use Rattle.ticket_steps.specs.Steps.{stepAnswer, OnStep, oneStep, stepsOf, NumberedFrom}
 use Rattle.ticket_steps.specs.declared.Numbered.{Numbered}
 use Rattle.ticket_steps.proofs.StepLaws.{numbered-next, steps-start, steps-more, steps-no, steps-done}
 use Rattle.ticket_steps.proofs.read_steps.Statement.{statement}

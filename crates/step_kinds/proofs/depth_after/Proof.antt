@@ -2,10 +2,10 @@
 use mathlib.Core.Path.{sym, ap, _∙_}
 use native.Mathlib.Numerals.{add-one}
 use Rattle.model.specs.Grammar.{depthAfter}
-use Rattle.ticket_steps.specs.Steps.{stepOf}
+use Rattle.step_kinds.specs.Kinds.{stepOf}
 use borrow.Author.Needs.{needs}
-use Rattle.ticket_steps.proofs.depth_after.Statement.{statement}
-use Rattle.ticket_steps.proofs.depth_after.Tie as tie
+use Rattle.step_kinds.proofs.depth_after.Statement.{statement}
+use Rattle.step_kinds.proofs.depth_after.Tie as tie
 
 enum-told : tie.Need-enum-told
 enum-told c = search needs
