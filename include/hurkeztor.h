@@ -7,8 +7,12 @@
  *   bits 32 to 63  the count on acceptance: iterations (judge, run), bytes written (write, list), 1 'apart' or 0 'perhaps' (quick);
  *                  0 on refusal
  *
- * A refused call changes no lent memory; an accepted one leaves every byte beyond those written as it was. A pointer of length 0 must not be
- * null: any address will do. A call uses less than 1 MiB of stack. Calls may run at the same time in several threads.
+ * Every answer fits these fields: that is proved too. A refused call changes no lent memory; an accepted one leaves every byte beyond those written
+ * as it was. A call uses less than 1 MiB of stack. Calls may run at the same time in several threads.
+ *
+ * What is proved assumes of a caller, and nothing checks: a pointer and its length are of memory that can be read, and of out and store written, for
+ * the whole call; out and store do not overlap the ticket; a store is aligned for its words; no pointer is null, though of length 0 any other
+ * address will do.
  */
 #ifndef HURKEZTOR_H
 #define HURKEZTOR_H

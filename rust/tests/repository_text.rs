@@ -3,20 +3,26 @@
 use std::path::Path;
 use std::process::Command;
 
-fn passes(script: &str) {
+fn passes(interpreter: &str, script: &str) {
     let root = Path::new(env!("CARGO_MANIFEST_DIR")).join("..");
-    let run = Command::new("python3").arg(script).current_dir(root).output().expect("python3 is installed");
+    let ran = Command::new(interpreter).arg(script).current_dir(root).output();
+    let run = ran.unwrap_or_else(|error| panic!("{interpreter} has to be installed: {error}"));
     let said = String::from_utf8_lossy(&run.stdout);
     let failed = String::from_utf8_lossy(&run.stderr);
     assert!(run.status.success(), "{script}:\n{said}{failed}");
 }
 
 #[test]
+fn the_demands_are_stated_without_proofs() {
+    passes("bash", "tests/demands");
+}
+
+#[test]
 fn every_name_in_the_documents_is_there() {
-    passes("tests/names");
+    passes("python3", "tests/names");
 }
 
 #[test]
 fn no_old_name_is_left() {
-    passes("docs/renaming/check");
+    passes("python3", "docs/renaming/check");
 }
