@@ -28,8 +28,8 @@ use Rattle.dependence_banerjee.proofs.RegionLaws.{iteration-long, signs
 -- ---- impossible
 
 module _ (w : List ℤ) (i j d n : ℕ) (b : List Range) (g : RegionIn w i j d n b) (u : ℕ) where
-  pub vacant-impossible : NoIterations n b u → Impossible w i j d n b u
-  vacant-impossible v p q h e = v p q h
+  pub empty-impossible : NoIterations n b u → Impossible w i j d n b u
+  empty-impossible v p q h e = v p q h
 
   pub all-excluded : Excluded w i j d n b u → Impossible w i j d n b u
   all-excluded x p q h e = x p q h (difference-zero w n i j d p q (g .sums) (g .ranges .few) (iteration-long n b (g .ranges) p (h .source))
@@ -140,12 +140,12 @@ module _ (w : List ℤ) (a b d n : ℕ) (r : List Range) (own : Bool) (base : �
     long = (iteration-long n r (g .ranges) p hp, iteration-long n r (g .ranges) q hq)
 
     splits : number (signs p q) ≡ numberAfter 0 (signs p q) * s + (s - 1) / 2
-    splits = number-splits (signs p q) n (signs-long n r (g .ranges) p q hp hq) ∙ rw (stride-half (6 - n) s e, e)
+    splits = number-splits (signs p q) n (signs-long n r (g .ranges) p q hp hq) (g .ranges .few) ∙ rw (stride-half (6 - n) s e, e)
 
     candidate : (earlier p q ≡ true) ⊎ ((own ≡ true) × (p ≡ q)) → numberAfter 0 (signs p q) < candidates n own
     candidate x =
         let f = g .ranges .few in let l = long .0 in let o = long .1 in
-        let t = number-splits (signs p q) n (signs-long n r (g .ranges) p q hp hq) in let z = middle-number n (g .ranges .few) in
+        let t = number-splits (signs p q) n (signs-long n r (g .ranges) p q hp hq) (g .ranges .few) in let z = middle-number n (g .ranges .few) in
         ⊎-elim
         (λ h. let v = number-earlier p q (omega arith) (omega arith) (true-T (earlier p q) h) in let y = candidates-least n own in
         let j : numberAfter 0 (signs p q) < before n = lt-of-mul-lt-mul-right (stride (6 - n)) (omega arith) in omega arith)

@@ -117,10 +117,10 @@ skipped a b g s h z l u d =
     omega zarith
 
 -- as the code finds it
-pub skips-range : (a b : ℤ) (g : ℕ) → size a ≤ 68719476736 → size b ≤ 68719476736 → 0 < g → {x y d : ℤ} → d ≡ pos g → x ≡ floorDiv (copy b) d
+pub no-multiple-between : (a b : ℤ) (g : ℕ) → size a ≤ 68719476736 → size b ≤ 68719476736 → 0 < g → {x y d : ℤ} → d ≡ pos g → x ≡ floorDiv (copy b) d
     → y ≡ ceilDiv (copy a) d
     → ltZ (copy x) (copy y) ≡ true → (z : ℤ) → a ≤ℤ z → z ≤ℤ b → pos g ∣ℤ z → ⊥
-skips-range a b g sa sb s {x} {y} {d} e fx fy t =
+no-multiple-between a b g sa sb s {x} {y} {d} e fx fy t =
     let ex : x ≡ floorDiv b (pos g) = fx ∙ ap₂ floorDiv (kept b sb (omega arith)) e in
     let ey : y ≡ ceilDiv a (pos g) = fy ∙ ap₂ ceilDiv (kept a sa (omega arith)) e in
     let hx : size x ≤ 68719476736 = rw ex (let l = size-floor b (pos g) in omega arith) in

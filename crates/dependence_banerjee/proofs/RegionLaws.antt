@@ -82,10 +82,10 @@ module _ (n : ℕ) (b : List Range) (f : RangesIn n b) where
 
   -- ---- a loop of one value
 
-  pub single-vacant : (u k v : ℕ) → 0 < k → k ≤ n → Outer n b u k v → (v % 3 ≡ 1 → ⊥)
+  pub single-empty : (u k v : ℕ) → 0 < k → k ≤ n → Outer n b u k v → (v % 3 ≡ 1 → ⊥)
       → leZ (getD b (k - 1) noRange .greatest) (getD b (k - 1) noRange .least) ≡ true → NoIterations n b u
   unfolding digit
-  single-vacant u k v a c o e t p q h =
+  single-empty u k v a c o e t p q h =
       let x = index-at p (h .source) (k - 1) (omega arith) in
       let y = index-at q (h .sink) (k - 1) (omega arith) in
       let s = test-le {a = getD b (k - 1) noRange .greatest} {b = getD b (k - 1) noRange .least} t in

@@ -202,9 +202,9 @@ pub record At (n d i : ℕ) : Type 0 where
   pub wide : length (lineAt n d i .vector) ≡ d
   pub marked : place n (lineAt n d i) ≡ i / stride d * vectorCount + (i % stride d * stride (6 - d) + middle (6 - d))
 
-pub line-at : (n d i : ℕ) → i < lineCount n d → At n d i
+pub line-at : (n d i : ℕ) → d ≤ 6 → i < lineCount n d → At n d i
 unfolding place
-line-at n d i h =
+line-at n d i f h =
     let p = split i (stride d) (n * n * kindCount) h in
     let q = split (i / stride d) kindCount (n * n) (p .quotient) in
     let r = split (i / stride d / kindCount) n n (q .quotient) in
@@ -215,7 +215,7 @@ line-at n d i h =
     let l = subst (λ j. lineAt n d j ≡ record { kind = getD kinds k flow; source = s; sink = t; vector = getD (signVectors d) w [] }) whole
     (line-is n d s t k w (r .quotient) (r .rest) (q .rest) (p .rest)) in
     let v = signVectors-number d w 0 (p .rest) in
-    let e : number (getD (signVectors d) w []) ≡ w * stride (6 - d) + middle (6 - d) = number-splits (getD (signVectors d) w []) d (v .1)
+    let e : number (getD (signVectors d) w []) ≡ w * stride (6 - d) + middle (6 - d) = number-splits (getD (signVectors d) w []) d (v .1) f
     ∙ ap (λ z. z * stride (6 - d) + middle (6 - d)) (v .0 ∙ zero-times (stride d) w) in
     record {
       block = p .quotient;
@@ -236,7 +236,7 @@ pub vector-small : (d w : ℕ) → d ≤ 6 → w < stride d → w * stride (6 - 
 vector-small d w h g =
     let v = signVectors-number d w 0 g in
     let a = number-lt (getD (signVectors d) w []) (let l = v .1 in omega arith) in
-    let b = number-splits (getD (signVectors d) w []) d (v .1) in
+    let b = number-splits (getD (signVectors d) w []) d (v .1) h in
     let c : numberAfter 0 (getD (signVectors d) w []) ≡ w = v .0 ∙ rw (zero-mul (stride d), zero-add w) in
     let e : numberAfter 0 (getD (signVectors d) w []) * stride (6 - d) ≡ w * stride (6 - d) = ap (_* stride (6 - d)) c in omega arith
 

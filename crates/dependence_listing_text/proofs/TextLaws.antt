@@ -11,6 +11,7 @@ use Rattle.integers.specs.Sign.{Sign, less, equal, greater}
 use Rattle.model.specs.Directions.{flow, kinds, Line, kindCount}
 use Rattle.model.specs.Listing.{digits, decimal, letter, signChar, lineText}
 use Rattle.dependence_vectors.specs.Numbers.{digit, numberAfter, number}
+use Rattle.dependence_vectors.proofs.HornerLaws.{number-after}
 use Rattle.dependence_vectors.proofs.NumberLaws.{digit-lt}
 use Rattle.dependence_listing_text.specs.Text.{Field}
 
@@ -132,12 +133,11 @@ six-signs (a ∷ b ∷ c ∷ d ∷ e ∷ f ∷ g ∷ v) h = absurd (omega arith)
 
 -- the first signs of six
 pub signs-text : (v : List Sign) (d : ℕ) → d ≤ 6 → length v ≡ d → map signChar v ≡ take d (sixSigns (number v))
-unfolding number
 signs-text v d h e =
     let r : List Sign = replicate (6 - length v) equal in
     let a = length-append v r in let b = length-replicate (6 - length v) equal in
     sym (take-at (map signChar v) (map signChar r) d (length-map v signChar ∙ e))
-    ∙ ap (take d) (sym (map-append signChar v r) ∙ six-signs (v ++ r) (omega arith))
+    ∙ ap (take d) (sym (map-append signChar v r) ∙ six-signs (v ++ r) (omega arith) ∙ ap sixSigns (sym (number-after v (omega arith))))
 
 -- ---- lines
 

@@ -22,15 +22,13 @@ use Rattle.model.specs.Judge.{directionsOf}
 use Rattle.model.proofs.Listing.LineOrderLaws.{allLines-mem, mem-allLines}
 use Rattle.model.proofs.Listing.ListingLaws.{linesOf-merged}
 use Rattle.model.specs.Grammar.{mostStatements}
-use Rattle.dependence_vectors.specs.Numbers as Dependence
-use Rattle.dependence_vectors.specs.Numbers.{kindNumber, place}
+use Rattle.dependence_vectors.specs.Numbers.{number, kindNumber, place}
 use Rattle.dependence_listing_text.specs.Text as Text
 use Rattle.dependence_listing_text.specs.Text.{shown, Marks}
 use Rattle.dependence_listing_text.proofs.IndexLaws.{split, count-small}
-use Rattle.step_preimages.specs.Numbers.{number, marked}
+use Rattle.step_preimages.specs.Numbers.{marked}
 use Rattle.step_directions.specs.Sets.{vectorsIn, Cleared, Merged}
 use Rattle.step_preimages.proofs.NumberLaws.{number-below}
-use Rattle.step_directions.proofs.HornerLaws.{one-number}
 use Rattle.step_directions.proofs.SetLaws.{vectorsIn-mem, mem-vectorsIn}
 use Rattle.nest_flat.specs.FlatNests.{FlatNest, nestOf}
 use Rattle.dependence_marks.specs.Lines.{LinesAre, Shows, DirectionsAre}
@@ -40,11 +38,9 @@ use Rattle.dependence_marks.specs.Lines.{LinesAre, Shows, DirectionsAre}
 abbrev rowOf : List Bool → ℕ → List Bool
 rowOf marks b = take vectorCount (drop (b * vectorCount) marks)
 
-row-marked : (marks : List Bool) (b : ℕ) (v : List Sign) → length v ≤ 6
-    → marked (rowOf marks b) v ≡ getD marks (b * vectorCount + Dependence.number v) false
-row-marked marks b v h =
+row-marked : (marks : List Bool) (b : ℕ) (v : List Sign) → marked (rowOf marks b) v ≡ getD marks (b * vectorCount + number v) false
+row-marked marks b v =
     getD-take vectorCount (drop (b * vectorCount) marks) (number v) false (number-below v) ∙ getD-drop (b * vectorCount) marks (number v) false
-    ∙ ap (λ (i : ℕ). getD marks (b * vectorCount + i) false) (one-number v h)
 
 module _ (marks : List Bool) (n d : ℕ) (h : Marks marks n d) where
   pub blocks-few : (n * n ≤ mostStatements * mostStatements) × (n * n * kindCount ≤ mostStatements * mostStatements * kindCount)
@@ -131,9 +127,9 @@ module _ (marks : List Bool) (n d : ℕ) (h : d ≤ 6) where
       let k = kind-at (b % kindCount) (p .rest) in
       let x : Line = record { kind = k .0; source = b / kindCount / n; sink = b / kindCount % n; vector = v } in
       let a = p .is in let c = q .is in let e = k .1 in
-      let w : place n x ≡ b * vectorCount + Dependence.number v = omega arith in
+      let w : place n x ≡ b * vectorCount + number v = omega arith in
       Memᴰ·map vectorOf (mem-select (Text.marked marks n) (allLines n d) (mem-allLines n d x (q .quotient) (q .rest) l)
-      (subst (λ (i : ℕ). T (getD marks i false)) (sym w) (subst T (row-marked marks b v (omega arith)) t)))
+      (subst (λ (i : ℕ). T (getD marks i false)) (sym w) (subst T (row-marked marks b v) t)))
 
   from-lines : (v : List Sign) → Mem v (map vectorOf (shown marks n d))
       → (b : ℕ) × (b < n * n * kindCount) × (length v ≡ d) × T (marked (rowOf marks b) v)
@@ -149,8 +145,8 @@ module _ (marks : List Bool) (n d : ℕ) (h : d ≤ 6) where
         b,
         omega arith,
         l,
-        subst T (ap (λ (u : List Sign). getD marks (b * vectorCount + Dependence.number u) false) (r .2)
-            ∙ sym (row-marked marks b v (omega arith))) (s .1),
+        subst T (ap (λ (u : List Sign). getD marks (b * vectorCount + number u) false) (r .2)
+            ∙ sym (row-marked marks b v)) (s .1),
       )
 
   pub rows-lines : SameMembers (flatMap (λ (r : List Bool). vectorsIn r d) (rows vectorCount (n * n * kindCount) marks))

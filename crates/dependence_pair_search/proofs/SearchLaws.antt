@@ -12,7 +12,7 @@ use Rattle.lists.proofs.PartLaws.{row-fits}
 use Rattle.model.specs.Grammar.{mostPoints}
 use Rattle.dependence_vectors.specs.Candidates.{code}
 use Rattle.dependence_pair_search.specs.Search.{some, latest, upTo, Links, Unlinked, NextLinked, hit, found, Adds, walked, Walkable, Tabled, Searchable, Followable}
-use Rattle.dependence_pair_search.proofs.SomeLaws.{some-skips, gathered-none, gathered-more}
+use Rattle.dependence_pair_search.proofs.SomeLaws.{some-past, gathered-none, gathered-more}
 use Rattle.dependence_pair_search.proofs.ChainLaws.{chain-skips-none, latest-le, upTo-le, links-fall, along-finds}
 
 module _ (s : List ℤ) (d : ℕ) (from to : List ℕ) (own : Bool) (base : ℕ) where
@@ -93,7 +93,7 @@ module _ (s : List ℤ) (d : ℕ) (from to : List ℕ) (own : Bool) (base : ℕ)
   unfolding found
   found-skips start y r j k g = let a = g .after in let b = g .inside in let e : r ≡ y + (r - y) = omega arith in
       ap (λ n. some n (λ y. some (upTo own y) (hit d s from to base j y))) e
-      ∙ some-skips y (r - y) (λ y. some (upTo own y) (hit d s from to base j y))
+      ∙ some-past y (r - y) (λ y. some (upTo own y) (hit d s from to base j y))
       (λ i p q. finds-none start k i j (omega arith) (g .passed i (omega arith) p))
 
   pub search-skips : (next start : List ℕ) (m₀ m : List Bool) (spent y r : ℕ) → NextLinked start y (length from) r

@@ -32,11 +32,11 @@ some-none zero = λ _. false
 some-none (suc n) = some-none n
 
 -- numbers that do not pass
-pub some-skips : (n k : ℕ) (p : ℕ → Bool) → ((i : ℕ) → n ≤ i → i < n + k → p i ≡ false) → some (n + k) p ≡ some n p
+pub some-past : (n k : ℕ) (p : ℕ → Bool) → ((i : ℕ) → n ≤ i → i < n + k → p i ≡ false) → some (n + k) p ≡ some n p
 unfolding some
-some-skips n zero p h = rw (add-zero n)
-some-skips n (suc k) p h = rw (add-suc n k) (ap (_|| some (n + k) p) (h (n + k) (omega arith) (omega arith))
-    ∙ some-skips n k p (λ i a b. h i a (omega arith)))
+some-past n zero p h = rw (add-zero n)
+some-past n (suc k) p h = rw (add-suc n k) (ap (_|| some (n + k) p) (h (n + k) (omega arith) (omega arith))
+    ∙ some-past n k p (λ i a b. h i a (omega arith)))
 
 -- ---- the marks that a loop gathers
 

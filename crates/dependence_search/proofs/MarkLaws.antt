@@ -97,7 +97,8 @@ module _ (F : Flat) (marks : List Bool) (ok : Ready F marks) where
                 (subst T (same-element (m .a) (m .b) x y (m .source) (m .sink) hx (m .late))
                 (true-T (eqb (numberAt F (m .a) x) (numberAt F (m .b) y)) (eq-eqb (numberAt F (m .a) x) (numberAt F (m .b) y) (m .element))));
           });
-          vector = number-unique (signs (pointAt F x) (pointAt F y)) (l .vector) (vector-length x y hx (m .late) ∙ sym (fits .signs)) (p .vector);
+          vector = number-unique (signs (pointAt F x) (pointAt F y)) (l .vector) (vector-length x y hx (m .late) ∙ sym (fits .signs))
+              (let e = fits .signs in let s = ok .shallow in omega arith) (p .vector);
         }
 
     -- two points and two accesses that show the line

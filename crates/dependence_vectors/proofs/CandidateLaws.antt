@@ -13,8 +13,9 @@ use borrow.Author.Tests.{ltb-true, ltb-false}
 use Rattle.integers.specs.Sign.{Sign, equal, sign}
 use Rattle.integers.proofs.SignLaws.{Means, sign-means, sign-self}
 use Rattle.model.specs.Directions.{signs}
-use Rattle.dependence_vectors.specs.Numbers.{digit, numberAfter, number}
+use Rattle.dependence_vectors.specs.Numbers.{digit, numberAfter}
 use Rattle.dependence_vectors.specs.Candidates.{row, Agree, Steady, Candidate}
+use Rattle.dependence_vectors.proofs.HornerLaws.{number-after}
 use Rattle.dependence_vectors.proofs.NumberLaws.{digit-lt, digit-unique, after-append, padded, signs-short}
 use Rattle.dependence_vectors.proofs.VectorLaws.{row-length, row-short}
 
@@ -92,6 +93,7 @@ module _ (v k w : ℕ) (h : 0 < k) (g : k ≤ 6) (outer : Outer v k w) where
   innermost u l e = let a = parts u l e in let b = digit-lt (getD u (k - 1) equal) in omega arith
 
   pub no-candidate : (varying : List Bool) → getD varying (k - 1) false ≡ false → (w % 3 ≡ 1 → ⊥) → Candidate varying v false
-  unfolding number digit
-  no-candidate varying f other u l steady e = absurd (other (innermost (u ++ replicate (6 - length u) equal) (padded u l) e
+  unfolding digit
+  no-candidate varying f other u l steady e = absurd (other (innermost (u ++ replicate (6 - length u) equal) (padded u l)
+      (sym (number-after u l) ∙ e)
       ∙ ap digit (padded-getD u (6 - length u) (k - 1) ∙ steady (k - 1) f)))

@@ -4,6 +4,7 @@ use mathlib.Core.List.{List}
 use Prim.Native.Nat.{ℕ, zero, suc, _+_, _*_, _-_, _/_, _≤_, _<_}
 use native.Mathlib.Nat.{add-mul, one-mul, lt-of-mul-lt-mul-right}
 use native.Mathlib.Omega.{arith}
+use native.Mathlib.Decide.{decLt}
 use lib.ListN.{length}
 use Rattle.integers.specs.Sign.{Sign}
 use Rattle.lists.proofs.PartLaws.{row-fits}
@@ -16,7 +17,11 @@ abbrev pub OfDepth : ℕ → ℕ → Type 0
 OfDepth d n = (t : ℕ) × (n ≡ t * stride (6 - d) + middle (6 - d))
 
 pub depth-number : (v : List Sign) (d : ℕ) → length v ≡ d → OfDepth d (number v)
-depth-number v d e = (numberAfter 0 v, number-splits v d e)
+unfolding stride middle numberAfter
+depth-number v d e = elim (decLt 6 d) [
+  | yes h ↦ let z : 6 - d ≡ 0 = omega arith in (number v, rw z (omega arith))
+  | no h ↦ (numberAfter 0 v, number-splits v d e (omega arith))
+]
 
 module _ (d s : ℕ) (e : s ≡ stride (6 - d)) where
   pub depth-positive : 0 < s

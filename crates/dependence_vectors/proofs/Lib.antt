@@ -1,4 +1,5 @@
 -- Laws of what `specs` defines.
+pub mod HornerLaws
 pub mod NumberLaws
 pub mod DepthLaws
 pub mod VectorLaws

@@ -1,6 +1,6 @@
 -- Numbers of vectors. In order: digits; numbers of one length rise; numbers below vectorCount; a vector is given by its number; the numbers of
 -- vectors of d loops; points in order have a number below 364.
-use mathlib.Core.Path.{_≡_, refl, ap, ap₂, _∙_, subst}
+use mathlib.Core.Path.{_≡_, refl, sym, ap, ap₂, _∙_, subst}
 use mathlib.Core.Bool.{true, false}
 use mathlib.Core.List.{List, [], _∷_, _++_}
 use Prim.Native.Nat.{ℕ, zero, suc, _+_, _*_, _-_, _/_, _≤_, _<_}
@@ -18,6 +18,7 @@ use Rattle.model.specs.Directions.{signs, earlier, bySign, vectorCount}
 use Rattle.model.specs.Inside.{Earlier}
 use Rattle.dependence_vectors.specs.Numbers.{digit, numberAfter, number}
 use Rattle.dependence_vectors.specs.Candidates.{stride, middle}
+use Rattle.dependence_vectors.proofs.HornerLaws.{number-after}
 
 -- ---- digits
 
@@ -100,9 +101,12 @@ unfolding scaled
 scaled-six k e = rw e
 
 pub number-lt : (v : List Sign) → length v ≤ 6 → number v < vectorCount
-unfolding number
-number-lt v h = let w : List Sign = v ++ replicate (6 - length v) equal in let a = after-lt w 0 in let b = scaled-six (length w) (padded v h)
-    in omega arith
+number-lt v h =
+    let n = number-after v h in
+    let w : List Sign = v ++ replicate (6 - length v) equal in
+    let a = after-lt w 0 in
+    let b = scaled-six (length w) (padded v h) in
+    omega arith
 
 append-unique : (v w u : List Sign) → length v ≡ length w → v ++ u ≡ w ++ u → v ≡ w
 append-unique [] [] u l e = refl
@@ -110,10 +114,10 @@ append-unique [] (t ∷ w) u l e = absurd (omega arith)
 append-unique (s ∷ v) [] u l e = absurd (omega arith)
 append-unique (s ∷ v) (t ∷ w) u l e = let r : s ≡ t = cc in let q : v ++ u ≡ w ++ u = cc in ap₂ _∷_ r (append-unique v w u (omega arith) q)
 
-pub number-unique : (v w : List Sign) → length v ≡ length w → number v ≡ number w → v ≡ w
-unfolding number
-number-unique v w l e = let f : numberAfter 0 (v ++ replicate (6 - length w) equal) ≡ numberAfter 0 (w ++ replicate (6 - length w) equal) = rw l at
-    e in
+pub number-unique : (v w : List Sign) → length v ≡ length w → length w ≤ 6 → number v ≡ number w → v ≡ w
+number-unique v w l h e =
+    let f : numberAfter 0 (v ++ replicate (6 - length w) equal) ≡ numberAfter 0 (w ++ replicate (6 - length w) equal) =
+    rw l at (sym (number-after v (omega arith)) ∙ e ∙ number-after w h) in
     append-unique v w (replicate (6 - length w) equal) l
     ((after-unique (v ++ replicate (6 - length w) equal) (w ++ replicate (6 - length w) equal) 0 0 (simp length-append (omega arith)) f) .1)
 
@@ -128,9 +132,8 @@ after-equal zero n = omega arith
 after-equal (suc k) n = let a = after-equal k (n * 3 + 1) in let b = after-equal k (0 * 3 + 1) in let c = thrice n (stride k) in let d = thrice 0
     (stride k) in omega arith
 
-pub number-splits : (v : List Sign) (d : ℕ) → length v ≡ d → number v ≡ numberAfter 0 v * stride (6 - d) + middle (6 - d)
-unfolding number
-number-splits v d e = rw e (after-append v (replicate (6 - d) equal) 0 ∙ after-equal (6 - d) (numberAfter 0 v))
+pub number-splits : (v : List Sign) (d : ℕ) → length v ≡ d → d ≤ 6 → number v ≡ numberAfter 0 v * stride (6 - d) + middle (6 - d)
+number-splits v d e h = number-after v (omega arith) ∙ rw e (after-append v (replicate (6 - d) equal) 0 ∙ after-equal (6 - d) (numberAfter 0 v))
 
 above : (n d : ℕ) → n ≤ d → (d ≡ n → ⊥) → n + 1 ≤ d
 above n d h e = omega arith
@@ -187,8 +190,8 @@ replicate-append zero n = rw (zero-add n)
 replicate-append (suc m) n = rw (suc-add m n) (ap (equal ∷_) (replicate-append m n))
 
 pub number-self : (p : List ℤ) → length p ≤ 6 → number (signs p p) ≡ 364
-unfolding number
-number-self p h = rw (signs-self p, length-replicate (length p) equal, replicate-append (length p) (6 - length p))
+number-self p h = number-after (signs p p) (let l = signs-length p p refl in omega arith)
+    ∙ rw (signs-self p, length-replicate (length p) equal, replicate-append (length p) (6 - length p))
     (equal-six (length p + (6 - length p)) (omega arith))
 
 earlier-lt : (p q : List ℤ) (u : List Sign) (n : ℕ) → length p ≡ length q → Earlier p q
@@ -212,7 +215,9 @@ earlier-lt (x ∷ p) (y ∷ q) u n e h = go (λ g. earlier-lt p q u (n * 3 + 1) 
     go later greater g = absurd g
 
 pub number-earlier : (p q : List ℤ) → length p ≤ 6 → length p ≡ length q → Earlier p q → number (signs p q) < 364
-unfolding number
-number-earlier p q f l h = let a = signs-length p q l in let b = earlier-lt p q (replicate (6 - length p) equal) 0 l h in
-    rw a (subst (λ k. numberAfter 0 (signs p q ++ replicate (6 - length p) equal) < k)
-    (ap (numberAfter 0) (replicate-append (length p) (6 - length p)) ∙ equal-six (length p + (6 - length p)) (omega arith)) b)
+number-earlier p q f l h =
+    let a = signs-length p q l in
+    let n = number-after (signs p q) (omega arith) in
+    let b = earlier-lt p q (replicate (6 - length p) equal) 0 l h in
+    rw n (rw a (subst (λ k. numberAfter 0 (signs p q ++ replicate (6 - length p) equal) < k)
+    (ap (numberAfter 0) (replicate-append (length p) (6 - length p)) ∙ equal-six (length p + (6 - length p)) (omega arith)) b))

@@ -11,6 +11,7 @@ use Rattle.integers.specs.Sign.{equal, sign}
 use Rattle.model.specs.Directions.{signs, vectorCount}
 use Rattle.dependence_vectors.specs.Numbers.{digit, numberAfter, number, SignsIn, Left}
 use Rattle.dependence_vectors.specs.Candidates.{row, code, stride}
+use Rattle.dependence_vectors.proofs.HornerLaws.{number-after}
 use Rattle.dependence_vectors.proofs.NumberLaws.{after-ge, after-append, number-lt, number-splits, stride-half, signs-length, signs-short}
 
 -- ---- rows
@@ -42,10 +43,13 @@ module _ (p q : List ℤ) (both : SignsIn p q) where
   e = both .both
 
   pub digits-small : numberAfter 0 (signs p q) < vectorCount
-  unfolding number
-  digits-small = let few = both .few in let a = after-ge (numberAfter 0 (signs p q)) (replicate (6 - length (signs p q)) equal) in
+  digits-small =
+      let few = both .few in
+      let l = signs-length p q e in
+      let n = number-after (signs p q) (omega arith) in
+      let a = after-ge (numberAfter 0 (signs p q)) (replicate (6 - length (signs p q)) equal) in
       let b = after-append (signs p q) (replicate (6 - length (signs p q)) equal) 0 in
-      let c = number-lt (signs p q) (let l = signs-length p q e in omega arith) in omega arith
+      let c = number-lt (signs p q) (omega arith) in omega arith
 
   pub left-first : Left p q 0 0
   unfolding Left
@@ -67,5 +71,5 @@ module _ (p q : List ℤ) (both : SignsIn p q) where
   pub number-padded : (w s : ℕ) → w ≡ numberAfter 0 (signs p q) → s ≡ stride (6 - length p) → (w * s + (s - 1) / 2 ≡ number (signs p q))
       × (w * s + (s - 1) / 2 < vectorCount)
   number-padded w s a b = let c = stride-half (6 - length p) s b in let f : w * s + (s - 1) / 2 ≡ number (signs p q) = rw (c, a, b)
-      (sym (number-splits (signs p q) (length p) (signs-length p q e))) in
+      (sym (number-splits (signs p q) (length p) (signs-length p q e) (both .few))) in
       let g = number-lt (signs p q) (let l = signs-length p q e in omega arith) in (f, omega arith)

@@ -4,7 +4,10 @@ use mathlib.Core.List.{List}
 use Prim.Native.Nat.{ℕ}
 use Rattle.model.specs.Answer as Model
 use Rattle.model.specs.Answer.{accepted}
+use Rattle.model.specs.Grammar.{decode}
+use Rattle.model.specs.Judge.{Judged}
 use Rattle.model.specs.Entries.{Outcome}
+use Rattle.model.specs.Promises.{Whole}
 use Rattle.ticket_refusals.specs.Refusals.{refusal}
 use Rattle.entry_answers.specs.declared.Answer.{Answer}
 use Rattle.entry_answers.specs.declared.Answer.the-variants.{Accepted, Refused}
@@ -17,3 +20,7 @@ answerOf (Refused r) = refusal r
 pub record OutcomeIs (o : Outcome) (r : Answer) (m : List ℕ) : Type 0 where
   pub answer : answerOf r ≡ o .answer
   pub memory : m ≡ o .memory
+
+-- demand 3, wherever the entry accepts: of the ticket b, with whatever buffer write and whatever store run is lent
+abbrev pub Demand3 : List ℕ → List ℕ → List ℕ → Answer → Type 0
+Demand3 b buffer store r = (n : ℕ) → r ≡ Accepted n → (j : Judged) × Whole (decode b) buffer store j

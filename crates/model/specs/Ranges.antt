@@ -9,7 +9,7 @@ use lib.ListN.{length}
 use Rattle.lists.specs.Membership.{All}
 use Rattle.model.specs.Ticket.{Limit, Loop, Subscript, Access, Statement, Step, exchange, reversal, skew, section, Nest, Ticket}
 use Rattle.model.specs.Grammar.{total, depthAfter, mostStatements, mostFactor}
-use Rattle.model.specs.Grammar.{mostReads, mostArrays, mostDimensions, ticketLoops, mostLoops, ticketLimits}
+use Rattle.model.specs.Grammar.{mostReads, mostArrays, mostDimensions, mostExtent, mostElements, ticketLoops, mostLoops, ticketLimits}
 
 -- ---- ranges
 
@@ -36,7 +36,7 @@ pub record LoopRanges (m : ℕ) (L : Loop) : Type 0 where
 
 pub record ArrayRanges (a : List ℕ) : Type 0 where
   pub dimensions : InRange 1 mostDimensions (length a)
-  pub extents : All (InRange 1 4096) a
+  pub extents : All (InRange 1 mostExtent) a
 
 pub record SubscriptRanges (s : Subscript) : Type 0 where
   pub constant : Small (s .constant)
@@ -62,7 +62,7 @@ pub record NestRanges (d m : ℕ) (N : Nest) : Type 0 where
   pub loops : All (LoopRanges m) (N .loops)
   pub few-arrays : InRange 1 mostArrays (length (N .arrays))
   pub arrays : All ArrayRanges (N .arrays)
-  pub room : total (N .arrays) ≤ 16384
+  pub room : total (N .arrays) ≤ mostElements
   pub few-statements : InRange 1 mostStatements (length (N .statements))
   pub statements : All StatementRanges (N .statements)
 

@@ -1,4 +1,4 @@
--- Why a ticket is refused, or not: for each number of document 01's table what is then true, in propositions. 1 to 6, of the bytes, are in `Ranges`.
+-- Why a ticket is refused, or not: for each number of document 01's table what is then true, in propositions. 1 to 6, of the bytes, are in `Roles`.
 -- In order: 7, 8 and 13; 9; 10, 11 and 12; all of them together (`Because`); then 14 to 16 and the access numbers of the quick test.
 use mathlib.Core.Path.{_≡_}
 use mathlib.Core.Logic.{_⊎_}
@@ -12,7 +12,7 @@ use Rattle.integers.specs.Sign.{Sign}
 use Rattle.lists.specs.Membership.{Mem, All}
 use Rattle.model.specs.Answer.{Answer, accepted}
 use Rattle.model.specs.Ticket.{Limit, Loop, Subscript, Access, Statement, Step, Nest, Ticket}
-use Rattle.model.specs.Grammar.{extents, total, mostPoints}
+use Rattle.model.specs.Grammar.{extents, total, mostLimits, mostPoints}
 use Rattle.model.specs.Points.{partialPoints, iterations}
 use Rattle.model.specs.Bounds.{lastOf, subscriptAt, accessesOf}
 use Rattle.model.specs.Directions.{backwards}
@@ -112,11 +112,11 @@ Forwards vs = All (λ v. T (backwards v) → ⊥) vs
 pub record TooMany (N : List Loop) : Type 0 where
   pub loop : Loop
   pub there : Mem loop N
-  pub many : (16 < length (loop .lower)) ⊎ (16 < length (loop .upper))
+  pub many : (mostLimits < length (loop .lower)) ⊎ (mostLimits < length (loop .upper))
 
 -- none has
 abbrev pub FewLimits : List Loop → Type 0
-FewLimits N = All (λ L. (length (L .lower) ≤ 16) × (length (L .upper) ≤ 16)) N
+FewLimits N = All (λ L. (length (L .lower) ≤ mostLimits) × (length (L .upper) ≤ mostLimits)) N
 
 -- ---- 12: a number of the nest is beyond ±32767
 

@@ -16,7 +16,8 @@ use Rattle.model.specs.Answer.{Answer, accepted, refused, require, _>>_}
 use Rattle.model.specs.Words.{wordAt}
 use Rattle.model.specs.Ticket.{Limit, Loop, Subscript, Access, Statement, Step, exchange, reversal, skew, section, Nest, Ticket}
 use Rattle.model.specs.Grammar.{between, elements, extents, depthAfter, mostFactor}
-use Rattle.model.specs.Grammar.{mostStatements, mostReads, mostArrays, mostDimensions, ticketLoops, ticketLimits, mostLoops}
+use Rattle.model.specs.Grammar.{mostStatements, mostReads, mostArrays, mostDimensions, mostExtent, mostElements}
+use Rattle.model.specs.Grammar.{ticketLoops, ticketLimits, mostLoops}
 use Rattle.model.specs.Bounds.{accessesOf}
 use Rattle.model.specs.Shape.{Shaped}
 
@@ -48,7 +49,7 @@ unfoldable pub wordCheck : Role → ℕ → ℤ → Answer (Unit {0})
 wordCheck (countFrom lo hi) p w = require (between (pos lo) (pos hi) w) 3 p
 wordCheck (wordFrom lo hi) p w = require (between lo hi w) 4 p
 wordCheck factor p w = require (between (negℤ (pos mostFactor)) (pos mostFactor) w) 4 p >> require (not (eqZ w (pos 0))) 4 p
-wordCheck (lastExtent t e) p w = require (between (pos 1) (pos 4096) w) 4 p >> require (leb (t + e * natAbs w) 16384) 5 p
+wordCheck (lastExtent t e) p w = require (between (pos 1) (pos mostExtent) w) 4 p >> require (leb (t + e * natAbs w) mostElements) 5 p
 wordCheck (loopWord k ok) p w = require (between (negsuc 32766) (pos 32767) w) 4 p >> require (ok w) 6 k
 
 -- ---- the words of a ticket with their roles
@@ -81,7 +82,7 @@ loopSlots L = countedSlots 1 ticketLimits limitSlots (L .lower) ++ countedSlots 
 unfoldable pub extentSlots : ℕ → ℕ → List ℕ → List Slot
 extentSlots t e [] = []
 extentSlots t e (n ∷ []) = slot (lastExtent t e) (pos n) ∷ []
-extentSlots t e (n ∷ m ∷ ns) = slot (wordFrom (pos 1) (pos 4096)) (pos n) ∷ extentSlots t (e * n) (m ∷ ns)
+extentSlots t e (n ∷ m ∷ ns) = slot (wordFrom (pos 1) (pos mostExtent)) (pos n) ∷ extentSlots t (e * n) (m ∷ ns)
 
 -- a count of dimensions, and an extent for each
 unfoldable pub arraySlots : ℕ → List ℕ → List Slot

@@ -41,7 +41,7 @@ pub record SpaceAccepted (P : FlatNest) : Type 0 where
   pub formed : WellFormed (nestOf P)
   pub space-accepted : space (nestOf P .loops) ≡ accepted tt
 
--- it waits for 9: it has n points, of at most four indices each
+-- 9 is next: it has n points, of at most four indices each
 pub record PointsCounted (P : FlatNest) (n : ℕ) : Type 0 where
   pub nest : SpaceAccepted P
   pub shallow : P .depth ≤ ticketLoops

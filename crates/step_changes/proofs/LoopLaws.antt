@@ -120,15 +120,15 @@ module _ (s : List ℤ) (c : List ℕ) (to low up : ℕ) (ls us : List Model.Lim
 
       module _ (e′ : r′ ≡ true) where
         -- the lower limits stay as they were put
-        lower-waits : (q : ℕ) → to * 32 * 8 ≤ q → q < (to * 32 + low) * 8 → getD t′ q (pos 0) ≡ getD t q (pos 0)
-        lower-waits q h g = m′ .whole e′ .kept .before q (omega arith)
+        lower-kept : (q : ℕ) → to * 32 * 8 ≤ q → q < (to * 32 + low) * 8 → getD t′ q (pos 0) ≡ getD t q (pos 0)
+        lower-kept q h g = m′ .whole e′ .kept .before q (omega arith)
 
         sides-made : loopAt t′ counted to ≡ record { lower = ls; upper = us }
         unfolding loopAt
         sides-made =
             let z = m .room in
             same-loop
-            (ap (limitsAt t′ to (to * 32)) counted-low ∙ limits-same t t′ to (to * 32) low (omega arith) (omega arith) (m′ .room) lower-waits
+            (ap (limitsAt t′ to (to * 32)) counted-low ∙ limits-same t t′ to (to * 32) low (omega arith) (omega arith) (m′ .room) lower-kept
             ∙ m .whole e .made)
             (ap (limitsAt t′ to (to * 32 + 16)) counted-up ∙ m′ .whole e′ .made)
 
@@ -139,7 +139,7 @@ module _ (s : List ℤ) (c : List ℕ) (to low up : ℕ) (ls us : List Model.Lim
             record {
               lower-count = (omega arith, omega arith);
               upper-count = (omega arith, omega arith);
-              lower-positive = subst (Positive t′ (to * 32)) (sym x) (positive-same t t′ (to * 32) low lower-waits (m .whole e .positive));
+              lower-positive = subst (Positive t′ (to * 32)) (sym x) (positive-same t t′ (to * 32) low lower-kept (m .whole e .positive));
               upper-positive = subst (Positive t′ (to * 32 + 16)) (sym y) (m′ .whole e′ .positive);
             }
 
@@ -209,8 +209,8 @@ module _ (lo hi : Change) (s : List ℤ) (c : List ℕ) (k to : ℕ) (p : LoopIn
 
   module _ (r : Bool) (t : List ℤ) (m : SideMade s (to * 32) to low (changedSide lo s (k * 32) k low) r t) (e : r ≡ true) where
     -- the upper limits are still as they were
-    upper-waits : (q : ℕ) → (k * 32 + 16) * 8 ≤ q → q < (k * 32 + 16 + up) * 8 → getD t q (pos 0) ≡ getD s q (pos 0)
-    upper-waits q h g =
+    upper-kept : (q : ℕ) → (k * 32 + 16) * 8 ≤ q → q < (k * 32 + 16 + up) * 8 → getD t q (pos 0) ≡ getD s q (pos 0)
+    upper-kept q h g =
         let f = p .further in
         let n = p .there .lower-count in
         let u = p .there .upper-count in
@@ -233,7 +233,7 @@ module _ (lo hi : Change) (s : List ℤ) (c : List ℕ) (k to : ℕ) (p : LoopIn
           writes = omega arith;
           clear = apart up (n .1) 16 (omega arith);
           small = m .whole e .small;
-          positive = positive-same s t (k * 32 + 16) up upper-waits (p .there .upper-positive);
+          positive = positive-same s t (k * 32 + 16) up upper-kept (p .there .upper-positive);
         }
 
     upper-read : changedSide hi t (k * 32 + 16) k up ≡ changedSide hi s (k * 32 + 16) k up
@@ -242,7 +242,7 @@ module _ (lo hi : Change) (s : List ℤ) (c : List ℕ) (k to : ℕ) (p : LoopIn
         let f = p .further in
         let w = p .words in
         let n = p .there .upper-count in
-        ap (map (changeOf hi)) (limits-same s t k (k * 32 + 16) up (omega arith) (omega arith) (m .room) upper-waits)
+        ap (map (changeOf hi)) (limits-same s t k (k * 32 + 16) up (omega arith) (omega arith) (m .room) upper-kept)
 
     module _ (r′ : Bool) (t′ : List ℤ) (m′ : SideMade t (to * 32 + 16) to up (changedSide hi t (k * 32 + 16) k up) r′ t′) where
       second : SideMade t (to * 32 + 16) to up (changedSide hi s (k * 32 + 16) k up) r′ t′

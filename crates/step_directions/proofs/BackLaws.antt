@@ -13,14 +13,12 @@ use Rattle.lists.proofs.MembershipLaws.{all-nil, all-cons}
 use Rattle.lists.proofs.TestLaws.{T-true, true-T, false-not-T, some-any, any-none}
 use Rattle.model.specs.Directions.{backwards, vectorCount}
 use Rattle.model.specs.Steps.{somePointsBack}
-use Rattle.dependence_vectors.specs.Numbers as Vectors
-use Rattle.dependence_vectors.specs.Numbers.{numberAfter}
+use Rattle.dependence_vectors.specs.Numbers.{digit, number, numberAfter}
 use Rattle.dependence_vectors.specs.Candidates.{stride, middle}
-use Rattle.dependence_vectors.proofs.DepthLaws.{OfDepth, depth-middle, depth-apart}
-use Rattle.step_preimages.specs.Numbers.{number, digitsOf, vectorOf, marked}
+use Rattle.dependence_vectors.proofs.DepthLaws.{OfDepth, depth-number, depth-middle, depth-apart}
+use Rattle.step_preimages.specs.Numbers.{digitsOf, vectorOf, marked}
 use Rattle.step_preimages.proofs.NumberLaws.{Level, number-below, number-vectorOf, length-vectorOf, backwards-number}
 use Rattle.step_directions.specs.Sets.{vectorsIn}
-use Rattle.step_directions.proofs.HornerLaws.{of-depth}
 use Rattle.step_directions.proofs.SetLaws.{vectorsIn-mem, mem-vectorsIn}
 
 -- ---- the digits of a number of the depth: from the depth on, those of =
@@ -58,7 +56,7 @@ module _ (n : ℕ) where
   level-0 h t e = all-cons One (omega arith) (level-1 (t * 3 + 1) (omega arith))
 
   depth-level : n < vectorCount → (d : ℕ) → d ≤ 6 → OfDepth d n → Level d (digitsOf n)
-  unfolding stride middle numberAfter Vectors.digit
+  unfolding stride middle numberAfter digit
   depth-level h zero k (t, e) = level-0 h t e
   depth-level h (suc zero) k (t, e) = level-1 t e
   depth-level h (suc (suc zero)) k (t, e) = level-2 t e
@@ -77,13 +75,13 @@ NoneBack marks d n = (v : List Sign) → length v ≡ d → 364 < number v → n
 module _ (marks : List Bool) (d : ℕ) (few : d ≤ 6) where
   module _ (s : ℕ) (e : s ≡ stride (6 - d)) where
     pub none-first : NoneBack marks d (364 + s)
-    none-first v l h i t = let a = depth-apart d s e 364 (number v) (depth-middle d few) (of-depth v d l few) h in omega arith
+    none-first v l h i t = let a = depth-apart d s e 364 (number v) (depth-middle d few) (depth-number v d l) h in omega arith
 
     pub none-next : (n : ℕ) → OfDepth d n → getD marks n false ≡ false → NoneBack marks d n → NoneBack marks d (n + s)
     none-next n o f p v l h i t = elim (ℕ-discrete (number v) n) [
       | yes q ↦ false-not-T (getD marks n false) f (subst (λ m. T (getD marks m false)) q t)
       | no q ↦ elim (decLt n (number v)) [
-        | yes a ↦ let z = depth-apart d s e n (number v) o (of-depth v d l few) a in omega arith
+        | yes a ↦ let z = depth-apart d s e n (number v) o (depth-number v d l) a in omega arith
         | no a ↦ p v l h (omega arith) t
       ]
     ]

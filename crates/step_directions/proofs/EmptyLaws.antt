@@ -14,13 +14,13 @@ use Rattle.model.specs.Ticket.{Step}
 use Rattle.model.specs.Grammar.{depthAfter}
 use Rattle.model.specs.Steps.{vectorsAfter}
 use Rattle.model.specs.Directions.{vectorCount}
-use Rattle.step_preimages.specs.Numbers.{number, marked}
+use Rattle.dependence_vectors.specs.Numbers.{number}
+use Rattle.step_preimages.specs.Numbers.{marked}
 use Rattle.step_preimages.proofs.NumberLaws.{number-below}
 use Rattle.dependence_vectors.specs.Candidates.{stride}
-use Rattle.dependence_vectors.proofs.DepthLaws.{OfDepth, depth-least, depth-apart}
+use Rattle.dependence_vectors.proofs.DepthLaws.{OfDepth, depth-number, depth-least, depth-apart}
 use Rattle.step_directions.specs.declared.DirectionSet.{DirectionSet}
 use Rattle.step_directions.specs.Sets.{vectorsIn, vectorsOf, After, Empty}
-use Rattle.step_directions.proofs.HornerLaws.{of-depth}
 use Rattle.step_directions.proofs.SetLaws.{vectorsIn-mem}
 
 -- no marked vector with a number below n
@@ -30,13 +30,13 @@ NoneBelow marks d n = (v : List Sign) → length v ≡ d → number v < n → T 
 module _ (marks : List Bool) (d : ℕ) (few : d ≤ 6) where
   module _ (s : ℕ) (e : s ≡ stride (6 - d)) where
     pub none-first : NoneBelow marks d ((s - 1) / 2)
-    none-first v l i t = let a = depth-least d s e (number v) (of-depth v d l few) in omega arith
+    none-first v l i t = let a = depth-least d s e (number v) (depth-number v d l) in omega arith
 
     pub none-next : (n : ℕ) → OfDepth d n → getD marks n false ≡ false → NoneBelow marks d n → NoneBelow marks d (n + s)
     none-next n o f p v l i t = elim (ℕ-discrete (number v) n) [
       | yes q ↦ false-not-T (getD marks n false) f (subst (λ m. T (getD marks m false)) q t)
       | no q ↦ elim (decLt n (number v)) [
-        | yes a ↦ let z = depth-apart d s e n (number v) o (of-depth v d l few) a in omega arith
+        | yes a ↦ let z = depth-apart d s e n (number v) o (depth-number v d l) a in omega arith
         | no a ↦ p v l (omega arith) t
       ]
     ]

@@ -10,7 +10,8 @@ use Rattle.integers.specs.Sign.{less, equal, greater}
 use Rattle.model.specs.Ticket.{skew}
 use Rattle.model.specs.Directions.{vectorCount}
 use Rattle.step_kinds.specs.declared.Step.the-variants.{Exchange, Skew, Section}
-use Rattle.step_preimages.specs.Numbers.{digitsIn, base3, number, Digits}
+use Rattle.dependence_vectors.specs.Numbers.{digit, digitsIn, base3, number}
+use Rattle.step_preimages.specs.Numbers.{Digits}
 use Rattle.step_directions.specs.Sets.{DirectionIn, MarksIn}
 use Rattle.step_preimages.specs.Weights.{ChangeIn}
 use Rattle.step_preimages.specs.Sources.{SourceIn, JoinedIn, SkewSourceIn, GaveIn}
@@ -21,21 +22,21 @@ use Rattle.step_preimages.proofs.NumberLaws.{vector-digits}
 -- ---- numbers
 
 first-number : number (less ∷ less ∷ less ∷ less ∷ less ∷ less ∷ []) ≡ 0
-unfolding number base3 digitsIn
+unfolding number base3 digitsIn digit
 first-number = refl
 
 last-number : number (greater ∷ greater ∷ greater ∷ greater ∷ greater ∷ greater ∷ []) ≡ 728
-unfolding number base3 digitsIn
+unfolding number base3 digitsIn digit
 last-number = refl
 
 -- missing loops count as =
 level-number : number (equal ∷ equal ∷ []) ≡ 364
-unfolding number base3 digitsIn
+unfolding number base3 digitsIn digit
 level-number = refl
 
 -- (<,>) of two loops: 0, 2, 1, 1, 1, 1
 two-number : number (less ∷ greater ∷ []) ≡ 2 * 81 + 27 + 9 + 3 + 1
-unfolding number base3 digitsIn
+unfolding number base3 digitsIn digit
 two-number = refl
 
 -- ---- preconditions that are met

@@ -1,6 +1,5 @@
--- Laws of sets of marks (HornerLaws to SetLaws), of the model's tables read backwards (StepLaws, SkewLaws), and what they come to for the functions
+-- Laws of sets of marks (VectorLaws, SetLaws), of the model's tables read backwards (StepLaws, SkewLaws), and what they come to for the functions
 -- (AfterLaws, EmptyLaws, BackLaws) and for the judgement (JudgeLaws).
-pub mod HornerLaws
 pub mod VectorLaws
 pub mod SetLaws
 pub mod StepLaws

@@ -18,11 +18,11 @@ use Rattle.lists.proofs.FlatMapLaws.{flatMap-mem, mem-flatMap}
 use Rattle.model.specs.Ticket.{Step}
 use Rattle.model.specs.Directions.{signVectors, vectorCount}
 use Rattle.model.specs.Steps.{vectors, vectorsAfter}
-use Rattle.step_preimages.specs.Numbers.{number, marked}
+use Rattle.dependence_vectors.specs.Numbers.{number}
+use Rattle.step_preimages.specs.Numbers.{marked}
 use Rattle.dependence_vectors.specs.Candidates.{stride}
-use Rattle.dependence_vectors.proofs.DepthLaws.{OfDepth, depth-positive, depth-first, depth-least, depth-next, depth-apart}
+use Rattle.dependence_vectors.proofs.DepthLaws.{OfDepth, depth-number, depth-positive, depth-first, depth-least, depth-next, depth-apart}
 use Rattle.step_directions.specs.Sets.{vectorsIn}
-use Rattle.step_directions.proofs.HornerLaws.{of-depth}
 use Rattle.model.proofs.Listing.LineOrderLaws.{signVectors-mem, mem-signVectors}
 use Rattle.step_preimages.proofs.NumberLaws.{number-below, number-injective}
 
@@ -57,7 +57,7 @@ module _ (g : List Sign → Bool) (d : ℕ) (old : List Bool) (few : d ≤ 6) (s
   fill-first w = record {
     whole = w;
     place = depth-first d s e;
-    filled = λ v l h. let a = depth-least d s e (number v) (of-depth v d l few) in absurd (omega arith);
+    filled = λ v l h. let a = depth-least d s e (number v) (depth-number v d l) in absurd (omega arith);
     left = λ v l h. refl;
   }
 
@@ -76,7 +76,7 @@ module _ (g : List Sign → Bool) (d : ℕ) (old : List Bool) (few : d ≤ 6) (s
       where
         below : (v : List Sign) → length v ≡ d → number v < n + s → (number v ≡ n → ⊥) → number v < n
         below v l k q = elim (decLt n (number v)) [
-          | yes a ↦ let z = depth-apart d s e n (number v) (p .place) (of-depth v d l few) a in absurd (omega arith)
+          | yes a ↦ let z = depth-apart d s e n (number v) (p .place) (depth-number v d l) a in absurd (omega arith)
           | no a ↦ omega arith
         ]
 

@@ -11,7 +11,8 @@ use Rattle.lists.specs.Place.{under, onHead, swapped}
 use Rattle.model.specs.Ticket.{Step, exchange, reversal, skew, section}
 use Rattle.model.specs.Directions.{vectorCount}
 use Rattle.model.specs.Grammar.{mostLoops}
-use Rattle.step_preimages.specs.Numbers.{number, marked}
+use Rattle.dependence_vectors.specs.Numbers.{number}
+use Rattle.step_preimages.specs.Numbers.{marked}
 use Rattle.step_preimages.specs.Sources.{joined, skewSource}
 
 -- the loops that the nest after the step has at least

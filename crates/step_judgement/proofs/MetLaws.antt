@@ -24,7 +24,7 @@ use Rattle.ticket_steps.specs.declared.Steps.{Steps}
 use Rattle.nest_flat.specs.FlatNests.{FlatNest, nestOf}
 use Rattle.nest_points.proofs.NestLaws.{depth-is}
 use Rattle.ticket_decoding.specs.Ticket.{TicketIn}
-use Rattle.step_preimages.specs.Numbers.{number}
+use Rattle.dependence_vectors.specs.Numbers.{number}
 use Rattle.step_directions.specs.Sets.{vectorsIn}
 use Rattle.step_directions.specs.declared.DirectionSet.{DirectionSet}
 use Rattle.step_preimages.proofs.NumberLaws.{number-below}

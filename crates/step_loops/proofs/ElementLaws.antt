@@ -106,12 +106,12 @@ module _ (s : List ℤ) (from n to count w v : ℕ) (p : ElementSideIn s from n 
       all-tested = m .tested ∙ ap (all smallLimit) still ∙ sym (ap (_&& all smallLimit (changedSide (SectionElement w) s from n count)) passes)
 
       module _ (f : r′ ≡ true) where
-        head-waits : (i : ℕ) → i < to * 8 + 8 → getD t′ i (pos 0) ≡ getD t i (pos 0)
-        head-waits i h = m .whole f .kept .before i (omega arith)
+        head-kept : (i : ℕ) → i < to * 8 + 8 → getD t′ i (pos 0) ≡ getD t i (pos 0)
+        head-kept i h = m .whole f .kept .before i (omega arith)
 
         first-read : limitAt t′ (n + 1) to ≡ X
         first-read = let z = y .room in let g = fits in
-            limit-same t t′ (n + 1) to shallow (omega arith) (m .room) (λ i h g. head-waits i g) ∙ ap (λ l. limitAt l (n + 1) to) written
+            limit-same t t′ (n + 1) to shallow (omega arith) (m .room) (λ i h g. head-kept i g) ∙ ap (λ l. limitAt l (n + 1) to) written
             ∙ limit-put s to (n + 1) X shallow sized fits
 
         all-read : limitsAt t′ (n + 1) to (count + 1) ≡ X ∷ changedSide (SectionElement w) s from n count
@@ -122,7 +122,7 @@ module _ (s : List ℤ) (from n to count w v : ℕ) (p : ElementSideIn s from n 
         first-positive : pos 0 <ℤ getD t′ (to * 8) (pos 0)
         first-positive =
             let u = one in
-            subst (λ (z : ℤ). pos 0 <ℤ z) (sym (head-waits (to * 8) (omega arith) ∙ ap (λ l. getD l (to * 8) (pos 0)) written
+            subst (λ (z : ℤ). pos 0 <ℤ z) (sym (head-kept (to * 8) (omega arith) ∙ ap (λ l. getD l (to * 8) (pos 0)) written
             ∙ head-put s to (n + 1) X shallow sized fits)) (omega zarith)
 
         all-positive : Positive t′ to (count + 1)

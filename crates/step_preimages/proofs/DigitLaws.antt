@@ -14,7 +14,8 @@ use Rattle.lists.proofs.MembershipLaws.{all-set}
 use Rattle.lists.proofs.PlaceLaws.{under-onHead, under-swapped}
 use Rattle.model.specs.Directions.{bySign, sameSign}
 use Rattle.model.specs.Steps.{anySign, sumSigns}
-use Rattle.step_preimages.specs.Numbers.{digit, digitsIn, Digits}
+use Rattle.dependence_vectors.specs.Numbers.{digit, digitsIn}
+use Rattle.step_preimages.specs.Numbers.{Digits}
 use Rattle.step_preimages.specs.Sources.{joined, joinedDigit, mayBe, mayBeDigit}
 
 -- ---- one sign
@@ -39,6 +40,7 @@ set-digits d a x h k = record { six = length-set d a x ∙ h .six; small = all-s
 -- ---- turned and exchanged
 
 pub digit-turned : (s : Sign) → 2 - digit s ≡ digit (turned s)
+unfolding digit
 digit-turned less = refl
 digit-turned equal = refl
 digit-turned greater = refl
@@ -75,6 +77,7 @@ closed zero (x ∷ y ∷ d) = cond (eqb x 1) y x ∷ (d ++ (1 ∷ []))
 closed (suc a) (x ∷ d) = x ∷ closed a d
 
 digit-joined : (x y : Sign) → cond (eqb (digit x) 1) (digit y) (digit x) ≡ digit (bySign x less y greater)
+unfolding digit
 digit-joined less y = refl
 digit-joined equal y = refl
 digit-joined greater y = refl
@@ -115,6 +118,7 @@ joined-digits v a h l e = six-closed (digitsIn 6 v) a e (omega arith) ∙ closed
 -- ---- the test of a sum
 
 pub same-digit : (r s : Sign) → eqb (digit r) (digit s) ≡ (sameSign r s || false)
+unfolding digit
 same-digit less less = refl
 same-digit less equal = refl
 same-digit less greater = refl
@@ -132,7 +136,7 @@ every-digit equal = refl
 every-digit greater = refl
 
 pub mayBe-digits : (t s r : Sign) → mayBeDigit (digit t) (digit s) (digit r) ≡ mayBe t s r
-unfolding mayBeDigit sumSigns any
+unfolding mayBeDigit sumSigns any digit
 mayBe-digits equal s r = same-digit r s
 mayBe-digits less equal r = same-digit r less
 mayBe-digits less less r = same-digit r less

@@ -15,7 +15,9 @@ use Rattle.lists.specs.Membership.{All}
 use Rattle.lists.proofs.MembershipLaws.{all-nil, all-cons}
 use Rattle.lists.proofs.PartLaws.{row-unique}
 use Rattle.model.specs.Directions.{backwards, vectorCount}
-use Rattle.step_preimages.specs.Numbers.{digit, digitsIn, base3, number, digitsOf, signOf, vectorOf, Digits}
+use Rattle.dependence_vectors.specs.Numbers.{digit, digitsIn, base3, number}
+use Rattle.dependence_vectors.proofs.NumberLaws.{digit-lt, digit-unique}
+use Rattle.step_preimages.specs.Numbers.{digitsOf, signOf, vectorOf, Digits}
 
 -- ---- base three
 
@@ -56,22 +58,6 @@ digits-unique d e h k = base3-injective d e (h .six ∙ sym (k .six)) (h .small)
 
 -- ---- the digits of a vector
 
-pub digit-small : (s : Sign) → digit s < 3
-digit-small less = omega arith
-digit-small equal = omega arith
-digit-small greater = omega arith
-
-digit-injective : (s t : Sign) → digit s ≡ digit t → s ≡ t
-digit-injective less less e = refl
-digit-injective less equal e = absurd (omega arith)
-digit-injective less greater e = absurd (omega arith)
-digit-injective equal less e = absurd (omega arith)
-digit-injective equal equal e = refl
-digit-injective equal greater e = absurd (omega arith)
-digit-injective greater less e = absurd (omega arith)
-digit-injective greater equal e = absurd (omega arith)
-digit-injective greater greater e = refl
-
 length-digitsIn : (k : ℕ) (v : List Sign) → length (digitsIn k v) ≡ k
 unfolding digitsIn
 length-digitsIn zero v = refl
@@ -82,7 +68,7 @@ digitsIn-small : (k : ℕ) (v : List Sign) → Small (digitsIn k v)
 unfolding digitsIn
 digitsIn-small zero v = all-nil (λ x. x < 3)
 digitsIn-small (suc k) [] = all-cons (λ x. x < 3) (omega arith) (digitsIn-small k [])
-digitsIn-small (suc k) (s ∷ v) = all-cons (λ x. x < 3) (digit-small s) (digitsIn-small k v)
+digitsIn-small (suc k) (s ∷ v) = all-cons (λ x. x < 3) (digit-lt s) (digitsIn-small k v)
 
 pub vector-digits : (v : List Sign) → Digits (digitsIn 6 v)
 vector-digits v = record { six = length-digitsIn 6 v; small = digitsIn-small 6 v }
@@ -96,7 +82,7 @@ digitsIn-injective zero (s ∷ u) (t ∷ v) l h e = absurd (omega arith)
 digitsIn-injective (suc k) (s ∷ u) (t ∷ v) l h e =
     let p : digit s ≡ digit t = cc in
     let q : digitsIn k u ≡ digitsIn k v = cc in
-    ap₂ _∷_ (digit-injective s t p) (digitsIn-injective k u v (omega arith) (omega arith) q)
+    ap₂ _∷_ (digit-unique s t p) (digitsIn-injective k u v (omega arith) (omega arith) q)
 
 pub number-below : (v : List Sign) → number v < vectorCount
 unfolding number
@@ -137,7 +123,7 @@ digitsOf-number v = let h = number-below v in digits-unique (digitsOf (number v)
 -- ---- a number below vectorCount is that of a vector, of any depth from which on its digits are those of =
 
 digit-signOf : (x : ℕ) → x < 3 → digit (signOf x) ≡ x
-unfolding signOf
+unfolding signOf digit
 digit-signOf zero h = refl
 digit-signOf (suc zero) h = refl
 digit-signOf (suc (suc zero)) h = refl
@@ -182,7 +168,7 @@ digitsIn-below : (k : ℕ) (v : List Sign) → base3 (digitsIn k v) < 3 ^ k
 digitsIn-below k v = subst (λ n. base3 (digitsIn k v) < 3 ^ n) (length-digitsIn k v) (base3-below (digitsIn k v) (digitsIn-small k v))
 
 beyond-middle : (k : ℕ) (v : List Sign) → length v ≤ k → ltb (base3 (digitsIn k [])) (base3 (digitsIn k v)) ≡ backwards v
-unfolding base3 digitsIn backwards
+unfolding base3 digitsIn backwards digit
 beyond-middle k [] h = le-ltb (base3 (digitsIn k [])) (base3 (digitsIn k [])) (omega arith)
 beyond-middle zero (s ∷ v) h = absurd (omega arith)
 beyond-middle (suc k) (less ∷ v) h = rw (length-digitsIn k [], length-digitsIn k v)

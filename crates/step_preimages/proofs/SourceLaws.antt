@@ -15,7 +15,8 @@ use Rattle.lists.proofs.MembershipLaws.{all-getD-default, all-nil, all-cons}
 use Rattle.lists.proofs.TestLaws.{cond-cases}
 use Rattle.model.specs.Steps.{anySign}
 use Rattle.model.specs.Directions.{vectorCount}
-use Rattle.step_preimages.specs.Numbers.{digit, digitsIn, base3, number, digitsOf, Digits, marked}
+use Rattle.dependence_vectors.specs.Numbers.{digit, digitsIn, base3, number}
+use Rattle.step_preimages.specs.Numbers.{digitsOf, Digits, marked}
 use Rattle.step_preimages.specs.Sources.{Source, joined, joinedDigit, mayBeDigit, gave, gaveDigits, addedSign, Signed, SkewSource, skewSource}
 use Rattle.step_preimages.proofs.NumberLaws.{digits-below, number-digits, digitsOf-number, vector-digits}
 use Rattle.step_preimages.proofs.DigitLaws.{digit-at, digit-set, set-digits, digit-turned, turned-digits, swapped-digits, joinedDigits, joined-digits, mayBe-digits}
@@ -126,7 +127,7 @@ gave-digits old v b s t h l = ap₂ (λ x y. mayBeDigit (digit t) (digit s) x &&
 -- by the three signs that may have stood at b
 pub skew-source-is : (old : List Bool) (d : List ℕ) (n a b s : ℕ) (c : Bool) → d ≡ digitsOf n → a < b → Signed c (getD d a 0) s
     → (r : Bool) → r ≡ (gaveDigits old d b s 0 || (gaveDigits old d b s 1 || gaveDigits old d b s 2)) → SkewSource old a b c n r
-unfolding skewSource any anySign
+unfolding skewSource any anySign digit
 skew-source-is old d n a b s c e h k r w v i l q =
     let f = vector-of d n e v q in
     let x = addedSign c (getD v a equal) in

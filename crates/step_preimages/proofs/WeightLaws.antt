@@ -7,7 +7,8 @@ use lib.ListN.{getD, set}
 use Rattle.integers.specs.Sign.{turned}
 use Rattle.lists.specs.Place.{under, onHead, swapped}
 use Rattle.model.specs.Directions.{vectorCount}
-use Rattle.step_preimages.specs.Numbers.{base3, digitsOf}
+use Rattle.dependence_vectors.specs.Numbers.{base3}
+use Rattle.step_preimages.specs.Numbers.{digitsOf}
 use Rattle.step_preimages.specs.Sources.{Source}
 use Rattle.step_preimages.specs.Weights.{ChangeIn}
 use Rattle.step_preimages.proofs.NumberLaws.{base3-digitsOf}

@@ -9,7 +9,8 @@ use Rattle.integers.specs.Sign.{Sign, less, equal, greater, turned}
 use Rattle.lists.specs.Tests.{any}
 use Rattle.model.specs.Directions.{bySign, sameSign, vectorCount}
 use Rattle.model.specs.Steps.{anySign, sumSigns}
-use Rattle.step_preimages.specs.Numbers.{digit, number, base3, Digits, marked}
+use Rattle.dependence_vectors.specs.Numbers.{digit, number, base3}
+use Rattle.step_preimages.specs.Numbers.{Digits, marked}
 
 -- a number, and a nest of at most six loops that has the loops named
 pub record SourceIn (n loops : ℕ) : Type 0 where

@@ -4,7 +4,7 @@ use Prim.Native.Nat.{_-_, _≤_}
 use native.Mathlib.Omega.{arith}
 use mathlib.Core.Bool.{false≢true}
 use Rattle.nest_loop_ranges.proofs.SumLaws.{range-near}
-use Rattle.dependence_banerjee.proofs.RegionLaws.{Outer, outer-all, outer-next, single-vacant}
+use Rattle.dependence_banerjee.proofs.RegionLaws.{Outer, outer-all, outer-next, single-empty}
 use Rattle.dependence_banerjee.proofs.has_no_iterations.Statement.{statement}
 use Rattle.dependence_banerjee.proofs.has_no_iterations.Tie as tie
 
@@ -34,7 +34,7 @@ is-single-requires c κs = let s = c .before .before .before .before in let l = 
 
 returns : tie.Need-returns Inv-loop μ-loop
 returns c = let s = c .before .before .before .before .before .before in let l = c .before .before .before .before .before .loop in λ _.
-    single-vacant (s .args .n) (s .args .t2) (s .pre) (s .args .u) (l .k) (l .v) (c .before .before .before .before .loop-test .taken) (l .inv .0)
+    single-empty (s .args .n) (s .args .t2) (s .pre) (s .args .u) (l .k) (l .v) (c .before .before .before .before .loop-test .taken) (l .inv .0)
     (l .inv .1) (c .before .before .before .if1 .taken) (sym (c .before .is-single .ensures) ∙ c .if2 .taken)
 
 loop-less : tie.Need-loop-less Inv-loop μ-loop

@@ -7,7 +7,7 @@ use mir.Syntax.{w64}
 use mir.Val.{toZ}
 use Rattle.integers.proofs.RingLaws.{zarith}
 use Rattle.integers.proofs.RangeLaws.{from-nat}
-use Rattle.dependence_banerjee.proofs.GcdExclusionLaws.{skips-range}
+use Rattle.dependence_banerjee.proofs.GcdExclusionLaws.{no-multiple-between}
 use borrow.Author.Needs.{needs}
 use Rattle.dependence_banerjee.proofs.has_no_multiple.Statement.{statement}
 use Rattle.dependence_banerjee.proofs.has_no_multiple.Tie as tie
@@ -31,7 +31,7 @@ returns-2 : tie.Need-returns-2
 returns-2 c =
     let s = c .before .before .before .before .before in
     let z = c .before .before .before .before .if1 .left in
-    λ t x i. skips-range (s .args .r .least) (s .args .r .greatest) (s .args .g) (s .pre .1) (s .pre .2) (omega arith) (divisor s)
+    λ t x i. no-multiple-between (s .args .r .least) (s .args .r .greatest) (s .args .g) (s .pre .1) (s .pre .2) (omega arith) (divisor s)
     (c .before .before .floor-div .ensures) (c .ceil-div .ensures) t x (i .low) (i .high)
 
 pub has-no-multiple-spec : {M : Type 1} → statement M

@@ -1,7 +1,7 @@
 -- `impossible`: no iterations, one dimension, the sum of all, or a common divisor.
 use Prim.Native.Nat.{_-_, _≤_}
 use native.Mathlib.Omega.{arith}
-use Rattle.dependence_banerjee.proofs.CoverLaws.{vacant-impossible, all-excluded, dimension-in, dimension-excluded}
+use Rattle.dependence_banerjee.proofs.CoverLaws.{empty-impossible, all-excluded, dimension-in, dimension-excluded}
 use Rattle.dependence_banerjee.proofs.impossible.Statement.{statement}
 use Rattle.dependence_banerjee.proofs.impossible.Tie as tie
 
@@ -15,7 +15,7 @@ has-no-iterations-requires : tie.Need-has-no-iterations-requires Inv-loop μ-loo
 has-no-iterations-requires c κs = c .pre .ranges
 
 returns : tie.Need-returns Inv-loop μ-loop
-returns c = let s = c .before .before in let a = s .args in λ _. vacant-impossible (a .words .now) (a .i) (a .j) (a .d) (a .n) (a .ranges) (s .pre)
+returns c = let s = c .before .before in let a = s .args in λ _. empty-impossible (a .words .now) (a .i) (a .j) (a .d) (a .n) (a .ranges) (s .pre)
     (a .u) (c .before .has-no-iterations .ensures (c .if1 .taken))
 
 loop-holds : tie.Need-loop-holds Inv-loop μ-loop

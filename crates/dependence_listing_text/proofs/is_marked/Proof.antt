@@ -15,7 +15,7 @@ use Rattle.dependence_listing_text.proofs.is_marked.Tie as tie
 at : (c : tie.After-stride) → (let s = c .before .before in let n = s .args .n in let i = s .args .i in let p = c .stride .result in
     (place n (lineAt n (s .args .depth) i) ≡ i * p + (p - 1) / 2) × (i * p + (p - 1) / 2 < marksFor n))
 at c = let s = c .before .before in mark-at (s .args .n) (s .args .depth) (s .args .i) (c .stride .result) (s .pre .0 .shallow)
-    (c .stride .ensures .0) (line-at (s .args .n) (s .args .depth) (s .args .i) (s .pre .1))
+    (c .stride .ensures .0) (line-at (s .args .n) (s .args .depth) (s .args .i) (s .pre .0 .shallow) (s .pre .1))
 
 inside : (c : tie.After-stride) → (let s = c .before .before in s .args .i * c .stride .result + (c .stride .result - 1) / 2 < length
     (s .args .marks .now))

@@ -9,7 +9,7 @@ use Rattle.dependence_listing_text.proofs.line.Statement.{statement}
 use Rattle.dependence_listing_text.proofs.line.Tie as tie
 
 abbrev at : (s : tie.Start) → At (s .args .n) (s .args .depth) (s .args .i)
-at s = line-at (s .args .n) (s .args .depth) (s .args .i) (s .pre .2)
+at s = line-at (s .args .n) (s .args .depth) (s .args .i) (s .pre .1) (s .pre .2)
 
 parts : (c : tie.After-line-block) → (let n = c .before .args .n in let b = c .line-block .result in (0 < n) × (b / 3 / n < n) × (b / 3 % n < n))
 parts c = let s = c .before in parts-in (s .args .n) (s .args .depth) (s .args .i) (c .line-block .result) (at s) (c .line-block .ensures)

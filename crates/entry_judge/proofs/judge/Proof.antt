@@ -2,6 +2,7 @@
 use Rattle.ticket_decoding.proofs.DecodeLaws.{zeros-lent}
 use Rattle.ticket_judgement.proofs.VerdictLaws.{of-bytes}
 use Rattle.entry_judge.proofs.EntryLaws.{judge-refused, judge-accepted}
+use Rattle.entry_answers.proofs.DemandLaws.{judge-keeps}
 use borrow.Author.Needs.{needs}
 use Rattle.entry_judge.proofs.judge.Statement.{statement}
 use Rattle.entry_judge.proofs.judge.Tie as tie
@@ -31,14 +32,14 @@ enum-known-status : tie.Need-enum-known-status
 enum-known-status c = search needs
 
 returns : tie.Need-returns
-returns c = let d = c .before .before .before .before .before .before .before .before .before .decode
+returns c = judge-keeps _ _ (let d = c .before .before .before .before .before .before .before .before .before .decode
     in let v = c .before .before .before .before .decide in judge-accepted _ (v .result) _ _
-    (of-bytes _ (d .result) _ _ (d .ensures) (v .result) _ _ (v .ensures)) (c .enum-told .given .1)
+    (of-bytes _ (d .result) _ _ (d .ensures) (v .result) _ _ (v .ensures)) (c .enum-told .given .1))
 
 returns-2 : tie.Need-returns-2
-returns-2 c = let d = c .before .before .before .before .before .before .before .before .before .before .decode
+returns-2 c = judge-keeps _ _ (let d = c .before .before .before .before .before .before .before .before .before .before .decode
     in let v = c .before .before .before .before .before .decide in judge-refused _ (v .result) _ _
-    (of-bytes _ (d .result) _ _ (d .ensures) (v .result) _ _ (v .ensures)) _ (c .before .status .given .1)
+    (of-bytes _ (d .result) _ _ (d .ensures) (v .result) _ _ (v .ensures)) _ (c .before .status .given .1))
 
 pub judge-spec : {M : Type 1} → statement M
 judge-spec =

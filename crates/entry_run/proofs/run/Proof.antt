@@ -2,6 +2,7 @@
 use Rattle.ticket_decoding.proofs.DecodeLaws.{zeros-lent}
 use Rattle.ticket_judgement.proofs.VerdictLaws.{of-bytes}
 use Rattle.entry_run.proofs.EntryLaws.{run-refused, run-in, ran-out}
+use Rattle.entry_answers.proofs.DemandLaws.{run-keeps}
 use borrow.Author.Needs.{needs}
 use Rattle.entry_run.proofs.run.Statement.{statement}
 use Rattle.entry_run.proofs.run.Tie as tie
@@ -31,10 +32,10 @@ enum-known-status : tie.Need-enum-known-status
 enum-known-status c = search needs
 
 returns : tie.Need-returns
-returns c = let d = c .before .before .before .before .before .before .before .before .before .before .decode
+returns c = run-keeps _ _ _ _ (let d = c .before .before .before .before .before .before .before .before .before .before .decode
     in let v = c .before .before .before .before .before .decide in run-refused _
     (c .before .before .before .before .before .before .before .before .before .before .before .before .before .before .before .args .store .now)
-    (v .result) _ _ (of-bytes _ (d .result) _ _ (d .ensures) (v .result) _ _ (v .ensures)) _ (c .before .status .given .1)
+    (v .result) _ _ (of-bytes _ (d .result) _ _ (d .ensures) (v .result) _ _ (v .ensures)) _ (c .before .status .given .1))
 
 slice-aggregate-run-judged : tie.Need-slice-aggregate-run-judged
 slice-aggregate-run-judged c = search needs
@@ -53,12 +54,12 @@ same-length : tie.Need-same-length
 same-length c = search needs
 
 returns-2 : tie.Need-returns-2
-returns-2 c = let d = c .before .before .before .before .before .before .before .before .before .before .before .before .before .before .before
+returns-2 c = run-keeps _ _ _ _ (let d = c .before .before .before .before .before .before .before .before .before .before .before .before .before .before .before
     .before .decode in let v = c .before .before .before .before .before .before .before .before .before .before .before .decide
     in let g = c .before .before .run-judged in ran-out _ (c .before .before .before .before .before .before .before .before .before .before .before
     .before .before .before .before .before .before .before .before .before .before .args .store .now) (v .result) _ _
     (of-bytes _ (d .result) _ _ (d .ensures) (v .result) _ _ (v .ensures)) (c .before .before .before .before .before .before .before .enum-told
-    .given .1) (g .result) _ (g .ensures)
+    .given .1) (g .result) _ (g .ensures))
 
 pub run-spec : {M : Type 1} → statement M
 run-spec =

@@ -2,6 +2,7 @@
 use Rattle.ticket_decoding.proofs.DecodeLaws.{zeros-lent}
 use Rattle.ticket_judgement.proofs.VerdictLaws.{of-bytes}
 use Rattle.entry_write.proofs.EntryLaws.{write-refused, encodable, write-complete, write-short}
+use Rattle.entry_answers.proofs.DemandLaws.{write-keeps}
 use borrow.Author.Needs.{needs}
 use Rattle.entry_write.proofs.write.Statement.{statement}
 use Rattle.entry_write.proofs.write.Tie as tie
@@ -31,9 +32,9 @@ enum-known-status : tie.Need-enum-known-status
 enum-known-status c = search needs
 
 returns : tie.Need-returns
-returns c = let d = c .before .before .before .before .before .before .before .before .before .before .decode
+returns c = write-keeps _ _ _ _ (let d = c .before .before .before .before .before .before .before .before .before .before .decode
     in let v = c .before .before .before .before .before .decide in write-refused _ (v .result) _ _
-    (of-bytes _ (d .result) _ _ (d .ensures) (v .result) _ _ (v .ensures)) _ _ (c .before .status .given .1)
+    (of-bytes _ (d .result) _ _ (d .ensures) (v .result) _ _ (v .ensures)) _ _ (c .before .status .given .1))
 
 slice-aggregate-encode-flat-nest : tie.Need-slice-aggregate-encode-flat-nest
 slice-aggregate-encode-flat-nest c = search needs
@@ -58,21 +59,21 @@ same-length : tie.Need-same-length
 same-length c = search needs
 
 returns-2 : tie.Need-returns-2
-returns-2 c = let d = c .before .before .before .before .before .before .before .before .before .before .before .before .before .before .before
+returns-2 c = write-keeps _ _ _ _ (let d = c .before .before .before .before .before .before .before .before .before .before .before .before .before .before .before
     .before .before .before .before .decode in let v = c .before .before .before .before .before .before .before .before .before .before .before
     .before .before .before .decide in let g = c .before .before .before .before .before .encode-flat-nest in write-complete _ (v .result) _ _
     (of-bytes _ (d .result) _ _ (d .ensures) (v .result) _ _ (v .ensures)) _ (c .before .before .before .before .before .before .before .before
-    .before .before .enum-told .given .1) _ (g .result) (g .ensures) _ (c .before .n .given .1)
+    .before .before .enum-told .given .1) _ (g .result) (g .ensures) _ (c .before .n .given .1))
 
 same-length-2 : tie.Need-same-length-2
 same-length-2 c = search needs
 
 returns-3 : tie.Need-returns-3
-returns-3 c = let d = c .before .before .before .before .before .before .before .before .before .before .before .before .before .before .before
+returns-3 c = write-keeps _ _ _ _ (let d = c .before .before .before .before .before .before .before .before .before .before .before .before .before .before .before
     .before .before .before .decode in let v = c .before .before .before .before .before .before .before .before .before .before .before .before
     .before .decide in let g = c .before .before .before .before .encode-flat-nest in write-short _ (v .result) _ _
     (of-bytes _ (d .result) _ _ (d .ensures) (v .result) _ _ (v .ensures)) _ (c .before .before .before .before .before .before .before .before
-    .before .enum-told .given .1) _ (g .result) (g .ensures) _ (c .enum-told2 .given .1)
+    .before .enum-told .given .1) _ (g .result) (g .ensures) _ (c .enum-told2 .given .1))
 
 pub write-spec : {M : Type 1} → statement M
 write-spec =

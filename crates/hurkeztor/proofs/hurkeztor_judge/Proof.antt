@@ -11,7 +11,7 @@ pack-answer-requires : tie.Need-pack-answer-requires
 pack-answer-requires c κs = search needs
 
 returns : tie.Need-returns
-returns c = same-packed _ _ _ (c .pack-answer .ensures) (c .before .judge .ensures)
+returns c = same-packed _ _ _ (c .pack-answer .ensures) (c .before .judge .ensures .0)
 
 pub hurkeztor-judge-spec : {M : Type 1} → statement M
 hurkeztor-judge-spec = tie.close (tie.spec judge-requires pack-answer-requires returns)

@@ -14,7 +14,7 @@ same-length : tie.Need-same-length
 same-length c = search needs
 
 returns : tie.Need-returns
-returns c = let h = c .before .before .before .run .ensures in (same-packed _ _ _ (c .pack-answer .ensures) (h .answer), h .memory)
+returns c = let h = c .before .before .before .run .ensures .0 in (same-packed _ _ _ (c .pack-answer .ensures) (h .answer), h .memory)
 
 pub hurkeztor-run-spec : {M : Type 1} → statement M
 hurkeztor-run-spec = tie.close (tie.spec run-requires pack-answer-requires same-length returns)

@@ -14,7 +14,7 @@ same-length : tie.Need-same-length
 same-length c = search needs
 
 returns : tie.Need-returns
-returns c = let h = c .before .before .before .write .ensures in (same-packed _ _ _ (c .pack-answer .ensures) (h .answer), h .memory)
+returns c = let h = c .before .before .before .write .ensures .0 in (same-packed _ _ _ (c .pack-answer .ensures) (h .answer), h .memory)
 
 pub hurkeztor-write-spec : {M : Type 1} → statement M
 hurkeztor-write-spec = tie.close (tie.spec write-requires pack-answer-requires same-length returns)

@@ -22,6 +22,7 @@ use Rattle.model.specs.Grammar.{ticketLoops}
 use Rattle.model.specs.Grammar.{subscript, access, statement, statements, loopNumber, exchangeStep, reversalStep, skewStep, sectionStep}
 use Rattle.model.specs.Grammar.{stepOf}
 use Rattle.model.specs.Grammar.{depthAfter, stepsFrom, steps, nest}
+use Rattle.model.specs.Grammar.{mostStatements, mostReads, mostArrays, mostExtent, mostElements}
 use Rattle.model.specs.Bounds.{accessesOf}
 use Rattle.model.specs.Shape.{Shaped}
 use Rattle.model.specs.Shape as Shape
@@ -134,32 +135,33 @@ module _ {A : Type 0} (v : List ℕ → A) (u : List ℕ → Bool) where
   tested ms = must (u ms) 5 >> done (v ms)
 
   one-extent : (b : List ℕ) (k : ℕ) → (times 1 (natural 1 4096) >>= tested) b k
-      ≡ (word >>= (λ w. (must (between (pos 1) (pos 4096) w) 4 >> done w) >>= (λ w. tested (natAbs w ∷ [])))) b k
+      ≡ (word >>= (λ w. (must (between (pos 1) (pos mostExtent) w) 4 >> done w) >>= (λ w. tested (natAbs w ∷ [])))) b k
   unfolding times natural within done _>>=_ Answer._>>=_
   one-extent b k =
       bind-assoc (natural 1 4096) (λ a. times 0 (natural 1 4096) >>= (λ rest. done (a ∷ rest))) tested b k
-      ∙ bind-assoc (within (pos 1) (pos 4096)) (λ w. done (natAbs w)) (λ a. tested (a ∷ [])) b k
-      ∙ bind-assoc word (λ w. must (between (pos 1) (pos 4096) w) 4 >> done w) (λ w. tested (natAbs w ∷ [])) b k
+      ∙ bind-assoc (within (pos 1) (pos mostExtent)) (λ w. done (natAbs w)) (λ a. tested (a ∷ [])) b k
+      ∙ bind-assoc word (λ w. must (between (pos 1) (pos mostExtent) w) 4 >> done w) (λ w. tested (natAbs w ∷ [])) b k
 
 pub bind-done : {A B C : Type 0} (m : Reader A) (f : A → B) (g : B → Reader C) (b : List ℕ) (k : ℕ)
     → ((m >>= (λ x. done (f x))) >>= g) b k ≡ (m >>= (λ x. g (f x))) b k
 unfolding done _>>=_ Answer._>>=_
 bind-done m f g b k = bind-assoc m (λ x. done (f x)) g b k
 
-follows-extents : {A : Type 0} (t e : ℕ) (v : List ℕ → A) (u : List ℕ → Bool) → ((ms : List ℕ) → u ms ≡ leb (t + e * elements ms) 16384)
+follows-extents : {A : Type 0} (t e : ℕ) (v : List ℕ → A) (u : List ℕ → Bool) → ((ms : List ℕ) → u ms ≡ leb (t + e * elements ms) mostElements)
     → (n : ℕ) (ns : List ℕ)
     → Follows (times (length (n ∷ ns)) (natural 1 4096) >>= tested v u) (v (n ∷ ns)) (extentSlots t e (n ∷ ns))
 unfolding extentSlots elements wordCheck times
 follows-extents t e v u q n [] = follows-same (one-extent v u) (follows-word _ (lastExtent t e) (λ w. v (natAbs w ∷ []))
-    (λ w b k. then-check (between (pos 1) (pos 4096) w) 4 w (λ w. tested v u (natAbs w ∷ [])) (require (leb (t + e * natAbs w) 16384) 5 k) _ b k
-    (ap (λ z. (must z 5 >> done (v (natAbs w ∷ []))) b (suc k)) (q (natAbs w ∷ []) ∙ ap (λ i. leb (t + e * i) 16384) (mul-one (natAbs w)))
-    ∙ must-check (leb (t + e * natAbs w) 16384) 5 (v (natAbs w ∷ [])) b k)) (pos n))
+    (λ w b k. then-check (between (pos 1) (pos mostExtent) w) 4 w (λ w. tested v u (natAbs w ∷ []))
+    (require (leb (t + e * natAbs w) mostElements) 5 k) _ b k
+    (ap (λ z. (must z 5 >> done (v (natAbs w ∷ []))) b (suc k)) (q (natAbs w ∷ []) ∙ ap (λ i. leb (t + e * i) mostElements) (mul-one (natAbs w)))
+    ∙ must-check (leb (t + e * natAbs w) mostElements) 5 (v (natAbs w ∷ [])) b k)) (pos n))
 follows-extents t e v u q n (m ∷ ns) = follows-same
     (λ b k. bind-assoc (natural 1 4096) (λ a. times (length (m ∷ ns)) (natural 1 4096) >>= (λ rest. done (a ∷ rest))) (tested v u) b k)
     (follows-bind _ (follows-natural 1 4096 n) (follows-same
     (λ b k. bind-done (times (length (m ∷ ns)) (natural 1 4096)) (n ∷_) (tested v u) b k)
     (follows-extents t (e * n) (λ ms. v (n ∷ ms)) (λ ms. u (n ∷ ms))
-    (λ ms. q (n ∷ ms) ∙ ap (λ i. leb (t + i) 16384) (sym (mul-assoc e n (elements ms)))) m ns)))
+    (λ ms. q (n ∷ ms) ∙ ap (λ i. leb (t + i) mostElements) (sym (mul-assoc e n (elements ms)))) m ns)))
 
 -- a reader whose first part is never taken
 follows-never : {A B : Type 0} {m : Reader A} (g : A → Reader B) {us : List Slot} {a : A} (c : B) → Follows m a us
@@ -180,16 +182,17 @@ unfolding array shape arraySlots extentSlots
 follows-array t [] = follows-same (λ b k. bind-assoc (count 1 3) _ _ b k)
     (follows-never _ [] (follows-count 1 3 0) (λ b k s. no-dimension k (s .0 .passes)))
 follows-array t (n ∷ ns) = follows-same (λ b k. bind-assoc (count 1 3) _ _ b k) (follows-bind _ (follows-count 1 3 (length (n ∷ ns)))
-    (follows-extents t 1 (λ ms. ms) (λ ms. leb (t + elements ms) 16384) (λ ms. ap (λ i. leb (t + i) 16384) (sym (one-mul (elements ms)))) n ns))
+    (follows-extents t 1 (λ ms. ms) (λ ms. leb (t + elements ms) mostElements) (λ ms. ap (λ i. leb (t + i) mostElements)
+    (sym (one-mul (elements ms)))) n ns))
 
 follows-arraysFrom : (t : ℕ) (as′ : List (List ℕ)) → Follows (arraysFrom t (length as′)) as′ (arraysSlots t as′)
 unfolding arraysFrom arraysSlots
 follows-arraysFrom t [] = follows-done []
 follows-arraysFrom t (a ∷ as′) = follows-bind _ (follows-array t a) (follows-last (a ∷_) (follows-arraysFrom (t + elements a) as′))
 
-follows-arrays : (as′ : List (List ℕ)) → Follows arrays as′ (slot (countFrom 1 4) (pos (length as′)) ∷ arraysSlots 0 as′)
+follows-arrays : (as′ : List (List ℕ)) → Follows arrays as′ (slot (countFrom 1 mostArrays) (pos (length as′)) ∷ arraysSlots 0 as′)
 unfolding arrays
-follows-arrays as′ = follows-bind _ (follows-count 1 4 (length as′)) (follows-arraysFrom 0 as′)
+follows-arrays as′ = follows-bind _ (follows-count 1 mostArrays (length as′)) (follows-arraysFrom 0 as′)
 
 -- ---- statements
 
@@ -222,18 +225,18 @@ follows-statement n as′ s f =
     subst (λ ws. Follows (statement n as′) (writing s ws) (statementSlots (length as′) (writing s ws))) (sym (o .1))
     (follows-slots (ap (λ ws. slot (wordFrom (pos 0) (pos 3)) (pos (s .rule)) ∷ slot (wordFrom (pos 0) (pos (cond (eqb (s .rule) 3) 0 32767)))
     (pos (s .constant))
-    ∷ (ws ++ countedSlots (cond (eqb (s .rule) 3) 1 0) 4 (accessSlots (length as′)) (s .reads)))
+    ∷ (ws ++ countedSlots (cond (eqb (s .rule) 3) 1 0) mostReads (accessSlots (length as′)) (s .reads)))
     (sym (append-nil (accessSlots (length as′) w))))
     (follows-bind _ (follows-natural 0 3 (s .rule)) (follows-bind _ (follows-natural 0 _ (s .constant))
     (follows-bind _ (follows-access n as′ w (i w (List·Memᴰ·head refl)))
-    (follows-bind _ (follows-count _ 4 (length (s .reads)))
+    (follows-bind _ (follows-count _ mostReads (length (s .reads)))
     (follows-last (λ rs. record { rule = s .rule; constant = s .constant; writes = w ∷ []; reads = rs })
     (follows-times (accessSlots (length as′)) (s .reads) (λ a j. follows-access n as′ a (i a (List·Memᴰ·tail j))))))))))
 
 follows-statements : (n : ℕ) (as′ : List (List ℕ)) (ss : List Statement) → All (StatementSized as′ n) ss
-    → Follows (statements n as′) ss (countedSlots 1 4 (statementSlots (length as′)) ss)
+    → Follows (statements n as′) ss (countedSlots 1 mostStatements (statementSlots (length as′)) ss)
 unfolding statements
-follows-statements n as′ ss f = follows-counted _ (statementSlots (length as′)) 1 4 ss
+follows-statements n as′ ss f = follows-counted _ (statementSlots (length as′)) 1 mostStatements ss
     (follows-times (statementSlots (length as′)) ss (λ s i. follows-statement n as′ s (f s i)))
 
 -- ---- steps

@@ -17,6 +17,7 @@ use Rattle.model.specs.Encode.{kindOf}
 use Rattle.model.specs.Answer.{accepted, require}
 use Rattle.model.specs.Ticket.{Limit, Loop, Subscript, exchange, reversal, skew, section, Nest}
 use Rattle.model.specs.Grammar.{between, elements, extents, depthAfter, mostLoops}
+use Rattle.model.specs.Grammar.{mostStatements, mostArrays, mostExtent, ticketLoops, ticketLimits}
 use Rattle.model.specs.Bounds.{accessesOf}
 use Rattle.model.specs.Shape.{Shaped}
 use Rattle.model.specs.Shape as Shape
@@ -59,8 +60,8 @@ extent-taken : (t e k : ℕ) (w : ℤ) → wordCheck (lastExtent t e) k w ≡ ac
 unfolding wordCheck
 extent-taken t e k w h = (
   natAbs w,
-  between-natural 1 4096 w (require-accepted (between (pos 1) (pos 4096) w) 4 k
-      (then-accepted (require (between (pos 1) (pos 4096) w) 4 k) _ h .first)) .1,
+  between-natural 1 mostExtent w (require-accepted (between (pos 1) (pos mostExtent) w) 4 k
+      (then-accepted (require (between (pos 1) (pos mostExtent) w) 4 k) _ h .first)) .1,
 )
 
 loop-taken : (s : ℕ) (ok : ℤ → Bool) (k : ℕ) (w : ℤ) → wordCheck (loopWord s ok) k w ≡ accepted tt → T (ok w)
@@ -92,11 +93,12 @@ walk-limit k = walk-bind (walk-natural 1 32767) (λ p _. walk-bind walk-number (
 
 walk-loop : (k : ℕ) → Walk (Of (λ (L : Loop). Shape.Sized k (L .lower) × Shape.Sized k (L .upper)) loopSlots)
 unfolding loopSlots
-walk-loop k = walk-bind (walk-items limitSlots 1 4 (walk-limit k)) (λ l s. walk-bind (walk-items limitSlots 1 4 (walk-limit k)) (λ u t.
+walk-loop k = walk-bind (walk-items limitSlots 1 ticketLimits (walk-limit k)) (λ l s. walk-bind
+    (walk-items limitSlots 1 ticketLimits (walk-limit k)) (λ u t.
     walk-done (record { lower = l; upper = u }) (record {
       holds = (s, t);
-      slots = ap (countedSlots 1 4 limitSlots l ++_)
-          (append-nil (countedSlots 1 4 limitSlots u));
+      slots = ap (countedSlots 1 ticketLimits limitSlots l ++_)
+          (append-nil (countedSlots 1 ticketLimits limitSlots u));
     })))
 
 walk-loopsFrom : (k n : ℕ) → Walk (Of (λ N. (length N ≡ n) × Shaped k N) (flatMap loopSlots))
@@ -105,13 +107,13 @@ walk-loopsFrom k zero = walk-done [] (record { holds = (refl, tt); slots = refl 
 walk-loopsFrom k (suc n) = walk-bind (walk-loop k) (λ L s. walk-bind (walk-loopsFrom (suc k) n) (λ N r.
     walk-done (L ∷ N) (record { holds = (ap suc (r .0), (s, r .1)); slots = ap (loopSlots L ++_) (append-nil (flatMap loopSlots N)) })))
 
-walk-loops : Walk (Of (Shaped 0) (countedSlots 1 4 loopSlots))
-walk-loops = walk-counted loopSlots 1 4 (walk-loopsFrom 0)
+walk-loops : Walk (Of (Shaped 0) (countedSlots 1 ticketLoops loopSlots))
+walk-loops = walk-counted loopSlots 1 ticketLoops (walk-loopsFrom 0)
 
 -- ---- arrays
 
 extent-more : (t e n : ℕ) (ns : List ℕ) → 1 ≤ length ns
-    → extentSlots t e (n ∷ ns) ≡ slot (wordFrom (pos 1) (pos 4096)) (pos n) ∷ extentSlots t (e * n) ns
+    → extentSlots t e (n ∷ ns) ≡ slot (wordFrom (pos 1) (pos mostExtent)) (pos n) ∷ extentSlots t (e * n) ns
 unfolding extentSlots
 extent-more t e n [] h = absurd (omega arith)
 extent-more t e n (m ∷ ns) h = refl
@@ -124,7 +126,7 @@ walk-extents t e (suc zero) = walk-bind (walk-word (lastExtent t e) pos 0 (exten
 walk-extents t e (suc (suc d)) = walk-bind (walk-natural 1 4096) (λ n _. walk-bind (walk-extents t (e * n) (suc d)) (λ ns l.
     walk-done (n ∷ ns) (record {
       holds = ap suc l;
-      slots = ap (slot (wordFrom (pos 1) (pos 4096)) (pos n) ∷_)
+      slots = ap (slot (wordFrom (pos 1) (pos mostExtent)) (pos n) ∷_)
           (append-nil (extentSlots t (e * n) ns)) ∙ sym (extent-more t e n ns (omega arith));
     })))
 
@@ -139,9 +141,9 @@ walk-arraysFrom t zero = walk-done [] (record { holds = refl; slots = refl })
 walk-arraysFrom t (suc n) = walk-bind (walk-array t) (λ a _. walk-bind (walk-arraysFrom (t + elements a) n) (λ as′ l.
     walk-done (a ∷ as′) (record { holds = ap suc l; slots = ap (arraySlots t a ++_) (append-nil (arraysSlots (t + elements a) as′)) })))
 
-walk-arrays : Walk (Of Any (λ as′. slot (countFrom 1 4) (pos (length as′)) ∷ arraysSlots 0 as′))
-walk-arrays = walk-bind (walk-count 1 4) (λ n _. walk-bind (walk-arraysFrom 0 n) (λ as′ l.
-    walk-done as′ (record { holds = tt; slots = ap₂ (λ i ss. slot (countFrom 1 4) (pos i) ∷ ss) (sym l) (append-nil (arraysSlots 0 as′)) })))
+walk-arrays : Walk (Of Any (λ as′. slot (countFrom 1 mostArrays) (pos (length as′)) ∷ arraysSlots 0 as′))
+walk-arrays = walk-bind (walk-count 1 mostArrays) (λ n _. walk-bind (walk-arraysFrom 0 n) (λ as′ l.
+    walk-done as′ (record { holds = tt; slots = ap₂ (λ i ss. slot (countFrom 1 mostArrays) (pos i) ∷ ss) (sym l) (append-nil (arraysSlots 0 as′)) })))
 
 -- ---- statements
 
@@ -174,8 +176,8 @@ walk-statement n as′ = walk-bind (walk-natural 0 3) (λ r _. walk-bind (walk-n
           (ap₂ (λ i ss. slot (countFrom (cond (eqb r 3) 1 0) 4) (pos i) ∷ ss) (sym (l .size)) (append-nil (flatMap (accessSlots (length as′)) rs))));
     }))))))
 
-walk-statements : (n : ℕ) (as′ : List (List ℕ)) → Walk (Of (All (StatementSized as′ n)) (countedSlots 1 4 (statementSlots (length as′))))
-walk-statements n as′ = walk-items (statementSlots (length as′)) 1 4 (walk-statement n as′)
+walk-statements : (n : ℕ) (as′ : List (List ℕ)) → Walk (Of (All (StatementSized as′ n)) (countedSlots 1 mostStatements (statementSlots (length as′))))
+walk-statements n as′ = walk-items (statementSlots (length as′)) 1 mostStatements (walk-statement n as′)
 
 -- ---- steps
 
@@ -270,8 +272,8 @@ unfolding nestSlots
 walk-nest = walk-bind walk-loops (λ ls s. walk-bind walk-arrays (λ as′ _. walk-bind (walk-statements (length ls) as′) (λ ss f.
     walk-done (record { loops = ls; arrays = as′; statements = ss }) (record {
       holds = record { loops = s; statements = f };
-      slots = ap (λ l. countedSlots 1 4 loopSlots ls ++ ((slot (countFrom 1 4) (pos (length as′)) ∷ arraysSlots 0 as′) ++ l))
-          (append-nil (countedSlots 1 4 (statementSlots (length as′)) ss));
+      slots = ap (λ l. countedSlots 1 ticketLoops loopSlots ls ++ ((slot (countFrom 1 mostArrays) (pos (length as′)) ∷ arraysSlots 0 as′) ++ l))
+          (append-nil (countedSlots 1 mostStatements (statementSlots (length as′)) ss));
     }))))
 
 pub walk-ticket : Walk (Of TicketSized ticketSlots)

@@ -31,7 +31,7 @@ use Rattle.model.proofs.Verdict.EntryLaws.{judge-refused, write-refused
 use Rattle.model.proofs.Verdict.EntryLaws.{quick-refused, refused-quick, accessNumber-mem}
 use Rattle.model.proofs.Verdict.RunLaws.{run-refused, refused-run}
 
--- a statement does not both stray and stay
+-- a statement has no subscript that is both off its extent and on it
 not-violates : (as′ : List (List ℕ)) (ps : List (List _)) (s : Statement) → Stays as′ ps s → Violates as′ ps s → ⊥
 not-violates as′ ps s g r =
     let o = r .off in

@@ -7,7 +7,7 @@ use native.Mathlib.Omega.{arith}
 use lib.ListN.{getD}
 use Rattle.integers.specs.Sign.{Sign}
 use Rattle.model.specs.Directions.{vectorCount}
-use Rattle.step_preimages.specs.Numbers.{number, marked}
+use Rattle.step_preimages.specs.Numbers.{marked}
 use Rattle.dependence_vectors.proofs.DepthLaws.{depth-positive}
 use Rattle.step_directions.proofs.SetLaws.{Filling, fill-first, fill-next, fill-all, merged-row}
 use Rattle.step_directions.proofs.merge.Statement.{statement}

@@ -26,7 +26,7 @@ slice-reshare-prefix-print-bytes : tie.Need-slice-reshare-prefix-print-bytes
 slice-reshare-prefix-print-bytes c =
     let l = c .before .before .before .before .write in
     let k = l .kept .1 .0 in
-    let e = c .before .print-answer .ensures in in-front _ (l .last .1 .0) _ (omega (arith, write-fits _ _ _ (l .result) (l .ensures)))
+    let e = c .before .print-answer .ensures in in-front _ (l .last .1 .0) _ (omega (arith, write-fits _ _ _ (l .result) (l .ensures .0)))
 
 slice-aggregate-print-bytes : tie.Need-slice-aggregate-print-bytes
 slice-aggregate-print-bytes c = sym (length-take-le _ _ (slice-reshare-prefix-print-bytes (c .before)))
