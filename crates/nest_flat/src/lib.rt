@@ -4,8 +4,8 @@ use model::EXTENTS;
 use model::SIDES;
 use model::STATEMENTS;
 
-// All of a flat nest but its two large slices, the words of all limits and of all accesses. The first `arrays` arrays, `statements` statements
-// and `accesses` accesses are in use. A function whose contract speaks of the flat nest is lent both slices, also where it reads one alone.
+// All of a flat nest but its two large slices, the words of all limits and of all accesses. As many arrays, statements and accesses are in use as the
+// fields of these names say. A function whose contract speaks of the flat nest is lent both slices, also where it reads one alone.
 pub struct Header {
     pub depth: usize,
     pub counts: [usize; SIDES],
