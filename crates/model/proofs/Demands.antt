@@ -24,7 +24,7 @@ use Rattle.model.specs.Points.{partialPoints, iterations}
 use Rattle.model.specs.Machine.{Instance, Accesses, State, Rules, perform, run}
 use Rattle.model.specs.Directions.{signs, backwards, earlier, conflict, Line}
 use Rattle.model.specs.Steps.{forward, vectors, vectorsAfter, vectorsAfterAll, somePointsBack}
-use Rattle.model.specs.Judge.{Judged, judged, admit, directionsOf}
+use Rattle.model.specs.Judge.{Judged, judged, admit, judgeSteps, directionsOf}
 use Rattle.model.specs.Encode.{encode, ticketWords}
 use Rattle.model.specs.Listing.{linesOf, listing}
 use Rattle.model.specs.Quick.{apart}
@@ -36,7 +36,7 @@ use Rattle.model.specs.Shape.{Shaped, Runs, Proper, WellFormed}
 use Rattle.model.specs.Ranges.{StepThere, TicketRanges}
 use Rattle.model.specs.Roles.{Wrong}
 use Rattle.model.specs.Reasons.{StepsPass, NotAdmitted, Because, Short, NoAccess, NotRun}
-use Rattle.model.specs.Promises.{Fitting, Dependence, LineBefore, KeepsPoints, Turns, Attained, Trade, NeverMeet}
+use Rattle.model.specs.Promises.{Fitting, Dependence, LineBefore, KeepsPoints, Turns, Attained, Crossed, Trade, NeverMeet}
 use Rattle.model.specs.Promises.{QuickRule, HandedOut, OneToOne, FitsFields, Promise, Left, SomeAccepts, Whole}
 use Rattle.model.proofs.CaseLaws as CaseLaws
 use Rattle.model.proofs.Grammar.TicketLaws as TicketLaws
@@ -55,6 +55,7 @@ use Rattle.model.proofs.Store.PlaceLaws as PlaceLaws
 use Rattle.model.proofs.Listing.ListingLaws as ListingLaws
 use Rattle.model.proofs.Verdict.EntryLaws as EntryLaws
 use Rattle.model.proofs.Verdict.RunLaws as RunLaws
+use Rattle.model.proofs.Verdict.JudgeLaws as JudgeLaws
 use Rattle.model.proofs.Promise.TradeLaws as TradeLaws
 use Rattle.model.proofs.Promise.EntryStepLaws as EntryStepLaws
 use Rattle.model.proofs.Promise.ReasonLaws as ReasonLaws
@@ -122,7 +123,18 @@ lines-once-in-order N = (ListingLaws.linesOf-ordered N, ListingLaws.linesOf-dist
 pub kinds-merged : (N : Nest) (v : List Sign) → Mem v (map (λ l. l .vector) (linesOf N)) ↔ Mem v (directionsOf N)
 kinds-merged = ListingLaws.linesOf-merged
 
--- a step that judge reaches is refused with 10 exactly if a direction then points backwards
+-- a reached step is refused with 10 exactly if a vector of the set then points backwards, whatever the set and the nest
+pub ten-exact : (k : ℕ) (front : List Step) (t : Step) (back : List Step) (vs : List (List Sign)) (N : Nest) → StepsPass front vs N
+    → (judgeSteps k (front ++ t ∷ back) vs N ≡ refused 10 (k + length front)) ↔ T (somePointsBack (vectorsAfter t (vectorsAfterAll front vs)))
+ten-exact = JudgeLaws.ten-exact
+
+-- while all steps so far exchange or reverse, exactly if the iterations of two conflicting instances cross at it, in any nest
+pub ten-crosses : (N : Nest) (front : List Step) (t : Step) → All Turns (front ++ t ∷ []) → StepsPass front (directionsOf N) N
+    → (k : ℕ) (back : List Step)
+    → (judgeSteps k (front ++ t ∷ back) (directionsOf N) N ≡ refused 10 (k + length front)) ↔ Crossed N front t
+ten-crosses = TradeLaws.ten-crossed
+
+-- so a step that judge reaches is refused with 10 exactly if a direction then points backwards
 pub judge-ten : (b : List ℕ) (K : Ticket) → admit b ≡ accepted K
     → (front : List Step) (t : Step) (back : List Step) → K .steps ≡ front ++ t ∷ back
     → StepsPass front (directionsOf (K .nest)) (K .nest)

@@ -111,6 +111,15 @@ pub record Attained (t : Step) (v w : List Sign) : Type 0 where
 abbrev pub moved : List Step → Instance → Instance
 moved ts i = record { statement = i .statement; iteration = forwardAll ts (i .iteration) }
 
+-- the same by the iterations alone: the steps before t leave no sink before its source, and with t the sink comes first
+pub record Crossed (N : Nest) (front : List Step) (t : Step) : Type 0 where
+  pub source : Instance
+  pub sink : Instance
+  pub old : Precedes (order N) source sink
+  pub clash : T (conflict (accesses (N .statements)) source sink)
+  pub kept : Earlier (forwardAll front (sink .iteration)) (forwardAll front (source .iteration)) → ⊥
+  pub crossed : Earlier (forwardAll (front ++ t ∷ []) (sink .iteration)) (forwardAll (front ++ t ∷ []) (source .iteration))
+
 -- two conflicting instances trade places at the step t, which is reached after the steps `front`: in the old order and in that of the nest before
 -- the step the source comes before the sink, in that of the nest after it the sink comes before the source
 pub record Trade (N : Nest) (front : List Step) (t : Step) : Type 0 where

@@ -24,7 +24,7 @@ use Rattle.model.specs.Inside.{Earlier}
 use Rattle.model.specs.Limits.{nestAfterAll}
 use Rattle.model.specs.Shape.{Proper, WellFormed}
 use Rattle.model.specs.Reasons.{StepsPass}
-use Rattle.model.specs.Promises.{Turns, moved, Trade}
+use Rattle.model.specs.Promises.{Turns, moved, Crossed, Trade}
 use Rattle.model.proofs.Points.EarlierLaws.{backwards-earlier, earlier-asymmetric, earlier-irreflexive, earlier-total}
 use Rattle.model.proofs.Points.PointLaws.{iterations-length, iterations-rise}
 use Rattle.model.proofs.Steps.LengthLaws.{step-length}
@@ -107,15 +107,6 @@ after-snoc (u ∷ front) t vs = after-snoc front t (vectorsAfter u vs)
 -- ---- pairs of a nest
 
 module _ (N : Nest) where
-  -- two conflicting instances whose points are in order after the steps `front`, and not after the step that follows
-  record Crossed (front : List Step) (t : Step) : Type 0 where
-    source : Instance
-    sink : Instance
-    old : Precedes (order N) source sink
-    clash : T (conflict (accesses (N .statements)) source sink)
-    kept : Earlier (forwardAll front (sink .iteration)) (forwardAll front (source .iteration)) → ⊥
-    crossed : Earlier (forwardAll (front ++ t ∷ []) (sink .iteration)) (forwardAll (front ++ t ∷ []) (source .iteration))
-
   pub pair-lengths : (i j : Instance) → Precedes (order N) i j → length (i .iteration) ≡ length (j .iteration)
   pair-lengths i j h =
       let m = precedes-mem (order N) i j h in
@@ -212,7 +203,7 @@ module _ (N : Nest) where
         (pair-forwards i j h)
         (subst T (sym (backwards-earlier (forwardAll front (i .iteration)) (forwardAll front (j .iteration)))) e)
 
-    had-crossed : (v : List Sign) → T (backwards v) → Had Conflicting (forwardAll (front ++ t ∷ [])) v → Crossed front t
+    had-crossed : (v : List Sign) → T (backwards v) → Had Conflicting (forwardAll (front ++ t ∷ [])) v → Crossed N front t
     unfolding Conflicting
     had-crossed v b r =
         let i = r .pair .0 in
@@ -228,14 +219,14 @@ module _ (N : Nest) where
           crossed = subst T (ap backwards e ∙ backwards-earlier (fwd (i .iteration)) (fwd (j .iteration))) b;
         }
 
-    back-crossed : T (somePointsBack (vectorsAfter t (vectorsAfterAll front (directionsOf N)))) → Crossed front t
+    back-crossed : T (somePointsBack (vectorsAfter t (vectorsAfterAll front (directionsOf N)))) → Crossed N front t
     back-crossed b =
         let r = points-back (vectorsAfter t (vectorsAfterAll front (directionsOf N))) b in
         had-crossed (r .vector) (r .back)
         (traced Conflicting (front ++ t ∷ []) turns (λ p. p) same-lengths (directionsOf N) all-had (r .vector)
         (subst (Mem (r .vector)) (sym (after-snoc front t (directionsOf N))) (r .there)))
 
-    crossed-back : Crossed front t → T (somePointsBack (vectorsAfter t (vectorsAfterAll front (directionsOf N))))
+    crossed-back : Crossed N front t → T (somePointsBack (vectorsAfter t (vectorsAfterAll front (directionsOf N))))
     crossed-back r =
         let p = r .source .iteration in
         let q = r .sink .iteration in
@@ -249,8 +240,13 @@ module _ (N : Nest) where
         })
 
     -- the nests before and after the step
+    -- of any nest
+    pub ten-crossed : (k : ℕ) (back : List Step)
+        → (judgeSteps k (front ++ t ∷ back) (directionsOf N) N ≡ refused 10 (k + length front)) ↔ Crossed N front t
+    ten-crossed k back = let e = ten-exact k front t back (directionsOf N) N pass in (λ h. back-crossed (e .0 h), λ r. e .1 (crossed-back r))
+
     module _ (formed : WellFormed N) where
-      crossed-trade : Crossed front t → Trade N front t
+      crossed-trade : Crossed N front t → Trade N front t
       crossed-trade r = record {
         source = r .source;
         sink = r .sink;
@@ -261,7 +257,7 @@ module _ (N : Nest) where
             before-moved formed (front ++ t ∷ []) proper (r .sink) (r .source) (m .1) (m .0) (inl (r .crossed));
       }
 
-      trade-crossed : Trade N front t → Crossed front t
+      trade-crossed : Trade N front t → Crossed N front t
       trade-crossed r = record {
         source = r .source;
         sink = r .sink;
