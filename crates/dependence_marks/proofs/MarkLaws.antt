@@ -34,7 +34,7 @@ use Rattle.model.proofs.Points.PointLaws.{iterations-rise}
 use Rattle.model.proofs.Store.PlaceLaws.{place-injective}
 use Rattle.dependence_vectors.specs.Candidates.{row}
 use Rattle.dependence_vectors.specs.Numbers.{place}
-use Rattle.dependence_search.specs.Flat.{Flat, flat, statementOf, pointAt, Use, use·of, usesFrom, uses, noUse, useAt, Describes, Ready, NumbersBelow, Searched}
+use Rattle.dependence_search.specs.Flat.{Flat, statementOf, pointAt, Use, use·of, usesFrom, uses, noUse, useAt, Describes, Ready, NumbersBelow, Searched}
 use Rattle.dependence_search.proofs.UseLaws.{uses-of}
 use Rattle.dependence_listing_text.specs.Text.{marked, shown, text}
 use Rattle.nest_flat.specs.FlatNests.{FlatNest, sizesIn, statementsFrom, nestOf, FlatNestIn, noAccess, accessOf}
@@ -138,7 +138,15 @@ module _ (P : FlatNest) (points : List ℤ) (n : ℕ) (marks : List Bool) (h : L
   }
 
   abbrev flatOf : List ℕ → Uses → Flat
-  flatOf e r = flat points (P .depth) n e (take (P .accesses) (r .statements)) (take (P .accesses) (r .writes)) (P .statements)
+  flatOf e r = record {
+    points = points;
+    depth = P .depth;
+    count = n;
+    numbers = e;
+    statements = take (P .accesses) (r .statements);
+    writes = take (P .accesses) (r .writes);
+    body = P .statements;
+  }
 
   module _ (e : List ℕ) (g : NumbersAre P points n e) (r : Uses) (u : UsesAre P r) where
     abbrev F : Flat

@@ -11,6 +11,7 @@ ghost use Rattle.nest_flat.specs.FlatNests.{flatNest, FlatNestIn};
 ghost use Rattle.nest_points.specs.Nests.{ListIn};
 ghost use Rattle.dependence_marks.specs.Uses.{firstWritten, EnterIn, UsesAre};
 ghost use Rattle.dependence_marks.specs.Lines.{Markable, LinesIn, LinesAre, Shows};
+use dependence_search::Sizes;
 use model::ACCESSES;
 use model::KINDS;
 use model::NUMBERS;
@@ -82,15 +83,18 @@ fn mark_using_numbers(
     let writes = uses.writes;
     let accesses = header.accesses;
     let elements = nest_elements::elements_in(header, limits, words);
+    let sizes = Sizes {
+        depth: header.depth,
+        count: count,
+        elements: elements,
+        body: header.statements,
+    };
     dependence_search::dependences(
         points,
-        header.depth,
-        count,
+        sizes,
         numbers,
-        elements,
         &statements[..accesses],
         &writes[..accesses],
-        header.statements,
         marks,
     );
 }

@@ -17,6 +17,7 @@ use Rattle.model.specs.Grammar.{mostPoints, mostLoops, mostElements}
 use Rattle.dependence_vectors.specs.Numbers.{place, placeOf, marksFor}
 use Rattle.dependence_vectors.specs.Candidates.{row}
 use Rattle.dependence_pair_search.specs.Search.{some, found, Clear}
+use Rattle.dependence_search.specs.declared.Sizes.{Sizes}
 
 -- ---- flat data
 
@@ -30,8 +31,16 @@ pub record Flat : Type 0 where
   pub writes : List Bool
   pub body : ℕ
 
-abbrev pub flat : List ℤ → ℕ → ℕ → List ℕ → List ℕ → List Bool → ℕ → Flat
-flat p d n e s w b = record { points = p; depth = d; count = n; numbers = e; statements = s; writes = w; body = b }
+abbrev pub flat : List ℤ → Sizes → List ℕ → List ℕ → List Bool → Flat
+flat p z e s w = record {
+  points = p;
+  depth = z .depth;
+  count = z .count;
+  numbers = e;
+  statements = s;
+  writes = w;
+  body = z .body;
+}
 
 abbrev pub numberAt : Flat → ℕ → ℕ → ℕ
 numberAt F a x = getD (F .numbers) (a * F .count + x) 0
@@ -96,6 +105,10 @@ pub record Ready (F : Flat) (marks : List Bool) : Type 0 where
 pub record NumbersBelow (m : ℕ) (F : Flat) : Type 0 where
   pub few : m ≤ mostElements
   pub below : (a x : ℕ) → a < length (F .statements) → x < F .count → numberAt F a x < m
+
+-- every number is below m
+abbrev pub SearchIn : Flat → ℕ → List Bool → Type 0
+SearchIn F m marks = Ready F marks × NumbersBelow m F
 
 -- the mark of every line that there could be is set if the model says that it occurs, and no other mark changes
 pub record Searched (F : Flat) (m m′ : List Bool) : Type 0 where

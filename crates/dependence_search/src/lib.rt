@@ -6,12 +6,20 @@ ghost use lib.ListN.{length};
 ghost use Rattle.model.specs.Directions.{kindCount, vectorCount};
 ghost use Rattle.dependence_vectors.specs.Numbers.{placeOf, marksFor};
 ghost use Rattle.dependence_pair_search.specs.Search.{Adds, Clear, Linked};
-ghost use Rattle.dependence_search.specs.Flat.{flat, Ready, Searched, kindOf, numbersOf, setBy, setFrom, NumbersBelow, Lent, Listed, Alike};
+ghost use Rattle.dependence_search.specs.Flat.{flat, Ready, SearchIn, Searched, kindOf, numbersOf, setBy, setFrom, NumbersBelow, Lent, Listed, Alike};
 ghost use Rattle.dependence_search.specs.Flat.{FirstLike};
 use model::ELEMENTS;
 use model::KINDS;
 use model::POINTS;
 use model::VECTORS;
+
+// How much is searched: the nest's loops, its points, the elements that its accesses can name, its statements.
+pub struct Sizes {
+    pub depth: usize,
+    pub count: usize,
+    pub elements: usize,
+    pub body: usize,
+}
 
 // ---- accesses that are searched once
 
@@ -103,12 +111,10 @@ pub fn block(body: usize, s: usize, t: usize, k: usize) -> usize
 // Marks the conflicts of access a, as the source, with access b. The links of a are lent.
 fn mark_pair(
     points: &[i64],
-    depth: usize,
-    count: usize,
+    sizes: Sizes,
     numbers: &[u16],
     statements: &[usize],
     writes: &[bool],
-    body: usize,
     a: usize,
     b: usize,
     next: &[u16],
@@ -116,25 +122,26 @@ fn mark_pair(
     start: &mut [u16],
     marks: &mut [bool],
 )
-    requires { ⌜ Ready (flat (now points) depth count (now numbers) (now statements) (now writes) body) (now marks) × (a < length (now statements))
-        × (b < length (now statements)) × Linked (numbersOf count (now numbers) a) (now next) (now head) (now start)
-        × NumbersBelow (length (now head)) (flat (now points) depth count (now numbers) (now statements) (now writes) body) ⌝ }
-    ensures { λ _. ⌜ Adds (now (marks .entry)) (now (marks .exit)) (setBy (flat (now (points .entry)) depth count (now (numbers .entry))
-        (now (statements .entry)) (now (writes .entry)) body) a b) × Clear (now (head .exit)) ⌝ }
+    requires { ⌜ Ready (flat (now points) sizes (now numbers) (now statements) (now writes)) (now marks) × (a < length (now statements))
+        × (b < length (now statements)) × Linked (numbersOf (sizes .count) (now numbers) a) (now next) (now head) (now start)
+        × NumbersBelow (length (now head)) (flat (now points) sizes (now numbers) (now statements) (now writes)) ⌝ }
+    ensures { λ _. ⌜ Adds (now (marks .entry)) (now (marks .exit)) (setBy (flat (now (points .entry)) sizes (now (numbers .entry))
+        (now (statements .entry)) (now (writes .entry))) a b) × Clear (now (head .exit)) ⌝ }
 {
     let k = kind(writes[a], writes[b]);
     if k < KINDS {
         let s = statements[a];
         let t = statements[b];
+        let count = sizes.count;
         let i = a * count;
         let j = b * count;
         dependence_pair_search::search(
             points,
-            depth,
+            sizes.depth,
             &numbers[i..i + count],
             &numbers[j..j + count],
             s < t,
-            block(body, s, t, k),
+            block(sizes.body, s, t, k),
             next,
             head,
             start,
@@ -146,23 +153,22 @@ fn mark_pair(
 // Marks the conflicts of access a, as the source, with every access.
 fn mark_source(
     points: &[i64],
-    depth: usize,
-    count: usize,
+    sizes: Sizes,
     numbers: &[u16],
     statements: &[usize],
     writes: &[bool],
-    body: usize,
     a: usize,
     next: &mut [u16],
     head: &mut [u16],
     start: &mut [u16],
     marks: &mut [bool],
 )
-    requires { ⌜ Ready (flat (now points) depth count (now numbers) (now statements) (now writes) body) (now marks) × (a < length (now statements))
-        × Lent (flat (now points) depth count (now numbers) (now statements) (now writes) body) (now next) (now head) (now start) ⌝ }
-    ensures { λ _. ⌜ Adds (now (marks .entry)) (now (marks .exit)) (setFrom (flat (now (points .entry)) depth count (now (numbers .entry))
-        (now (statements .entry)) (now (writes .entry)) body) a) × Clear (now (head .exit)) ⌝ }
+    requires { ⌜ Ready (flat (now points) sizes (now numbers) (now statements) (now writes)) (now marks) × (a < length (now statements))
+        × Lent (flat (now points) sizes (now numbers) (now statements) (now writes)) (now next) (now head) (now start) ⌝ }
+    ensures { λ _. ⌜ Adds (now (marks .entry)) (now (marks .exit)) (setFrom (flat (now (points .entry)) sizes (now (numbers .entry))
+        (now (statements .entry)) (now (writes .entry))) a) × Clear (now (head .exit)) ⌝ }
 {
+    let count = sizes.count;
     let i = a * count;
     dependence_pair_search::link(
         &numbers[i..i + count],
@@ -176,12 +182,10 @@ fn mark_source(
         if first_like(count, numbers, statements, writes, b) == b {
             mark_pair(
                 points,
-                depth,
-                count,
+                sizes,
                 numbers,
                 statements,
                 writes,
-                body,
                 a,
                 b,
                 next,
@@ -197,33 +201,29 @@ fn mark_source(
 // Marks the conflicts of every access, as the source, with every access. A source that an earlier one is like sets no more.
 fn mark_sources(
     points: &[i64],
-    depth: usize,
-    count: usize,
+    sizes: Sizes,
     numbers: &[u16],
     statements: &[usize],
     writes: &[bool],
-    body: usize,
     next: &mut [u16],
     head: &mut [u16],
     start: &mut [u16],
     marks: &mut [bool],
 )
-    requires { ⌜ Ready (flat (now points) depth count (now numbers) (now statements) (now writes) body) (now marks)
-        × Lent (flat (now points) depth count (now numbers) (now statements) (now writes) body) (now next) (now head) (now start) ⌝ }
-    ensures { λ _. ⌜ Searched (flat (now (points .entry)) depth count (now (numbers .entry)) (now (statements .entry)) (now (writes .entry)) body)
+    requires { ⌜ Ready (flat (now points) sizes (now numbers) (now statements) (now writes)) (now marks)
+        × Lent (flat (now points) sizes (now numbers) (now statements) (now writes)) (now next) (now head) (now start) ⌝ }
+    ensures { λ _. ⌜ Searched (flat (now (points .entry)) sizes (now (numbers .entry)) (now (statements .entry)) (now (writes .entry)))
         (now (marks .entry)) (now (marks .exit)) ⌝ }
 {
     let mut a = 0;
     while a < statements.len() {
-        if first_like(count, numbers, statements, writes, a) == a {
+        if first_like(sizes.count, numbers, statements, writes, a) == a {
             mark_source(
                 points,
-                depth,
-                count,
+                sizes,
                 numbers,
                 statements,
                 writes,
-                body,
                 a,
                 next,
                 head,
@@ -236,44 +236,38 @@ fn mark_sources(
 }
 
 // Whether links for so many points and heads for so many elements do.
-fn has_room(count: usize, elements: usize, links: usize, heads: usize) -> bool
-    ensures { λ r. ⌜ (r ≡ true → (count ≤ links) × (elements ≤ heads)) ⌝ }
+fn has_room(sizes: Sizes, links: usize, heads: usize) -> bool
+    ensures { λ r. ⌜ (r ≡ true → (sizes .count ≤ links) × (sizes .elements ≤ heads)) ⌝ }
 {
-    if links < count {
+    if links < sizes.count {
         return false;
     }
-    elements <= heads
+    sizes.elements <= heads
 }
 
-// `dependences` of a large nest: of few points, or of any.
+// `dependences` of a large nest: of few points, or of any. Apart from it, so that a small nest does not pass through this room.
 fn dependences_in_large(
     points: &[i64],
-    depth: usize,
-    count: usize,
+    sizes: Sizes,
     numbers: &[u16],
-    elements: usize,
     statements: &[usize],
     writes: &[bool],
-    body: usize,
     marks: &mut [bool],
 )
-    requires { ⌜ Ready (flat (now points) depth count (now numbers) (now statements) (now writes) body) (now marks)
-        × NumbersBelow elements (flat (now points) depth count (now numbers) (now statements) (now writes) body) ⌝ }
-    ensures { λ _. ⌜ Searched (flat (now (points .entry)) depth count (now (numbers .entry)) (now (statements .entry)) (now (writes .entry)) body)
+    requires { ⌜ SearchIn (flat (now points) sizes (now numbers) (now statements) (now writes)) (sizes .elements) (now marks) ⌝ }
+    ensures { λ _. ⌜ Searched (flat (now (points .entry)) sizes (now (numbers .entry)) (now (statements .entry)) (now (writes .entry)))
         (now (marks .entry)) (now (marks .exit)) ⌝ }
 {
-    if has_room(count, elements, 256, 8192) {
+    if has_room(sizes, 256, 8192) {
         let mut next = [0u16; 256];
         let mut head = [0u16; 8192];
         let mut start = [0u16; 256];
         mark_sources(
             points,
-            depth,
-            count,
+            sizes,
             numbers,
             statements,
             writes,
-            body,
             &mut next,
             &mut head,
             &mut start,
@@ -286,12 +280,10 @@ fn dependences_in_large(
     let mut start = [0u16; POINTS];
     mark_sources(
         points,
-        depth,
-        count,
+        sizes,
         numbers,
         statements,
         writes,
-        body,
         &mut next,
         &mut head,
         &mut start,
@@ -299,84 +291,29 @@ fn dependences_in_large(
     );
 }
 
-// The same of more points or elements: of few, or of many.
-fn dependences_in_more(
-    points: &[i64],
-    depth: usize,
-    count: usize,
-    numbers: &[u16],
-    elements: usize,
-    statements: &[usize],
-    writes: &[bool],
-    body: usize,
-    marks: &mut [bool],
-)
-    requires { ⌜ Ready (flat (now points) depth count (now numbers) (now statements) (now writes) body) (now marks)
-        × NumbersBelow elements (flat (now points) depth count (now numbers) (now statements) (now writes) body) ⌝ }
-    ensures { λ _. ⌜ Searched (flat (now (points .entry)) depth count (now (numbers .entry)) (now (statements .entry)) (now (writes .entry)) body)
-        (now (marks .entry)) (now (marks .exit)) ⌝ }
-{
-    if has_room(count, elements, 256, 1024) {
-        let mut next = [0u16; 256];
-        let mut head = [0u16; 1024];
-        let mut start = [0u16; 256];
-        mark_sources(
-            points,
-            depth,
-            count,
-            numbers,
-            statements,
-            writes,
-            body,
-            &mut next,
-            &mut head,
-            &mut start,
-            marks,
-        );
-        return;
-    }
-    dependences_in_large(
-        points,
-        depth,
-        count,
-        numbers,
-        elements,
-        statements,
-        writes,
-        body,
-        marks,
-    );
-}
-
 // Marks every line that the listing of the nest has. All numbers are below `elements`; fewer points and elements have fewer links and heads to clear.
 pub fn dependences(
     points: &[i64],
-    depth: usize,
-    count: usize,
+    sizes: Sizes,
     numbers: &[u16],
-    elements: usize,
     statements: &[usize],
     writes: &[bool],
-    body: usize,
     marks: &mut [bool],
 )
-    requires { ⌜ Ready (flat (now points) depth count (now numbers) (now statements) (now writes) body) (now marks)
-        × NumbersBelow elements (flat (now points) depth count (now numbers) (now statements) (now writes) body) ⌝ }
-    ensures { λ _. ⌜ Searched (flat (now (points .entry)) depth count (now (numbers .entry)) (now (statements .entry)) (now (writes .entry)) body)
+    requires { ⌜ SearchIn (flat (now points) sizes (now numbers) (now statements) (now writes)) (sizes .elements) (now marks) ⌝ }
+    ensures { λ _. ⌜ Searched (flat (now (points .entry)) sizes (now (numbers .entry)) (now (statements .entry)) (now (writes .entry)))
         (now (marks .entry)) (now (marks .exit)) ⌝ }
 {
-    if has_room(count, elements, 32, 128) {
+    if has_room(sizes, 32, 128) {
         let mut next = [0u16; 32];
         let mut head = [0u16; 128];
         let mut start = [0u16; 32];
         mark_sources(
             points,
-            depth,
-            count,
+            sizes,
             numbers,
             statements,
             writes,
-            body,
             &mut next,
             &mut head,
             &mut start,
@@ -384,15 +321,22 @@ pub fn dependences(
         );
         return;
     }
-    dependences_in_more(
-        points,
-        depth,
-        count,
-        numbers,
-        elements,
-        statements,
-        writes,
-        body,
-        marks,
-    );
+    if has_room(sizes, 256, 1024) {
+        let mut next = [0u16; 256];
+        let mut head = [0u16; 1024];
+        let mut start = [0u16; 256];
+        mark_sources(
+            points,
+            sizes,
+            numbers,
+            statements,
+            writes,
+            &mut next,
+            &mut head,
+            &mut start,
+            marks,
+        );
+        return;
+    }
+    dependences_in_large(points, sizes, numbers, statements, writes, marks);
 }

@@ -53,7 +53,7 @@ returns c = let s = c .before .before .before .before .before .before .before .b
     .before .before in let d = c .before .before .dependences in let e = c .before .before .before .before .before .before .before .before .before
     .before .before .before .before .number-accesses in let u = c .before .before .before .before .before .before .before .before .before .before
     .uses-of in
-    let k = d .kept .1 .1 .1 .1 .1 .1 .1 .1 .0 in (
+    let k = d .kept .1 .1 .1 .1 .1 .0 in (
       lines-are _ (s .args .points .now) (s .args .count) (s .args .marks .now) (s .pre .0) (length (s .args .numbers .now)) (s .pre .1) _
           (e .ensures) (u .result) (u .ensures) _ k (d .ensures),
       k,

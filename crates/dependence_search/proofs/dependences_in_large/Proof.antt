@@ -10,8 +10,7 @@ use Rattle.dependence_search.proofs.dependences_in_large.Statement.{sta
 use Rattle.dependence_search.proofs.dependences_in_large.Tie as tie
 
 abbrev nest : tie.Start → Flat
-nest s = flat (s .args .points .now) (s .args .depth) (s .args .count) (s .args .numbers .now) (s .args .statements .now) (s .args .writes .now)
-    (s .args .body)
+nest s = flat (s .args .points .now) (s .args .sizes) (s .args .numbers .now) (s .args .statements .now) (s .args .writes .now)
 
 has-room-requires : tie.Need-has-room-requires
 has-room-requires c κs = search needs
@@ -28,7 +27,7 @@ slice-aggregate-mark-sources-3 c = search needs
 mark-sources-requires : tie.Need-mark-sources-requires
 mark-sources-requires c κs = let s = c .before .before .before .before .before .before .before .before .before .before
     in let f = c .before .before .before .before .before .has-room .ensures (c .before .before .before .before .if1 .taken)
-    in (s .pre .0, lent-clear (nest s) (s .args .elements) 256 8192 (s .pre .1) (f .0) (f .1) (omega arith))
+    in (s .pre .0, lent-clear (nest s) (s .args .sizes .elements) 256 8192 (s .pre .1) (f .0) (f .1) (omega arith))
 
 same-length : tie.Need-same-length
 same-length c = search needs
@@ -47,7 +46,7 @@ slice-aggregate-mark-sources-6 c = search needs
 
 mark-sources-requires-2 : tie.Need-mark-sources-requires-2
 mark-sources-requires-2 c κs = let s = c .before .before .before .before .before .before .before .before .before .before
-    in (s .pre .0, lent-clear (nest s) (s .args .elements) mostPoints 16384 (s .pre .1) (s .pre .0 .few) (s .pre .1 .few) (omega arith))
+    in (s .pre .0, lent-clear (nest s) (s .args .sizes .elements) mostPoints 16384 (s .pre .1) (s .pre .0 .few) (s .pre .1 .few) (omega arith))
 
 same-length-2 : tie.Need-same-length-2
 same-length-2 c = search needs
