@@ -17,8 +17,7 @@ use Rattle.model.specs.Ticket.{Access, Statement}
 use Rattle.model.specs.Bounds.{violates, accessesOf, inArrays}
 use Rattle.model.specs.Store.{sum}
 use Rattle.nest_flat.specs.Layout.{arraysOf, accessAt, accessesFrom, bodiesFrom}
-use Rattle.nest_elements.specs.Search.{inBodies}
-use Rattle.nest_elements.proofs.ViolationLaws.{in-bodies, body-clear, body-violates}
+use Rattle.nest_elements.proofs.ViolationLaws.{inBodies, in-bodies, body-clear, body-violates}
 
 stopped : {a b : ℕ} → _≡_ {A = Answer (Unit {0})} (refused a b) (accepted tt) → ⊥
 stopped e = let z : _≡_ {A = ℕ} 0 1 = cc in omega arith

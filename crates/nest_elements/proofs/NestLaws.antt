@@ -16,11 +16,12 @@ use Rattle.model.specs.Machine.{element}
 use Rattle.model.specs.Store.{placeOf}
 use Rattle.model.specs.Promises.{Valid}
 use Rattle.model.proofs.Store.PlaceLaws.{element-valid, place-below}
-use Rattle.nest_elements.specs.Search as Elements
 use Rattle.nest_elements.specs.Places as Places
-use Rattle.nest_elements.specs.Places.{placeAt, placesOf, numbered}
+use Rattle.nest_elements.specs.Places.{placeAt, placesOf}
+use Rattle.nest_elements.proofs.ViolationLaws.{inBodies, in-bodies}
+use Rattle.nest_elements.proofs.FindLaws.{SearchIn, Searched}
 use Rattle.nest_elements.proofs.AdmittedLaws.{admitted-inside}
-use Rattle.nest_elements.proofs.NumberLaws.{same-out, stored-place}
+use Rattle.nest_elements.proofs.NumberLaws.{numbered, same-out, stored-place}
 use Rattle.nest_flat.specs.FlatNests.{FlatNest, extentsIn, sizesIn, accessedIn, wordsIn, nestOf, FlatNestIn, accessOf}
 use Rattle.nest_elements.specs.Nests.{NestViolationIn, NestSearched, NestNumberIn, NumbersAre}
 use Rattle.nest_flat.proofs.FlatNestLaws.{bodies-are, access-is, access-fits, accessed-count, sizes-count}
@@ -34,15 +35,16 @@ module _ (P : FlatNest) where
   -- ---- refusal 9
 
   pub search-in : (points : List ℤ) (n : ℕ) → NestViolationIn P points n
-      → Elements.SearchIn (wordsIn P) (accessedIn P) (extentsIn P) (sizesIn P) points (P .depth) n
+      → SearchIn (wordsIn P) (accessedIn P) (extentsIn P) (sizesIn P) points (P .depth) n
   search-in points n h =
       let s = h .flat-nest in let l = accessed-count P s in let k = sizes-count P s in let f = s .few-statements in let e = s .all-accesses in
       record { accesses = s .accesses-ok; statements = omega arith; each = omega arith; stored = h .points-are .stored }
 
   pub search-out : (points : List ℤ) (n r : ℕ) → NestViolationIn P points n
-      → Elements.Searched (wordsIn P) (accessedIn P) (extentsIn P) (sizesIn P) points (P .depth) n r → NestSearched P r
+      → Searched (wordsIn P) (accessedIn P) (extentsIn P) (sizesIn P) points (P .depth) n r → NestSearched P r
   unfolding nestOf
-  search-out points n r h g = g (nestOf P .statements) (bodies-are P (h .flat-nest))
+  search-out points n r h g = g ∙ ap (inBodies (nestOf P .arrays) (rows (P .depth) n points) 1) (sym (bodies-are P (h .flat-nest)))
+      ∙ sym (in-bodies (nestOf P .arrays) (rows (P .depth) n points) 1 (nestOf P .statements))
       ∙ ap (λ (ps : List (List ℤ)). inArrays (nestOf P .arrays) ps 1 (nestOf P .statements)) (h .points-are .are)
 
   -- ---- places

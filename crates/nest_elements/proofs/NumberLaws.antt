@@ -16,7 +16,7 @@ use Rattle.model.specs.Store.{base}
 use Rattle.model.specs.Grammar.{mostAccesses, mostPoints, mostNumbers}
 use Rattle.nest_flat.specs.Layout.{arraysOf, accessAt}
 use Rattle.nest_elements.specs.Forms.{formOf, valueAt, FormIn, PlacedIn}
-use Rattle.nest_elements.specs.Places.{BaseIn, NumberIn, placeAt, placesOf, numbered}
+use Rattle.nest_elements.specs.Places.{BaseIn, NumberIn, placeAt, placesOf}
 use Rattle.nest_elements.proofs.LayoutLaws.{array-in}
 use Rattle.nest_elements.proofs.ElementLaws.{array-fits}
 use Rattle.nest_elements.proofs.PlaceLaws.{PlaceIn, value-is-place, value-in}
@@ -98,6 +98,11 @@ module _ {w : List ℤ} {o a : List ℕ} {points : List ℤ} {depth count room :
 
 -- ---- what is written and what is read back
 
+-- the first m accesses, each w numbers after the one before
+unfoldable pub numbered : ℕ → (ℕ → List ℕ) → ℕ → List ℕ → List ℕ
+numbered w f zero out = out
+numbered w f (suc m) out = put (numbered w f m out) (m * w) (f m)
+
 pub numbered-length : (w : ℕ) (f : ℕ → List ℕ) (m : ℕ) (out : List ℕ) → ((k : ℕ) → k < m → length (f k) ≤ w) → m * w ≤ length out
     → length (numbered w f m out) ≡ length out
 unfolding numbered
@@ -144,6 +149,11 @@ module _ (w : List ℤ) (o a : List ℕ) (points : List ℤ) (depth count : ℕ)
       → e ≡ numbered count (placesOf w o a depth (rows depth count points)) (k + 1) out₀
   unfolding numbered
   next-out k out e f g = g ∙ rw (f, add-one k)
+
+  pub all-out : (k : ℕ) → k ≤ length o → length o ≤ k → (e : List ℕ) → e ≡ numbered count (placesOf w o a depth (rows depth count points)) k out₀
+      → e ≡ numbered count (placesOf w o a depth (rows depth count points)) (length o) out₀
+  all-out k l m e f = let z : k ≡ length o = omega arith in
+      f ∙ ap (λ (j : ℕ). numbered count (placesOf w o a depth (rows depth count points)) j out₀) z
 
   -- what stands for access k at point i
   pub stored-place : (e : List ℕ) → e ≡ numbered count (placesOf w o a depth (rows depth count points)) (length o) out₀ → (k i : ℕ) → k < length o

@@ -1,6 +1,6 @@
 -- Refusal 9, dimension by dimension, access by access and statement by statement: one more of each, and what was found stays found.
 use mathlib.Core.Path.{_≡_, refl, sym, _∙_, ap, ap₂, subst}
-use mathlib.Core.Bool.{Bool, true, false, _||_, or-false, or-assoc}
+use mathlib.Core.Bool.{Bool, true, false, _||_, not, or-false, or-assoc}
 use mathlib.Core.Logic.{⊎-elim}
 use mathlib.Core.List.{List, [], _∷_, _++_, map, map-append}
 use Prim.Native.Nat.{ℕ, zero, suc, _+_, _*_, _≤_, _<_}
@@ -11,11 +11,11 @@ use lib.ListN.{length, getD, take, length-map}
 use lib.Seq.{take-suc, take-length, length-take-le}
 use Rattle.lists.specs.Tests.{any}
 use Rattle.lists.proofs.TestLaws.{any-join, any-none}
-use Rattle.model.specs.Answer.{accepted, refused, require, _>>_, _>>=_}
+use Rattle.model.specs.Answer.{Answer, accepted, refused, require, _>>_, _>>=_}
 use Rattle.model.specs.Ticket.{Access, Statement}
 use Rattle.model.specs.Bounds.{subscriptAt, outside, violates, accessesOf, inArrays}
 use Rattle.nest_flat.specs.Layout.{extentsAt, arraysOf, formAt, formsFrom, accessAt, accessesFrom, AccessesOk}
-use Rattle.nest_elements.specs.Search.{off, violatesAt, inBodies}
+use Rattle.nest_elements.specs.Search.{off, violatesAt}
 use Rattle.nest_elements.proofs.LayoutLaws.{array-in, extents-are, extents-length, forms-snoc, forms-length, accesses-snoc}
 
 -- ---- tests of all points
@@ -111,6 +111,11 @@ module _ (w : List ℤ) (o a : List ℕ) (n : ℕ) (ps : List (List ℤ)) (ok : 
       ∙ any-or (λ p. any (violates (arraysOf a) p) (accessesFrom w o a n k i)) (λ p. violates (arraysOf a) p (accessAt w o a n (k + i))) ps
 
 -- ---- statements
+
+-- refusal 9 over the accesses of each statement, from number k on
+unfoldable pub inBodies : List (List ℕ) → List (List ℤ) → ℕ → List (List Access) → Answer (Unit {0})
+inBodies as′ ps k [] = accepted tt
+inBodies as′ ps k (b ∷ bs) = require (not (any (λ p. any (violates as′ p) b) ps)) 9 k >> inBodies as′ ps (suc k) bs
 
 module _ (as′ : List (List ℕ)) (ps : List (List ℤ)) where
   pub in-bodies : (k : ℕ) (ss : List Statement) → inArrays as′ ps k ss ≡ inBodies as′ ps k (map accessesOf ss)

@@ -14,7 +14,7 @@ use Rattle.model.specs.Grammar.{elements, total, extents}
 use Rattle.model.specs.Bounds.{subscriptAt, outside, violates}
 use Rattle.model.specs.Store.{sum}
 use Rattle.nest_flat.specs.Layout.{extentsAt, arraysFrom, arraysOf, formAt, formsFrom, accessAt, AccessesOk}
-use Rattle.nest_elements.specs.Search.{SearchIn}
+use Rattle.nest_elements.proofs.FindLaws.{SearchIn}
 use Rattle.nest_points.specs.Stored.{RowsIn}
 use Rattle.nest_elements.specs.Places.{NumberIn}
 

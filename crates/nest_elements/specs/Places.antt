@@ -1,12 +1,12 @@
--- The place in the store of every access at every point, and how these numbers are stored: those of one access after those of another.
+-- The place in the store of every access at every point.
 use mathlib.Core.Path.{_≡_}
 use mathlib.Core.Bool.{false}
 use mathlib.Core.List.{List, map}
-use Prim.Native.Nat.{ℕ, zero, suc, _*_, _≤_, _<_}
+use Prim.Native.Nat.{ℕ, _*_, _≤_, _<_}
 use lib.IntN.{ℤ}
 use lib.ListN.{length}
 use Rattle.lists.specs.Membership.{All}
-use Rattle.lists.specs.Parts.{rows, put}
+use Rattle.lists.specs.Parts.{rows}
 use Rattle.model.specs.Grammar.{total, arrayRoom, mostElements}
 use Rattle.model.specs.Bounds.{violates}
 use Rattle.model.specs.Machine.{element}
@@ -31,11 +31,6 @@ placeAt w o a n k p = placeOf (arraysOf a) (element p (accessAt w o a n k))
 -- the places of access k at all points
 unfoldable pub placesOf : List ℤ → List ℕ → List ℕ → ℕ → List (List ℤ) → ℕ → List ℕ
 placesOf w o a n ps k = map (placeAt w o a n k) ps
-
--- the first m accesses, each w numbers after the one before
-unfoldable pub numbered : ℕ → (ℕ → List ℕ) → ℕ → List ℕ → List ℕ
-numbered w f zero out = out
-numbered w f (suc m) out = put (numbered w f m out) (m * w) (f m)
 
 -- stored points at which no access leaves its array, and room
 pub record NumberIn (w : List ℤ) (o a : List ℕ) (points : List ℤ) (depth count room : ℕ) : Type 0 where

@@ -13,9 +13,9 @@ ghost use Rattle.model.specs.Entries.{transparent};
 ghost use Rattle.nest_index_range.specs.Ranges.{Narrow};
 ghost use Rattle.nest_flat.specs.Layout.{extentsAt, arraysOf, ArrayIn};
 ghost use Rattle.nest_flat.specs.FlatNests.{flatNest, nestOf, FlatNestIn};
-ghost use Rattle.nest_elements.specs.Search.{off, violatesAt, ViolationIn, SearchIn, Searched};
+ghost use Rattle.nest_elements.specs.Search.{off, violatesAt, ViolationIn};
 ghost use Rattle.nest_elements.specs.Forms.{wordsAt, folded, raised, formOf, valueAt, FoldIn, FormIn, ValueIn, PlacedIn};
-ghost use Rattle.nest_elements.specs.Places.{BaseIn, TotalIn, NumberIn, placesOf, numbered};
+ghost use Rattle.nest_elements.specs.Places.{BaseIn, NumberIn, placesOf};
 ghost use Rattle.nest_elements.specs.Nests.{NestViolationIn, NestSearched, opaqueAt, NestNumberIn, NumbersAre};
 use model::ACCESS_ROOM;
 use model::ARRAY_ROOM;
@@ -82,46 +82,6 @@ fn violates(
     false
 }
 
-// The number of the first statement that has a subscript which leaves its extent at some point, or 0.
-fn search_statements(
-    words: &[i16],
-    accessed: &[usize],
-    arrays: &[usize],
-    sizes: &[usize],
-    points: &[i64],
-    depth: usize,
-    count: usize,
-) -> usize
-    requires { ⌜ SearchIn (now words) (now accessed) (now arrays) (now sizes) (now points) depth count ⌝ }
-    ensures { λ r. ⌜ Searched (now (words .entry)) (now (accessed .entry)) (now (arrays .entry)) (now (sizes .entry)) (now (points .entry)) depth
-        count r ⌝ }
-{
-    let mut found = 0;
-    let mut first = 0;
-    let mut statement = 0;
-    'search: while statement < sizes.len() {
-        let n = sizes[statement];
-        let mut i = 0;
-        'accesses: while i < n {
-            let k = first + i;
-            let at = accessed[k] * ARRAY_ROOM;
-            let dimensions = arrays[at];
-            let mut d = 0;
-            'dimensions: while d < dimensions {
-                if violates(words, k * 3 + d, arrays[at + 1 + d], points, depth, count) {
-                    found = statement + 1;
-                    break 'search;
-                }
-                d += 1;
-            }
-            i += 1;
-        }
-        first += n;
-        statement += 1;
-    }
-    found
-}
-
 // The number of elements of array i.
 fn elements_of(arrays: &[usize], i: usize) -> usize
     requires { ⌜ ArrayIn (now arrays) i ⌝ }
@@ -147,20 +107,6 @@ pub fn base_of(arrays: &[usize], i: usize) -> usize
     while j < i {
         r += elements_of(arrays, j);
         j += 1;
-    }
-    r
-}
-
-// The number of elements of all n arrays.
-pub fn total_of(arrays: &[usize], n: usize) -> usize
-    requires { ⌜ TotalIn (now arrays) n ⌝ }
-    ensures { λ r. ⌜ r ≡ total (arraysOf (now (arrays .entry))) ⌝ }
-{
-    let mut r = 0;
-    let mut i = 0;
-    while i < n {
-        r += elements_of(arrays, i);
-        i += 1;
     }
     r
 }
@@ -253,27 +199,6 @@ fn number_access(
     }
 }
 
-// Writes the place of every access at every point, those of one access after those of another.
-fn number_all(
-    words: &[i16],
-    accessed: &[usize],
-    arrays: &[usize],
-    points: &[i64],
-    depth: usize,
-    count: usize,
-    out: &mut [u16],
-)
-    requires { ⌜ NumberIn (now words) (now accessed) (now arrays) (now points) depth count (length (now out)) ⌝ }
-    ensures { λ _. ⌜ now (out .exit) ≡ numbered count (placesOf (now (words .entry)) (now (accessed .entry)) (now (arrays .entry)) depth
-        (rows depth count (now (points .entry)))) (length (now (accessed .entry))) (now (out .entry)) ⌝ }
-{
-    let mut k = 0;
-    while k < accessed.len() {
-        number_access(words, accessed, arrays, k, points, depth, count, out);
-        k += 1;
-    }
-}
-
 // The number of the first statement that has a subscript which leaves its extent at some point, or 0.
 pub fn find_violation(
     header: Header,
@@ -290,15 +215,34 @@ pub fn find_violation(
     let sizes = header.sizes;
     let depth = header.depth;
     let accesses = header.accesses;
-    search_statements(
-        &words[..accesses * ACCESS_ROOM],
-        &accessed[..accesses],
-        &extents[..header.arrays * ARRAY_ROOM],
-        &sizes[..header.statements],
-        points,
-        depth,
-        count,
-    )
+    let words = &words[..accesses * ACCESS_ROOM];
+    let accessed = &accessed[..accesses];
+    let extents = &extents[..header.arrays * ARRAY_ROOM];
+    let sizes = &sizes[..header.statements];
+    let mut found = 0;
+    let mut first = 0;
+    let mut statement = 0;
+    'search: while statement < sizes.len() {
+        let n = sizes[statement];
+        let mut i = 0;
+        'accesses: while i < n {
+            let k = first + i;
+            let at = accessed[k] * ARRAY_ROOM;
+            let dimensions = extents[at];
+            let mut d = 0;
+            'dimensions: while d < dimensions {
+                if violates(words, k * 3 + d, extents[at + 1 + d], points, depth, count) {
+                    found = statement + 1;
+                    break 'search;
+                }
+                d += 1;
+            }
+            i += 1;
+        }
+        first += n;
+        statement += 1;
+    }
+    found
 }
 
 // The number of elements of all arrays.
@@ -308,7 +252,14 @@ pub fn elements_in(header: Header, limits: &[i16], words: &[i16]) -> usize
 {
     let extents = header.extents;
     let arrays = header.arrays;
-    total_of(&extents[..arrays * ARRAY_ROOM], arrays)
+    let extents = &extents[..arrays * ARRAY_ROOM];
+    let mut r = 0;
+    let mut i = 0;
+    while i < arrays {
+        r += elements_of(extents, i);
+        i += 1;
+    }
+    r
 }
 
 // The number of the first statement with rule 0, from 1, or 0.
@@ -344,13 +295,12 @@ pub fn number_accesses(
     let extents = header.extents;
     let depth = header.depth;
     let accesses = header.accesses;
-    number_all(
-        &words[..accesses * ACCESS_ROOM],
-        &accessed[..accesses],
-        &extents[..header.arrays * ARRAY_ROOM],
-        points,
-        depth,
-        count,
-        numbers,
-    );
+    let words = &words[..accesses * ACCESS_ROOM];
+    let accessed = &accessed[..accesses];
+    let extents = &extents[..header.arrays * ARRAY_ROOM];
+    let mut k = 0;
+    while k < accessed.len() {
+        number_access(words, accessed, extents, k, points, depth, count, numbers);
+        k += 1;
+    }
 }

@@ -17,10 +17,11 @@ use Rattle.model.specs.Points.{points, partialPoints, iterations}
 use Rattle.model.specs.Bounds.{survey}
 use Rattle.nest_points.specs.declared.Tally.{Tally}
 use Rattle.nest_flat.specs.Flat.{NestOk, loopsFrom}
-use Rattle.nest_points.specs.Tallies.{capped, seen, TallyIn, Tallied}
+use Rattle.nest_flat.specs.FlatNests.{FlatNest, nestOf, FlatNestIn}
+use Rattle.nest_points.specs.Tallies.{capped, seen, Bounded, TallyIn, Tallied}
 use Rattle.nest_points.specs.declared.SpaceCheck.{SpaceCheck}
 use Rattle.nest_points.specs.declared.SpaceCheck.the-variants.{Admitted, IndexTooLarge, CountTooLarge}
-use Rattle.nest_points.specs.Surveys.{SurveyIn, Surveyed}
+use Rattle.nest_points.specs.Nests.{NestSurveyed}
 use Rattle.nest_points.proofs.ThroughLaws.{loops-length, loops-take, partial-are}
 use Rattle.nest_points.proofs.TallyLaws.{capped-test}
 use Rattle.nest_points.proofs.SurveyLaws.{farAmong, Passes, survey-far, survey-many, survey-skip, survey-done, near-passed}
@@ -55,108 +56,120 @@ blank = record { far = false; count = 0 }
 abbrev pub Passed : ℕ → ℕ → List Loop → ℕ → Type 0
 Passed bound most N level = (j : ℕ) → 1 ≤ j → j < level → Passes bound most N j
 
-module _ {s : List ℤ} {c : List ℕ} {depth bound most : ℕ} (p : SurveyIn s c depth bound most) {level : ℕ}
-    (passed : Passed bound most (loopsFrom s c 0 depth) level) (some : 1 ≤ level) where
-  module _ (h : level ≤ depth) (point : List ℤ) where
-    passed-part : (j : ℕ) → 1 ≤ j → j ≤ length (loopsFrom s c 0 (level - 1)) → Passes bound most (loopsFrom s c 0 (level - 1)) j
+module _ {P : FlatNest} {bound most : ℕ} (p : FlatNestIn P × Bounded bound most) {level : ℕ}
+    (passed : Passed bound most (loopsFrom (P .limits) (P .counts) 0 (P .depth)) level) (some : 1 ≤ level) where
+  abbrev N : List Loop
+  N = loopsFrom (P .limits) (P .counts) 0 (P .depth)
+
+  depth-is : length N ≡ P .depth
+  depth-is = loops-length (P .limits) (P .counts) 0 (P .depth)
+
+  module _ (h : level ≤ P .depth) (point : List ℤ) where
+    -- the loops outside the last of the level
+    abbrev outer : List Loop
+    outer = loopsFrom (P .limits) (P .counts) 0 (level - 1)
+
+    passed-part : (j : ℕ) → 1 ≤ j → j ≤ length outer → Passes bound most outer j
     unfolding partialPoints
     passed-part j a b =
-        let l = loops-length s c 0 (level - 1) in
-        let e : take j (loopsFrom s c 0 depth) ≡ take j (loopsFrom s c 0 (level - 1)) = loops-take s c 0 j depth (omega arith)
-        ∙ sym (loops-take s c 0 j (level - 1) (omega arith)) in
+        let l = loops-length (P .limits) (P .counts) 0 (level - 1) in
+        let e : take j N ≡ take j outer = loops-take (P .limits) (P .counts) 0 j (P .depth) (omega arith)
+        ∙ sym (loops-take (P .limits) (P .counts) 0 j (level - 1) (omega arith)) in
         let q = passed j a (omega arith) in
         record {
-          near = ap (λ (N : List Loop). farAmong bound (points N [])) (sym e)
+          near = ap (λ (M : List Loop). farAmong bound (points M [])) (sym e)
               ∙ q .near;
-          few = subst (λ (N : List Loop). length (points N []) ≤ most) e (q .few);
+          few = subst (λ (M : List Loop). length (points M []) ≤ most) e (q .few);
         }
 
-    pub tally-in : TallyIn s c 0 level point bound most blank
+    pub tally-in : TallyIn (P .limits) (P .counts) 0 level point bound most blank
     tally-in = record {
-      nest = rw (zero-add level) (nest-part s c depth level (p .nest) h);
+      nest = rw (zero-add level) (nest-part (P .limits) (P .counts) (P .depth) level (p .0 .nest) h);
       some = some;
       small = tt;
-      near = near-passed bound most (loopsFrom s c 0 (level - 1)) passed-part;
-      bounds = p .bounds;
+      near = near-passed bound most outer passed-part;
+      bounds = p .1;
       counted = omega arith;
     }
 
-    module _ {r : Tally} (g : Tallied s c 0 level point bound most blank r) where
-      whole : r ≡ seen bound most blank (partialPoints level (loopsFrom s c 0 depth))
-      whole = g .tallied ∙ ap (seen bound most blank) (partial-are s c level depth h)
+    module _ {r : Tally} (g : Tallied (P .limits) (P .counts) 0 level point bound most blank r) where
+      whole : r ≡ seen bound most blank (partialPoints level N)
+      whole = g .tallied ∙ ap (seen bound most blank) (partial-are (P .limits) (P .counts) level (P .depth) h)
 
-      far-is : r .far ≡ farAmong bound (partialPoints level (loopsFrom s c 0 depth))
+      far-is : r .far ≡ farAmong bound (partialPoints level N)
       unfolding seen
       far-is = ap (λ (a : Tally). a .far) whole
 
-      count-is : r .count ≡ capped most (length (partialPoints level (loopsFrom s c 0 depth)))
+      count-is : r .count ≡ capped most (length (partialPoints level N))
       unfolding seen
-      count-is = ap (λ (a : Tally). a .count) whole ∙ ap (capped most) (zero-add (length (partialPoints level (loopsFrom s c 0 depth))))
+      count-is = ap (λ (a : Tally). a .count) whole ∙ ap (capped most) (zero-add (length (partialPoints level N)))
 
-      test-is : ltb most (r .count) ≡ ltb most (length (partialPoints level (loopsFrom s c 0 depth)))
-      test-is = ap (ltb most) count-is ∙ capped-test most (length (partialPoints level (loopsFrom s c 0 depth)))
+      test-is : ltb most (r .count) ≡ ltb most (length (partialPoints level N))
+      test-is = ap (ltb most) count-is ∙ capped-test most (length (partialPoints level N))
 
-      pub passes : r .far ≡ false → r .count ≤ most → Passed bound most (loopsFrom s c 0 depth) (level + 1)
-      passes e f j a b = ⊎-elim (λ (q : j ≡ level). subst (Passes bound most (loopsFrom s c 0 depth)) (sym q) here)
+      pub passes : r .far ≡ false → r .count ≤ most → Passed bound most N (level + 1)
+      passes e f j a b = ⊎-elim (λ (q : j ≡ level). subst (Passes bound most N) (sym q) here)
           (λ (q : j < level). passed j a q) (eq-or-lt-of-le (at-most j b))
         where
           at-most : (j : ℕ) → j < level + 1 → j ≤ level
           at-most j b = omega arith
 
-          here : Passes bound most (loopsFrom s c 0 depth) level
+          here : Passes bound most N level
           here = record {
             near = sym far-is ∙ e;
-            few = ltb-false most (length (partialPoints level (loopsFrom s c 0 depth)))
+            few = ltb-false most (length (partialPoints level N))
                 (sym test-is ∙ le-ltb most (r .count) f);
           }
 
-      pub counts : r .count ≤ most → r .count ≡ length (partialPoints (level + 1 - 1) (loopsFrom s c 0 depth))
+      pub counts : r .count ≤ most → r .count ≡ length (partialPoints (level + 1 - 1) N)
       unfolding capped
       counts f =
           let e : level ≡ level + 1 - 1 = omega arith in
-          count-is ∙ ap (λ (b : Bool). cond b (suc most) (length (partialPoints level (loopsFrom s c 0 depth))))
-          (sym test-is ∙ le-ltb most (r .count) f) ∙ ap (λ (j : ℕ). length (partialPoints j (loopsFrom s c 0 depth))) e
+          count-is ∙ ap (λ (b : Bool). cond b (suc most) (length (partialPoints level N)))
+          (sym test-is ∙ le-ltb most (r .count) f) ∙ ap (λ (j : ℕ). length (partialPoints j N)) e
 
       module _ (far many : ℕ) where
-        skipped : survey far many bound most (loopsFrom s c 0 depth) 1 depth ≡ survey far many bound most (loopsFrom s c 0 depth) level
-            (suc (depth - level))
+        skipped : survey far many bound most N 1 (length N) ≡ survey far many bound most N level (suc (P .depth - level))
         skipped =
-            let a : depth ≡ (level - 1) + suc (depth - level) = omega arith in
+            let d = depth-is in
+            let a : length N ≡ (level - 1) + suc (P .depth - level) = omega arith in
             let b : 1 + (level - 1) ≡ level = omega arith in
-            ap (survey far many bound most (loopsFrom s c 0 depth) 1) a
-            ∙ survey-skip far many bound most (loopsFrom s c 0 depth) 1 (level - 1) (suc (depth - level)) (λ j x y. passed j x (omega arith))
-            ∙ ap (λ (l : ℕ). survey far many bound most (loopsFrom s c 0 depth) l (suc (depth - level))) b
+            ap (survey far many bound most N 1) a
+            ∙ survey-skip far many bound most N 1 (level - 1) (suc (P .depth - level)) (λ j x y. passed j x (omega arith))
+            ∙ ap (λ (l : ℕ). survey far many bound most N l (suc (P .depth - level))) b
 
-        far-answer : r .far ≡ true → refused far level ≡ survey far many bound most (loopsFrom s c 0 depth) 1 depth
-        far-answer e = sym (skipped ∙ survey-far far many bound most (loopsFrom s c 0 depth) level (depth - level) (sym far-is ∙ e))
+        far-answer : r .far ≡ true → refused far level ≡ survey far many bound most N 1 (length N)
+        far-answer e = sym (skipped ∙ survey-far far many bound most N level (P .depth - level) (sym far-is ∙ e))
 
-        many-answer : r .far ≡ false → most < r .count → refused many level ≡ survey far many bound most (loopsFrom s c 0 depth) 1 depth
-        many-answer e f = sym (skipped ∙ survey-many far many bound most (loopsFrom s c 0 depth) level (depth - level) (sym far-is ∙ e)
-            (ltb-true most (length (partialPoints level (loopsFrom s c 0 depth))) (sym test-is ∙ lt-ltb most (r .count) f)))
+        many-answer : r .far ≡ false → most < r .count → refused many level ≡ survey far many bound most N 1 (length N)
+        many-answer e f = sym (skipped ∙ survey-many far many bound most N level (P .depth - level) (sym far-is ∙ e)
+            (ltb-true most (length (partialPoints level N)) (sym test-is ∙ lt-ltb most (r .count) f)))
 
-      pub far-out : r .far ≡ true → Surveyed s c depth bound most (IndexTooLarge level)
-      unfolding refuses
+      pub far-out : r .far ≡ true → NestSurveyed P bound most (IndexTooLarge level)
+      unfolding refuses nestOf
       far-out e = record { same = λ far many. far-answer far many e; count = λ n z. absurd (subst refuses z tt) }
 
-      pub many-out : r .far ≡ false → most < r .count → Surveyed s c depth bound most (CountTooLarge level)
-      unfolding refuses
+      pub many-out : r .far ≡ false → most < r .count → NestSurveyed P bound most (CountTooLarge level)
+      unfolding refuses nestOf
       many-out e f = record { same = λ far many. many-answer far many e f; count = λ n z. absurd (subst refuses z tt) }
 
-  admitted-answer : (far many : ℕ) → level ≡ depth + 1 → accepted tt ≡ survey far many bound most (loopsFrom s c 0 depth) 1 depth
-  admitted-answer far many e =
-      sym (ap (survey far many bound most (loopsFrom s c 0 depth) 1) (sym (add-zero depth))
-      ∙ survey-skip far many bound most (loopsFrom s c 0 depth) 1 depth 0 (λ j x y. passed j x (omega arith))
-      ∙ survey-done far many bound most (loopsFrom s c 0 depth) (1 + depth))
+  module _ (e : level ≡ P .depth + 1) where
+    admitted-answer : (far many : ℕ) → accepted tt ≡ survey far many bound most N 1 (length N)
+    admitted-answer far many =
+        let d = depth-is in
+        sym (ap (survey far many bound most N 1) (sym (add-zero (length N)))
+        ∙ survey-skip far many bound most N 1 (length N) 0 (λ j x y. passed j x (omega arith))
+        ∙ survey-done far many bound most N (1 + length N))
 
-  -- `n` points of the depth before the level, which is the last
-  pub admitted-out : (n : ℕ) → level ≡ depth + 1 → (1 < level → n ≡ length (partialPoints (level - 1) (loopsFrom s c 0 depth)))
-      → Surveyed s c depth bound most (Admitted n)
-  unfolding partialPoints iterations counted-in
-  admitted-out n e h = record {
-    same = λ far many. admitted-answer far many e;
-    count = λ m z d.
-        let l = loops-length s c 0 depth in
-        let k : level - 1 ≡ length (loopsFrom s c 0 depth) = omega arith in
-        sym (ap counted-in z) ∙ h (omega arith) ∙ ap (λ (j : ℕ). length (points (take j (loopsFrom s c 0 depth)) [])) k
-        ∙ ap (λ (N : List Loop). length (points N [])) (take-length (loopsFrom s c 0 depth));
-  }
+    -- `n` points of the depth before the level, which is the last
+    pub admitted-out : (n : ℕ) → (1 < level → n ≡ length (partialPoints (level - 1) N)) → NestSurveyed P bound most (Admitted n)
+    unfolding partialPoints iterations counted-in nestOf
+    admitted-out n h = record {
+      same = admitted-answer;
+      count = λ m z.
+          let s = p .0 .some in
+          let d = depth-is in
+          let k : level - 1 ≡ length N = omega arith in
+          sym (ap counted-in z) ∙ h (omega arith) ∙ ap (λ (j : ℕ). length (points (take j N) [])) k
+          ∙ ap (λ (M : List Loop). length (points M [])) (take-length N);
+    }

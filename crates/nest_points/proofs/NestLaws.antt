@@ -1,54 +1,75 @@
--- The survey and the points of a flat nest are those of the nest that it stands for.
-use mathlib.Core.Path.{_≡_, sym, _∙_, ap}
-use mathlib.Core.List.{List}
-use Prim.Native.Nat.{ℕ}
+-- The points that `list_points` lists of a flat nest are those of the nest that it stands for.
+use mathlib.Core.Path.{_≡_, refl, sym, _∙_, ap, subst}
+use mathlib.Core.List.{List, []}
+use Prim.Native.Nat.{ℕ, _*_, _/_}
+use native.Mathlib.Omega.{arith}
+use native.Mathlib.Nat.{zero-add, mul-div-cancel}
 use lib.IntN.{ℤ}
 use lib.ListN.{length}
-use Rattle.model.specs.Bounds.{survey}
-use Rattle.nest_points.specs.Surveys as Space
-use Rattle.nest_points.specs.Stored.{PointsIn, Listed, RowsIn}
-use Rattle.nest_points.specs.declared.SpaceCheck.{SpaceCheck}
+use Rattle.lists.specs.Membership.{All}
+use Rattle.lists.specs.Parts.{rows, put}
+use Rattle.lists.proofs.PartLaws.{length-put}
+use Rattle.integers.specs.Affine.{Within}
+use Rattle.model.specs.Ticket.{Loop}
+use Rattle.model.specs.Points.{iterations}
+use Rattle.nest_flat.specs.FlatNests.{FlatNest, nestOf}
+use Rattle.nest_points.specs.Tallies.{through}
+use Rattle.nest_points.specs.Stored.{joined, CollectIn, Collected}
+use Rattle.nest_points.specs.Nests.{ListIn, PointsAre}
 use Rattle.nest_points.proofs.ThroughLaws.{loops-length}
-use Rattle.nest_points.proofs.ListLaws.{listed-near, listed-room}
-use Rattle.nest_flat.specs.FlatNests.{FlatNest, nestOf, FlatNestIn}
-use Rattle.nest_points.specs.Nests.{NestSurveyed, ListIn, PointsAre}
-
-pub listed-rows : (s : List ℤ) (c : List ℕ) (depth : ℕ) (o e : List ℤ) (r : ℕ) → PointsIn s c depth (length o) → Listed s c depth o e r
-    → RowsIn e depth r
-listed-rows s c depth o e r p g = record {
-  few = p .nest .shallow;
-  bound = g .few;
-  room = listed-room s c depth o e r p g .1;
-  near = listed-near s c depth (length o) o e r p g;
-}
+use Rattle.nest_points.proofs.ListLaws.{words, all-points, rows-are, points-near}
 
 module _ (P : FlatNest) where
-  -- ---- survey
-
   pub depth-is : length (nestOf P .loops) ≡ P .depth
   unfolding nestOf
   depth-is = loops-length (P .limits) (P .counts) 0 (P .depth)
 
-  pub survey-out : FlatNestIn P → (bound most : ℕ) (r : SpaceCheck) → Space.Surveyed (P .limits) (P .counts) (P .depth) bound most r
-      → NestSurveyed P bound most r
-  unfolding nestOf
-  survey-out s bound most r h = record {
-    same = λ far many. h .same far many ∙ ap (survey far many bound most (nestOf P .loops) 1) (sym depth-is);
-    count = λ n e. h .count n e (s .some);
-  }
+  abbrev N : List Loop
+  N = nestOf P .loops
 
-  -- ---- points
+  taken : length (joined (iterations N)) ≡ length (iterations N) * P .depth
+  taken = words N (P .depth) depth-is
 
-  pub points-in : (room : ℕ) → ListIn P room → PointsIn (P .limits) (P .counts) (P .depth) room
-  unfolding nestOf
-  points-in room h = record { nest = h .flat-nest .nest; some = h .flat-nest .some; near = h .near; few = h .few; fits = h .fits }
+  module _ (o : List ℤ) (h : ListIn P (length o)) where
+    pub list-in : CollectIn (P .limits) (P .counts) 0 (P .depth) [] (length o) 0
+    unfolding nestOf
+    list-in = record {
+      nest = rw (zero-add (P .depth)) (h .flat-nest .nest);
+      stand = refl;
+      some = h .flat-nest .some;
+      small = tt;
+      near = h .near;
+      fits = rw (all-points N) (let t = taken in let f = h .fits in omega arith);
+    }
 
-  pub points-out : (o e : List ℤ) (r : ℕ) → ListIn P (length o) → Listed (P .limits) (P .counts) (P .depth) o e r → PointsAre P e r
-      × (length e ≡ length o)
-  unfolding nestOf
-  points-out o e r h g =
-      let p = points-in (length o) h in (
-        record { count = g .count; are = g .points; stored = listed-rows (P .limits) (P .counts) (P .depth) o e r p g },
-        listed-room (P .limits)
-            (P .counts) (P .depth) o e r p g .0,
+    module _ (e : List ℤ) (r : ℕ) (g : Collected (P .limits) (P .counts) 0 (P .depth) [] o e 0 r) where
+      how-many : r / P .depth ≡ length (iterations N)
+      unfolding nestOf
+      how-many = ap (_/ P .depth) (g .place ∙ zero-add (length (joined (through N [])))
+          ∙ ap (λ (ps : List (List ℤ)). length (joined ps)) (all-points N) ∙ taken) ∙ mul-div-cancel (length (iterations N)) (h .flat-nest .some)
+
+      written : e ≡ put o 0 (joined (iterations N))
+      unfolding nestOf
+      written = g .wrote ∙ ap (λ (ps : List (List ℤ)). put o 0 (joined ps)) (all-points N)
+
+      listed : rows (P .depth) (r / P .depth) e ≡ iterations N
+      listed = rw (how-many, written) (rows-are N (P .depth) depth-is o)
+
+      same-length : length e ≡ length o
+      same-length = ap length written ∙ length-put o 0 (joined (iterations N)) (let t = taken in let f = h .fits in omega arith)
+
+      pub list-out : PointsAre P e (r / P .depth) × (length e ≡ length o)
+      unfolding iterations
+      list-out = (
+        record {
+          count = how-many;
+          are = listed;
+          stored = record {
+            few = h .flat-nest .nest .shallow;
+            bound = rw how-many (h .few);
+            room = rw how-many (let l = same-length in let f = h .fits in omega arith);
+            near = subst (All (Within 100000)) (sym listed) (points-near 100000 N [] (h .near));
+          };
+        },
+        same-length,
       )

@@ -1,13 +1,12 @@
 -- Points stored row by row: what the functions that store them ask and give.
 use mathlib.Core.Path.{_≡_}
-use mathlib.Core.List.{List, [], flatMap}
+use mathlib.Core.List.{List, flatMap}
 use Prim.Native.Nat.{ℕ, _+_, _*_, _≤_}
 use lib.IntN.{ℤ}
 use lib.ListN.{length}
 use Rattle.lists.specs.Membership.{All}
 use Rattle.lists.specs.Parts.{rows, put}
 use Rattle.integers.specs.Affine.{Within}
-use Rattle.model.specs.Points.{iterations}
 use Rattle.model.specs.Grammar.{mostLoops, mostPoints}
 use Rattle.nest_flat.specs.Flat.{NestOk, loopsFrom}
 use Rattle.nest_points.specs.Tallies.{through, Near}
@@ -28,21 +27,6 @@ pub record CollectIn (s : List ℤ) (c : List ℕ) (k left : ℕ) (outer : List 
 pub record Collected (s : List ℤ) (c : List ℕ) (k left : ℕ) (outer o e : List ℤ) (at r : ℕ) : Type 0 where
   pub place : r ≡ at + length (joined (through (loopsFrom s c k left) outer))
   pub wrote : e ≡ put o at (joined (through (loopsFrom s c k left) outer))
-
--- a nest that was surveyed, with at most mostPoints points, and room for them
-pub record PointsIn (s : List ℤ) (c : List ℕ) (depth room : ℕ) : Type 0 where
-  pub nest : NestOk s c depth
-  pub some : 1 ≤ depth
-  pub near : Near 100000 (loopsFrom s c 0 depth) []
-  pub few : length (iterations (loopsFrom s c 0 depth)) ≤ mostPoints
-  pub fits : length (iterations (loopsFrom s c 0 depth)) * depth ≤ room
-
-pub record Listed (s : List ℤ) (c : List ℕ) (depth : ℕ) (o e : List ℤ) (r : ℕ) : Type 0 where
-  pub count : r ≡ length (iterations (loopsFrom s c 0 depth))
-  pub few : r ≤ mostPoints
-  pub points : rows depth r e ≡ iterations (loopsFrom s c 0 depth)
-  -- what stands after the points stays
-  pub wrote : e ≡ put o 0 (joined (iterations (loopsFrom s c 0 depth)))
 
 -- points that stand in a slice row by row, within ±100,000
 pub record RowsIn (points : List ℤ) (depth count : ℕ) : Type 0 where

@@ -10,8 +10,7 @@ ghost use Rattle.nest_flat.specs.Flat.{loopAt};
 ghost use Rattle.nest_flat.specs.FlatNests.{flatNest, FlatNestIn};
 ghost use Rattle.nest_index_range.specs.Ranges.{Narrow};
 ghost use Rattle.nest_points.specs.Tallies.{through, capped, outside, seen, Bounded, IncludeIn, TallyIn, Tallied};
-ghost use Rattle.nest_points.specs.Surveys.{SurveyIn, Surveyed};
-ghost use Rattle.nest_points.specs.Stored.{CollectIn, Collected, PointsIn, Listed};
+ghost use Rattle.nest_points.specs.Stored.{CollectIn, Collected};
 ghost use Rattle.nest_points.specs.Nests.{NestSurveyed, ListIn, PointsAre};
 use nest_flat::Header;
 use nest_index_range::Ends;
@@ -107,17 +106,19 @@ pub enum SpaceCheck {
     CountTooLarge(usize),
 }
 
-// Depth by depth: a partial point whose last index is beyond ±bound, then more than `most` of them.
-fn survey_levels(
-    nest: &[i16],
-    counts: &[usize],
-    depth: usize,
+// Depth by depth, a partial point whose last index is beyond ±bound, then more than `most` of them.
+pub fn survey(
+    header: Header,
+    limits: &[i16],
+    words: &[i16],
     bound: usize,
     most: usize,
 ) -> SpaceCheck
-    requires { ⌜ SurveyIn (now nest) (now counts) depth bound most ⌝ }
-    ensures { λ r. ⌜ Surveyed (now (nest .entry)) (now (counts .entry)) depth bound most r ⌝ }
+    requires { ⌜ FlatNestIn (flatNest header (now limits) (now words)) × Bounded bound most ⌝ }
+    ensures { λ r. ⌜ NestSurveyed (flatNest header (now (limits .entry)) (now (words .entry))) bound most r ⌝ }
 {
+    let counts = header.counts;
+    let depth = header.depth;
     let mut count = 0;
     let mut level = 1;
     while level <= depth {
@@ -126,7 +127,7 @@ fn survey_levels(
             count: 0,
         };
         let mut point = [0; 6];
-        let seen = tally_points(nest, counts, 0, level, &mut point, bound, most, none);
+        let seen = tally_points(limits, &counts, 0, level, &mut point, bound, most, none);
         count = seen.count;
         let far = seen.far;
         let many = most < count;
@@ -211,32 +212,6 @@ fn collect(
     p
 }
 
-// All points of a nest that keeps its bounds, row by row in order; returns how many.
-fn store_points(nest: &[i16], counts: &[usize], depth: usize, out: &mut [i64]) -> usize
-    requires { ⌜ PointsIn (now nest) (now counts) depth (length (now out)) ⌝ }
-    ensures { λ r. ⌜ Listed (now (nest .entry)) (now (counts .entry)) depth (now (out .entry)) (now (out .exit)) r ⌝ }
-{
-    let mut point = [0; 6];
-    let end = collect(nest, counts, 0, depth, &mut point, out, 0);
-    end / depth
-}
-
-// Depth by depth, a partial point whose last index is beyond ±bound, then more than `most` of them.
-pub fn survey(
-    header: Header,
-    limits: &[i16],
-    words: &[i16],
-    bound: usize,
-    most: usize,
-) -> SpaceCheck
-    requires { ⌜ FlatNestIn (flatNest header (now limits) (now words)) × Bounded bound most ⌝ }
-    ensures { λ r. ⌜ NestSurveyed (flatNest header (now (limits .entry)) (now (words .entry))) bound most r ⌝ }
-{
-    let counts = header.counts;
-    let depth = header.depth;
-    survey_levels(limits, &counts, depth, bound, most)
-}
-
 // All points, row by row in order; returns how many.
 pub fn list_points(header: Header, limits: &[i16], words: &[i16], points: &mut [i64]) -> usize
     requires { ⌜ ListIn (flatNest header (now limits) (now words)) (length (now points)) ⌝ }
@@ -245,5 +220,7 @@ pub fn list_points(header: Header, limits: &[i16], words: &[i16], points: &mut [
 {
     let counts = header.counts;
     let depth = header.depth;
-    store_points(limits, &counts, depth, points)
+    let mut point = [0; 6];
+    let end = collect(limits, &counts, 0, depth, &mut point, points, 0);
+    end / depth
 }

@@ -1,28 +1,22 @@
 -- The searches, each left by the first that it finds: an empty range, then a dimension that is apart. What is asked of all is asked of those
--- that are left. Then the whole test.
+-- that are left.
 use mathlib.Core.Path.{_≡_, sym, _∙_, ap}
 use mathlib.Core.Bool.{Bool, true, false, _||_}
-use mathlib.Core.List.{List, [], _∷_, _++_}
-use Prim.Native.Nat.{ℕ, suc, _+_, _*_, _-_, _≤_, _<_}
+use mathlib.Core.List.{List, _∷_, _++_}
+use Prim.Native.Nat.{ℕ, suc, _+_, _-_, _<_}
 use native.Mathlib.Omega.{arith}
-use native.Mathlib.Nat.{div-add-mod}
-use lib.Dec.{eqb}
-use borrow.Author.Tests.{eq-eqb, ne-eqb}
 use lib.IntN.{ℤ}
 use lib.Signed.{ltZ}
-use lib.ListN.{length, getD, drop}
+use lib.ListN.{getD, drop}
 use lib.Seq.{drop-cons}
 use Rattle.lists.specs.Tests.{any}
 use Rattle.model.specs.Quick as Model
-use Rattle.model.specs.Quick.{ranges, neverZero, someApart, isApart}
-use Rattle.model.specs.Grammar.{mostExtents}
-use Rattle.nest_flat.specs.Flat.{loopsFrom}
+use Rattle.model.specs.Quick.{ranges, neverZero, someApart}
 use Rattle.nest_index_range.proofs.LimitLaws.{copied}
-use Rattle.nest_flat.specs.Layout.{formsFrom, accessAt}
+use Rattle.nest_flat.specs.Layout.{formsFrom}
 use Rattle.nest_loop_ranges.specs.declared.Range.{Range}
 use Rattle.nest_loop_ranges.specs.Ranges.{rangeAs, rangesOf, isEmpty, NearRange, RangesIn}
-use Rattle.nest_loop_ranges.specs.Values.{RangesAre}
-use Rattle.nest_quick_test.specs.Differences.{differenceAt, DifferenceIn, FormsIn, TestIn}
+use Rattle.nest_quick_test.specs.Differences.{differenceAt, DifferenceIn, FormsIn}
 use Rattle.nest_loop_ranges.proofs.TermLaws.{copy}
 use Rattle.nest_loop_ranges.proofs.SumLaws.{noRange}
 
@@ -107,37 +101,3 @@ pub no-form-left : (rs : List Model.Range) (w : List ℤ) (u v d n i : ℕ) → 
     → false ≡ someApart rs (formsFrom w n u d) (formsFrom w n v d)
 unfolding someApart formsFrom
 no-form-left rs w u v d n i e q = let z : d - i ≡ 0 = omega arith in sym (q .is ∙ rw z)
-
--- ---- the whole test
-
-module _ (s : List ℤ) (c : List ℕ) (depth : ℕ) (w : List ℤ) (o a : List ℕ) (u v : ℕ) (p : TestIn s c depth w o a u v) where
-  pub apart-arrays : (getD o u 0 ≡ getD o v 0 → ⊥) → true ≡ isApart (loopsFrom s c 0 depth) (accessAt w o a depth u) (accessAt w o a depth v)
-  unfolding isApart accessAt
-  apart-arrays h = let e : eqb (getD o u 0) (getD o v 0) ≡ false = ne-eqb (getD o u 0) (getD o v 0) h in rw e
-
-  module _ (h : getD o u 0 ≡ getD o v 0) (b : List Range) (q : RangesAre s c depth b) (t : Bool) (e : t ≡ any isEmpty (rangesOf depth b)) where
-    same-array : eqb (getD o u 0) (getD o v 0) ≡ true
-    same-array = eq-eqb (getD o u 0) (getD o v 0) h
-
-    empties : any isEmpty (ranges (loopsFrom s c 0 depth)) ≡ t
-    empties = sym (e ∙ rw (q .are))
-
-    pub apart-empty : t ≡ true → true ≡ isApart (loopsFrom s c 0 depth) (accessAt w o a depth u) (accessAt w o a depth v)
-    unfolding isApart accessAt isEmpty
-    apart-empty f = let g = empties ∙ f in rw (same-array, g)
-
-    pub apart-forms : t ≡ false → (r : Bool) → r ≡ someApart (rangesOf depth b) (formsFrom w depth (u * 3) (getD a (getD o u 0 * 4) 0))
-        (formsFrom w depth (v * 3) (getD a (getD o u 0 * 4) 0))
-        → r ≡ isApart (loopsFrom s c 0 depth) (accessAt w o a depth u) (accessAt w o a depth v)
-    unfolding isApart accessAt isEmpty
-    apart-forms f r k = let g = empties ∙ f in k ∙ rw (q .are) (sym (rw (same-array, g, sym h)))
-
-  pub array-there : (getD o u 0 * 4 < length a) × (length a ≤ mostExtents)
-  array-there = let t = p .accesses .there u (p .first) in let d = div-add-mod (length a) 4 in let f = p .accesses .few in (omega arith, f)
-
-  dimensions : getD a (getD o u 0 * 4) 0 ≤ 3
-  dimensions = p .accesses .dimensions (getD o u 0) (p .accesses .there u (p .first))
-
-  pub forms-in : (b : List Range) → RangesIn depth b → FormsIn w (u * 3) (v * 3) (getD a (getD o u 0 * 4) 0) depth b
-  forms-in b r = let d = dimensions in let l = p .accesses .words in let f = p .first in let g = p .second in let m = p .accesses .many in
-      record { small = p .accesses .small; first = omega arith; second = omega arith; ranges = r }

@@ -11,16 +11,16 @@ ghost use Rattle.integers.specs.Difference.{size};
 ghost use Rattle.integers.specs.Gcd.{gcdOf};
 ghost use Rattle.lists.specs.Tests.{any};
 ghost use Rattle.model.specs.Quick.{neverZero, someApart, isApart};
-ghost use Rattle.nest_flat.specs.Flat.{loopsFrom};
-ghost use Rattle.nest_flat.specs.Layout.{formsFrom, accessAt};
+ghost use Rattle.nest_flat.specs.Layout.{formsFrom};
 ghost use Rattle.nest_flat.specs.FlatNests.{flatNest, nestOf, accessOf};
 ghost use Rattle.nest_loop_ranges.specs.Ranges.{rangeAs, rangesOf, isEmpty, NearRange, RangesIn};
-ghost use Rattle.nest_quick_test.specs.Differences.{gcdOnto, differenceAt, leastDifference, greatestDifference, WordsIn, PairIn, DifferenceIn, FormsIn, TestIn};
+ghost use Rattle.nest_quick_test.specs.Differences.{gcdOnto, differenceAt, extremeDifference, WordsIn, PairIn, DifferenceIn, FormsIn};
 ghost use Rattle.nest_quick_test.specs.Nests.{NestTestIn};
 use model::ACCESS_ROOM;
 use model::ARRAY_ROOM;
 use model::LOOPS;
 use nest_flat::Header;
+use nest_index_range::Side;
 use nest_index_range::Whole;
 use nest_loop_ranges::Range;
 
@@ -109,25 +109,22 @@ fn plus_difference(c: Whole, e: Whole, f: Whole) -> Whole
     }
 }
 
-// The least that subscript u less subscript v can be, over two free iterations.
-fn least_difference(words: &[i16], u: usize, v: usize, n: usize, ranges: [Range; LOOPS]) -> Whole
+// The least or the greatest that subscript u less subscript v can be, over two free iterations.
+fn extreme_difference(
+    words: &[i16],
+    u: usize,
+    v: usize,
+    n: usize,
+    ranges: [Range; LOOPS],
+    side: Side,
+) -> Whole
     requires { ⌜ DifferenceIn (now words) u v n ranges ⌝ }
-    ensures { λ r. ⌜ (r .value ≡ leastDifference (now (words .entry)) u v n (rangesOf n ranges)) × (size (r .value) ≤ 34359738368) ⌝ }
+    ensures { λ r. ⌜ (r .value ≡ extremeDifference side (now (words .entry)) u v n (rangesOf n ranges)) × (size (r .value) ≤ 34359738368) ⌝ }
 {
     let c = constant_difference(words, u, v, n);
-    let e = nest_loop_ranges::least_sum(words, u * 8 + 1, n, ranges);
-    let f = nest_loop_ranges::greatest_sum(words, v * 8 + 1, n, ranges);
-    plus_difference(c, e, f)
-}
-
-// The greatest that it can be.
-fn greatest_difference(words: &[i16], u: usize, v: usize, n: usize, ranges: [Range; LOOPS]) -> Whole
-    requires { ⌜ DifferenceIn (now words) u v n ranges ⌝ }
-    ensures { λ r. ⌜ (r .value ≡ greatestDifference (now (words .entry)) u v n (rangesOf n ranges)) × (size (r .value) ≤ 34359738368) ⌝ }
-{
-    let c = constant_difference(words, u, v, n);
-    let e = nest_loop_ranges::greatest_sum(words, u * 8 + 1, n, ranges);
-    let f = nest_loop_ranges::least_sum(words, v * 8 + 1, n, ranges);
+    let e = nest_loop_ranges::extreme_sum(words, u * 8 + 1, n, ranges, side);
+    let other = nest_index_range::other_side(side);
+    let f = nest_loop_ranges::extreme_sum(words, v * 8 + 1, n, ranges, other);
     plus_difference(c, e, f)
 }
 
@@ -152,8 +149,8 @@ fn never_zero(words: &[i16], u: usize, v: usize, n: usize, ranges: [Range; LOOPS
     if !divides(g, c.value) {
         return true;
     }
-    let least = least_difference(words, u, v, n, ranges);
-    let greatest = greatest_difference(words, u, v, n, ranges);
+    let least = extreme_difference(words, u, v, n, ranges, Side::Lower);
+    let greatest = extreme_difference(words, u, v, n, ranges, Side::Upper);
     excludes_zero(least, greatest)
 }
 
@@ -172,53 +169,26 @@ fn some_apart(words: &[i16], u: usize, v: usize, d: usize, n: usize, ranges: [Ra
     false
 }
 
-// Whether accesses first and second, of all, never meet by the quick test: 'apart', or else 'perhaps'.
-fn test_accesses(
-    nest: &[i16],
-    counts: &[usize],
-    depth: usize,
-    words: &[i16],
-    accessed: &[usize],
-    arrays: &[usize],
-    first: usize,
-    second: usize,
-) -> bool
-    requires { ⌜ TestIn (now nest) (now counts) depth (now words) (now accessed) (now arrays) first second ⌝ }
-    ensures { λ r. ⌜ r ≡ isApart (loopsFrom (now (nest .entry)) (now (counts .entry)) 0 depth)
-        (accessAt (now (words .entry)) (now (accessed .entry)) (now (arrays .entry)) depth first)
-        (accessAt (now (words .entry)) (now (accessed .entry)) (now (arrays .entry)) depth second) ⌝ }
-{
-    if accessed[first] != accessed[second] {
-        return true;
-    }
-    let r = nest_loop_ranges::ranges(nest, counts, depth);
-    if some_empty(r, depth) {
-        return true;
-    }
-    let d = arrays[accessed[first] * ARRAY_ROOM];
-    some_apart(words, first * 3, second * 3, d, depth, r)
-}
-
-// Whether two accesses, counted from 0, never meet by the quick test.
+// Whether two accesses, counted from 0, never meet by the quick test: 'apart', or else 'perhaps'.
 pub fn is_apart(header: Header, limits: &[i16], words: &[i16], first: usize, second: usize) -> bool
     requires { ⌜ NestTestIn (flatNest header (now limits) (now words)) first second ⌝ }
     ensures { λ r. ⌜ r ≡ isApart (nestOf (flatNest header (now (limits .entry)) (now (words .entry))) .loops)
         (accessOf (nestOf (flatNest header (now (limits .entry)) (now (words .entry)))) first)
         (accessOf (nestOf (flatNest header (now (limits .entry)) (now (words .entry)))) second) ⌝ }
 {
-    let counts = header.counts;
     let accessed = header.accessed;
-    let extents = header.extents;
+    let array = accessed[first];
+    if array != accessed[second] {
+        return true;
+    }
+    let counts = header.counts;
     let depth = header.depth;
-    let accesses = header.accesses;
-    test_accesses(
-        limits,
-        &counts,
-        depth,
-        &words[..accesses * ACCESS_ROOM],
-        &accessed[..accesses],
-        &extents[..header.arrays * ARRAY_ROOM],
-        first,
-        second,
-    )
+    let r = nest_loop_ranges::ranges(limits, &counts, depth);
+    if some_empty(r, depth) {
+        return true;
+    }
+    let extents = header.extents;
+    let d = extents[array * ARRAY_ROOM];
+    let used = header.accesses * ACCESS_ROOM;
+    some_apart(&words[..used], first * 3, second * 3, d, depth, r)
 }

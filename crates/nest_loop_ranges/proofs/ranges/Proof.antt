@@ -6,10 +6,6 @@ use Rattle.nest_loop_ranges.specs.Values.{RangesAre}
 use Rattle.nest_loop_ranges.proofs.RangeLaws.{none-held, more-held, loops-before}
 use Rattle.nest_loop_ranges.proofs.ranges.Statement.{statement}
 use Rattle.nest_loop_ranges.proofs.ranges.Tie as tie
-use Rattle.nest_loop_ranges.proofs.ranges.Reads as reads
-use Rattle.nest_loop_ranges.proofs.ranges.Lts as lts
-use Rattle.nest_loop_ranges.proofs.greatest_value.Reads as greatest-value-reads
-use Rattle.nest_loop_ranges.proofs.least_value.Reads as least-value-reads
 
 abbrev Inv-loop : tie.InvT-loop
 Inv-loop nest counts n r₀ i₀ r i = (i ≤ n) × RangesAre nest counts i r
@@ -20,12 +16,12 @@ abbrev μ-loop : tie.MeasureT-loop
 loop-holds : tie.Need-loop-holds Inv-loop μ-loop
 loop-holds c = let s = c .before in (omega arith, none-held (s .args .nest .now) (s .args .counts .now) _ refl)
 
-least-value-requires : tie.Need-least-value-requires Inv-loop μ-loop
-least-value-requires c κs = let s = c .before .before .before in loops-before (s .args .nest .now) (s .args .counts .now) (s .args .n)
+extreme-value-requires : tie.Need-extreme-value-requires Inv-loop μ-loop
+extreme-value-requires c κs = let s = c .before .before .before in loops-before (s .args .nest .now) (s .args .counts .now) (s .args .n)
     (c .before .loop .i) (s .pre) (c .loop-test .taken)
 
-greatest-value-requires : tie.Need-greatest-value-requires Inv-loop μ-loop
-greatest-value-requires c κs = let s = c .before .before .before .before in loops-before (s .args .nest .now) (s .args .counts .now) (s .args .n)
+extreme-value-requires-2 : tie.Need-extreme-value-requires-2 Inv-loop μ-loop
+extreme-value-requires-2 c κs = let s = c .before .before .before .before in loops-before (s .args .nest .now) (s .args .counts .now) (s .args .n)
     (c .before .before .loop .i) (s .pre) (c .before .loop-test .taken)
 
 mul-r : tie.Need-mul-r Inv-loop μ-loop
@@ -48,9 +44,9 @@ loop-again : tie.Need-loop-again Inv-loop μ-loop
 loop-again c = let s = c .before .before .before .before .before .before .before in let l = c .before .before .before .before .before .loop
     in let f = s .pre .shallow in let h = c .before .before .before .before .loop-test .taken in (
       omega arith,
-      more-held (s .args .nest .now) (s .args .counts .now) (l .i) (l .r) (c .before .before .before .least-value .result .value)
-          (c .before .before .greatest-value .result .value) (omega arith) (l .inv .1) (c .before .before .before .least-value .ensures)
-          (c .before .before .greatest-value .ensures),
+      more-held (s .args .nest .now) (s .args .counts .now) (l .i) (l .r) (c .before .before .before .extreme-value .result .value)
+          (c .before .before .extreme-value2 .result .value) (omega arith) (l .inv .1) (c .before .before .before .extreme-value .ensures)
+          (c .before .before .extreme-value2 .ensures),
     )
 
 returns : tie.Need-returns Inv-loop μ-loop
@@ -64,8 +60,8 @@ ranges-spec =
     Inv-loop
     μ-loop
     loop-holds
-    least-value-requires
-    greatest-value-requires
+    extreme-value-requires
+    extreme-value-requires-2
     mul-r
     array-set-from-r
     add-i
