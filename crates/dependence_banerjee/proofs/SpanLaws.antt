@@ -129,38 +129,23 @@ module _ (c d : ℤ) (r : Range) (p : SpanIn c d r) where
       last : Contains (rangeAs v) (c *ℤ (r .greatest -ℤ pos 1) -ℤ d *ℤ r .greatest)
       last = subst (Contains (rangeAs v)) (eh ∙ rw (last-is .0, greatest-kept)) (u .new)
 
-  -- ---- >
+-- ---- >: x > y is y < x, with the two terms negated and exchanged
 
-  pub falling-first : TermDifferenceIn c d (copy (copy (r .least) +ℤ pos 1)) (copy (r .least))
-  falling-first = term-difference-at (next-is .1) least-near
-
-  pub falling-middle : TermDifferenceIn c d (copy (r .greatest)) (copy (r .least))
-  falling-middle = term-difference-at greatest-near least-near
-
-  pub falling-last : TermDifferenceIn c d (copy (r .greatest)) (copy (copy (r .greatest) -ℤ pos 1))
-  falling-last = term-difference-at greatest-near (last-is .1)
-
--- x > y is x < y with the two exchanged
 module _ (c d : ℤ) (r : Range) (p : SpanIn c d r) where
   exchanged : (x y : ℤ) → c *ℤ x -ℤ d *ℤ y ≡ negℤ d *ℤ y -ℤ negℤ c *ℤ x
   exchanged x y = lin (c ∷ d ∷ x ∷ y ∷ []) (λ c d x y. c ⊗ x ⊖ d ⊗ y ≐ ⊝ d ⊗ y ⊖ ⊝ c ⊗ x) tt
 
-  exchanged-in : SpanIn (negℤ d) (negℤ c) r
-  exchanged-in = record { source = rw (size-neg d) (p .sink); sink = rw (size-neg c) (p .source); range = p .range }
+  pub falling-in : {e f : ℤ} → e ≡ negℤ d → f ≡ negℤ c → SpanIn e f r
+  falling-in a b = record { source = rw (a, size-neg d) (p .sink); sink = rw (b, size-neg c) (p .source); range = p .range }
 
-  pub falling-spans : (t : Range) {s v : Range} {f g h : ℤ} → f ≡ c *ℤ copy (copy (r .least) +ℤ pos 1) -ℤ d *ℤ copy (r .least) → (t .least ≡ f)
-      × (t .greatest ≡ f)
-      → g ≡ c *ℤ copy (r .greatest) -ℤ d *ℤ copy (r .least) → Widened t g s
-      → h ≡ c *ℤ copy (r .greatest) -ℤ d *ℤ copy (copy (r .greatest) -ℤ pos 1) → Widened s h v → Spans c d r 2 v
+  pub falling-spans : {e f : ℤ} {t : Range} → e ≡ negℤ d → f ≡ negℤ c → Spans e f r 0 t → Spans c d r 2 t
   unfolding digit
-  falling-spans t {s} {v} {f} {g} {h} ef et eg w eh u =
-      let q = rising-spans (negℤ d) (negℤ c) r exchanged-in t (ef ∙ exchanged _ _) et (eg ∙ exchanged _ _) w (eh ∙ exchanged _ _) u in
-      record {
-        low = q .low;
-        high = q .high;
-        holds = λ x y hx hy e. subst (Contains (rangeAs v)) (sym (exchanged x y))
-            (q .holds y x hy hx (ap digit (means-sign less y x (digit-means greater x y e))));
-      }
+  falling-spans {e} {f} {t} a b q = record {
+    low = q .low;
+    high = q .high;
+    holds = λ x y hx hy g. rw (exchanged x y, sym a, sym b)
+        (q .holds y x hy hx (ap digit (means-sign less y x (digit-means greater x y g))));
+  }
 
 -- ---- by the digit
 

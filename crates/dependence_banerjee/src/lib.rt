@@ -9,7 +9,7 @@ use nest_loop_ranges::Range;
 ghost use mathlib.Core.Path.{_≡_};
 ghost use mathlib.Core.Bool.{true};
 ghost use Prim.Native.Nat.{_≤_, _<_};
-ghost use lib.IntN.{_+ℤ_, _-ℤ_, _*ℤ_};
+ghost use lib.IntN.{negℤ, _+ℤ_, _-ℤ_, _*ℤ_};
 ghost use lib.Signed.{leZ};
 ghost use Rattle.integers.specs.Difference.{size};
 ghost use Rattle.model.specs.Grammar.{mostLoops};
@@ -106,14 +106,19 @@ fn less_span(c: Whole, d: Whole, r: Range) -> Range
     include_value(s, term_difference(c, r.greatest - 1, d, r.greatest))
 }
 
-// What it can be where the source's index is the greater.
+fn negated(z: Whole) -> Whole
+    requires { ⌜ size (z .value) ≤ 98301 ⌝ }
+    ensures { λ r. ⌜ r .value ≡ negℤ (z .value) ⌝ }
+{
+    Whole { value: 0 - z.value }
+}
+
+// What it can be where the source's index is the greater: c x - d y is (-d) y - (-c) x.
 fn greater_span(c: Whole, d: Whole, r: Range) -> Range
     requires { ⌜ SpanIn (c .value) (d .value) r ⌝ }
     ensures { λ t. ⌜ Spans (c .value) (d .value) r 2 t ⌝ }
 {
-    let t = single_value(term_difference(c, r.least + 1, d, r.least));
-    let s = include_value(t, term_difference(c, r.greatest, d, r.least));
-    include_value(s, term_difference(c, r.greatest, d, r.greatest - 1))
+    less_span(negated(d), negated(c), r)
 }
 
 // By the digit of a sign: 0 is <, 1 is = and 2 is >.

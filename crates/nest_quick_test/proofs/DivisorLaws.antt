@@ -46,7 +46,7 @@ module _ (a : ℤ) (h : size a ≤ 34359738368) where
   pub neg-fits : SFits w64 (pos 0 -ℤ copy a)
   neg-fits = rw negated neg-size
 
-  neg-copy : copy (pos 0 -ℤ copy a) ≡ negℤ a
+  pub neg-copy : copy (pos 0 -ℤ copy a) ≡ negℤ a
   neg-copy = back neg-fits ∙ negated
 
   pub neg-cast : ltZ (copy a) (pos 0) ≡ true → T (nonNeg (copy (pos 0 -ℤ copy a))) × Fits w64 (natAbs (copy (pos 0 -ℤ copy a)))

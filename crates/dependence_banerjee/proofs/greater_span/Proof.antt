@@ -1,57 +1,22 @@
--- `greater_span`: the three corners of the triangle.
-use Rattle.dependence_banerjee.proofs.SpanLaws.{next-fits, last-fits, falling-first, falling-middle, falling-last, falling-spans}
+-- `greater_span`: by `less_span` of the two terms negated and exchanged.
+use Rattle.dependence_banerjee.proofs.SpanLaws.{falling-in, falling-spans}
 use borrow.Author.Needs.{needs}
 use Rattle.dependence_banerjee.proofs.greater_span.Statement.{statement}
 use Rattle.dependence_banerjee.proofs.greater_span.Tie as tie
 
-add-term-difference : tie.Need-add-term-difference
-add-term-difference c = let s = c .before .before in next-fits (s .args .c .value) (s .args .d .value) (s .args .r) (s .pre)
+negated-requires : tie.Need-negated-requires
+negated-requires c κs = search needs
 
-term-difference-requires : tie.Need-term-difference-requires
-term-difference-requires c κs = let s = c .before .before .before in falling-first (s .args .c .value) (s .args .d .value) (s .args .r) (s .pre)
+negated-requires-2 : tie.Need-negated-requires-2
+negated-requires-2 c κs = search needs
 
-single-value-requires : tie.Need-single-value-requires
-single-value-requires c κs = search needs
-
-term-difference-requires-2 : tie.Need-term-difference-requires-2
-term-difference-requires-2 c κs = let s = c .before .before .before .before .before .before .before in falling-middle (s .args .c .value)
-    (s .args .d .value) (s .args .r) (s .pre)
-
-include-value-requires : tie.Need-include-value-requires
-include-value-requires c κs = search needs
-
-sub-term-difference : tie.Need-sub-term-difference
-sub-term-difference c = let s = c .before .before .before .before .before .before .before .before .before .before .before in last-fits
-    (s .args .c .value) (s .args .d .value) (s .args .r) (s .pre)
-
-term-difference-requires-3 : tie.Need-term-difference-requires-3
-term-difference-requires-3 c κs = let s = c .before .before .before .before .before .before .before .before .before .before .before .before
-    in falling-last (s .args .c .value) (s .args .d .value) (s .args .r) (s .pre)
-
-include-value-requires-2 : tie.Need-include-value-requires-2
-include-value-requires-2 c κs = search needs
+less-span-requires : tie.Need-less-span-requires
+less-span-requires c κs = let s = c .before .before in falling-in (s .args .c .value) (s .args .d .value) (s .args .r) (s .pre)
+    (c .before .negated .ensures) (c .negated2 .ensures)
 
 returns : tie.Need-returns
-returns c = let s = c .before .before .before .before .before .before .before .before .before .before .before .before .before .before
-    in falling-spans (s .args .c .value) (s .args .d .value) (s .args .r) (s .pre)
-    (c .before .before .before .before .before .before .before .before .before .single-value .result)
-    (c .before .before .before .before .before .before .before .before .before .before .term-difference .ensures .0) (
-      c .before .before .before .before .before .before .before .before .before .single-value .ensures .1,
-      c .before .before .before .before .before .before .before .before .before .single-value .ensures .2,
-    )
-    (c .before .before .before .before .before .before .term-difference2 .ensures .0)
-    (c .before .before .before .before .before .include-value .ensures) (c .before .term-difference3 .ensures .0) (c .include-value2 .ensures)
+returns c = let s = c .before .before .before in falling-spans (s .args .c .value) (s .args .d .value) (s .args .r) (s .pre)
+    (c .before .before .negated .ensures) (c .before .negated2 .ensures) (c .less-span .ensures)
 
 pub greater-span-spec : {M : Type 1} → statement M
-greater-span-spec =
-    tie.close
-    (tie.spec
-    add-term-difference
-    term-difference-requires
-    single-value-requires
-    term-difference-requires-2
-    include-value-requires
-    sub-term-difference
-    term-difference-requires-3
-    include-value-requires-2
-    returns)
+greater-span-spec = tie.close (tie.spec negated-requires negated-requires-2 less-span-requires returns)

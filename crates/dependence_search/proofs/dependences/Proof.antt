@@ -1,6 +1,4 @@
 -- `dependences`: links and heads for a small nest, for few points and elements, or for a large nest.
-use mathlib.Core.Bool.{true}
-use mathlib.Core.Path.{refl}
 use native.Mathlib.Omega.{arith}
 use Rattle.dependence_search.specs.Flat.{Flat, flat}
 use Rattle.dependence_search.proofs.FlatLaws.{lent-clear}

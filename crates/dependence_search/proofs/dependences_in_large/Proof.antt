@@ -1,6 +1,4 @@
 -- `dependences_in_large`: links and heads for few points, or for the most.
-use mathlib.Core.Bool.{true}
-use mathlib.Core.Path.{refl}
 use native.Mathlib.Omega.{arith}
 use Rattle.dependence_search.specs.Flat.{Flat, flat}
 use Rattle.dependence_search.proofs.FlatLaws.{lent-clear}
