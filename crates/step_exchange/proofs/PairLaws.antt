@@ -22,7 +22,7 @@ use Rattle.step_exchange_sides.specs.Filling.{Holds, SidePut}
 use Rattle.nest_flat.proofs.FlatLaws.{limits-length}
 use Rattle.step_exchange_sides.proofs.PutLaws.{untrue}
 use Rattle.step_limits.specs.Words.{LoopOk}
-use Rattle.step_exchange.specs.declared.Side.{Side}
+use Rattle.step_exchange.specs.declared.SideLimits.{SideLimits}
 use Rattle.step_exchange.specs.declared.SideCounts.{SideCounts}
 use Rattle.step_exchange.specs.Pair.{takenOf, limitsOf, SpanIn, lowerSpan, upperSpan, ThreeIn, LoopHeld, loopIn, PutLoopIn, LoopPut, PairIn}
 use Rattle.step_exchange.specs.Pair.{fewIn}
@@ -30,7 +30,7 @@ use Rattle.step_exchange.specs.Pair.{fewIn}
 -- ---- I and J as they are read
 
 module _ (s : List ℤ) (c : List ℕ) (k : ℕ) (words : length s ≡ nestRoom) (small : Within 32767 s) (place : k < 6) (ok : LoopOk s c k) where
-  pub lower-in : (p : Side) → p ≡ lowerSpan c k → SpanIn s p
+  pub lower-in : (p : SideLimits) → p ≡ lowerSpan c k → SpanIn s p
   unfolding lowerSpan
   lower-in p e = let h = ok .lower-count .1 in subst (SpanIn s) (sym e) (record {
     words = words;
@@ -39,7 +39,7 @@ module _ (s : List ℤ) (c : List ℕ) (k : ℕ) (words : length s ≡ nestRoom)
     positive = ok .lower-positive;
   })
 
-  pub upper-in : (p : Side) → p ≡ upperSpan c k → SpanIn s p
+  pub upper-in : (p : SideLimits) → p ≡ upperSpan c k → SpanIn s p
   unfolding upperSpan
   upper-in p e = let h = ok .upper-count .1 in subst (SpanIn s) (sym e) (record {
     words = words;
@@ -49,13 +49,13 @@ module _ (s : List ℤ) (c : List ℕ) (k : ℕ) (words : length s ≡ nestRoom)
   })
 
 -- il, iu, jl and ju are the sides of I and J
-pub record Spans (c : List ℕ) (a : ℕ) (il iu jl ju : Side) : Type 0 where
+pub record Spans (c : List ℕ) (a : ℕ) (il iu jl ju : SideLimits) : Type 0 where
   pub il-is : il ≡ lowerSpan c a
   pub iu-is : iu ≡ upperSpan c a
   pub jl-is : jl ≡ lowerSpan c (a + 1)
   pub ju-is : ju ≡ upperSpan c (a + 1)
 
-module _ {c : List ℕ} {a : ℕ} {il iu jl ju : Side} (e : Spans c a il iu jl ju) where
+module _ {c : List ℕ} {a : ℕ} {il iu jl ju : SideLimits} (e : Spans c a il iu jl ju) where
   module _ {s : List ℤ} (p : PairIn s c a) (f : List ℤ) (room : length f ≡ 128) where
     pub outer-low-in : ThreeIn a f s jl il iu
     outer-low-in = let q = p .place in record {

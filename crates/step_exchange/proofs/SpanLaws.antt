@@ -20,10 +20,10 @@ use Rattle.step_limits.specs.Small.{SmallLimit}
 use Rattle.step_limits.specs.Makes.{LimitIs}
 use Rattle.step_limits.specs.Words.{LimitThere}
 use Rattle.step_exchange_sides.specs.Filling.{WideIn}
-use Rattle.step_exchange.specs.declared.Side.{Side}
+use Rattle.step_exchange.specs.declared.SideLimits.{SideLimits}
 use Rattle.step_exchange.specs.Pair.{SpanIn, solved}
 
-pub span-at : (s : List ℤ) (p : Side) (k n : ℕ) → SpanIn s p → k < p .count → n ≤ 6 → LimitThere s (p .from + k) n
+pub span-at : (s : List ℤ) (p : SideLimits) (k n : ℕ) → SpanIn s p → k < p .count → n ≤ 6 → LimitThere s (p .from + k) n
 span-at s p k n i h g = let e = i .words in let f = i .inside in record {
   room = record { fits = omega arith; shallow = g };
   small = i .small;

@@ -17,7 +17,7 @@ use Rattle.nest_flat.specs.Flat.{limitsAt, loopAt, Positive, NestOk}
 use Rattle.ticket_loops.specs.Laid.{layLoop, layCount}
 use Rattle.step_limits.specs.Small.{SmallLimit}
 use Rattle.step_exchange_sides.specs.Filling.{Holds, Filled}
-use Rattle.step_exchange.specs.declared.Side.{Side}
+use Rattle.step_exchange.specs.declared.SideLimits.{SideLimits}
 use Rattle.step_exchange.specs.declared.SideCounts.{SideCounts}
 use Rattle.step_exchange.specs.declared.Exchanged.{Exchanged}
 use Rattle.step_limits.specs.Words.{LoopOk}
@@ -34,30 +34,30 @@ takenOf false a l = whenNegative a (outerCoefficient a l) l
 
 -- ---- a side of I or of J, among the words of the nest
 
-abbrev pub limitsOf : List ℤ → ℕ → Side → List Model.Limit
+abbrev pub limitsOf : List ℤ → ℕ → SideLimits → List Model.Limit
 limitsOf s n p = limitsAt s n (p .from) (p .count)
 
-pub record SpanIn (s : List ℤ) (p : Side) : Type 0 where
+pub record SpanIn (s : List ℤ) (p : SideLimits) : Type 0 where
   pub words : length s ≡ nestRoom
   pub small : Within 32767 s
   pub inside : p .from + p .count ≤ nestLimits
   pub positive : Positive s (p .from) (p .count)
 
 -- of loop k
-unfoldable pub lowerSpan : List ℕ → ℕ → Side
+unfoldable pub lowerSpan : List ℕ → ℕ → SideLimits
 lowerSpan c k = record { from = k * 32; count = getD c (k * 2) 0 }
 
-unfoldable pub upperSpan : List ℕ → ℕ → Side
+unfoldable pub upperSpan : List ℕ → ℕ → SideLimits
 upperSpan c k = record { from = k * 32 + 16; count = getD c (k * 2 + 1) 0 }
 
 -- a limit of J, and a side of I
-pub record CombineIn (a : ℕ) (f : List ℤ) (count : ℕ) (l : Limit) (s : List ℤ) (p : Side) : Type 0 where
+pub record CombineIn (a : ℕ) (f : List ℤ) (count : ℕ) (l : Limit) (s : List ℤ) (p : SideLimits) : Type 0 where
   pub place : a < mostLoops
   pub filled : Filled f count
   pub limit : SmallLimit (limitOf (a + 1) l)
   pub side : SpanIn s p
 
-pub record PartIn (a : ℕ) (f : List ℤ) (count : ℕ) (l : Limit) (s : List ℤ) (same other : Side) : Type 0 where
+pub record PartIn (a : ℕ) (f : List ℤ) (count : ℕ) (l : Limit) (s : List ℤ) (same other : SideLimits) : Type 0 where
   pub with-same : CombineIn a f count l s same
   pub with-other : CombineIn a f count l s other
 
@@ -67,13 +67,13 @@ pub record TakeIn (a : ℕ) (f : List ℤ) (count : ℕ) (l : Limit) : Type 0 wh
   pub limit : SmallLimit (limitOf (a + 1) l)
 
 -- a side of J
-pub record SolveIn (a : ℕ) (f : List ℤ) (count : ℕ) (s : List ℤ) (js : Side) : Type 0 where
+pub record SolveIn (a : ℕ) (f : List ℤ) (count : ℕ) (s : List ℤ) (js : SideLimits) : Type 0 where
   pub place : a < mostLoops
   pub filled : Filled f count
   pub side : SpanIn s js
 
 -- a side of one loop, and two of the other
-pub record ThreeIn (a : ℕ) (f : List ℤ) (s : List ℤ) (p q r : Side) : Type 0 where
+pub record ThreeIn (a : ℕ) (f : List ℤ) (s : List ℤ) (p q r : SideLimits) : Type 0 where
   pub place : a < mostLoops
   pub room : length f ≡ mostLimits * rowRoom
   pub first : SpanIn s p

@@ -87,7 +87,7 @@ fn widened(l: Limit, n: usize) -> Limit
 // ---- the loop that J becomes, outside
 
 // A side of a loop: limits from limit `from` on.
-pub struct Side {
+pub struct SideLimits {
     pub from: usize,
     pub count: usize,
 }
@@ -100,7 +100,7 @@ fn push_combined(
     c: i32,
     l: Limit,
     words: &[i16],
-    side: Side,
+    side: SideLimits,
 ) -> usize
     requires { ⌜ (size c ≤ 32767) × CombineIn a (now filling) count l (now words) side ⌝ }
     ensures { λ r. ⌜ Adds a (now (filling .entry)) count (map (combined a c (limitOf (a + 1) l)) (limitsOf (now (words .entry)) a side))
@@ -126,8 +126,8 @@ fn push_part(
     a: usize,
     l: Limit,
     words: &[i16],
-    same: Side,
-    other: Side,
+    same: SideLimits,
+    other: SideLimits,
 ) -> usize
     requires { ⌜ PartIn a (now filling) count l (now words) same other ⌝ }
     ensures { λ r. ⌜ Adds a (now (filling .entry)) count (outerPart a (limitsOf (now (words .entry)) a same) (limitsOf (now (words .entry)) a other)
@@ -148,9 +148,9 @@ fn push_outer(
     filling: &mut [i32],
     words: &[i16],
     a: usize,
-    js: Side,
-    same: Side,
-    other: Side,
+    js: SideLimits,
+    same: SideLimits,
+    other: SideLimits,
 ) -> usize
     requires { ⌜ ThreeIn a (now filling) (now words) js same other ⌝ }
     ensures { λ r. ⌜ Holds a (now (filling .exit)) r (flatMap (λ l. outerPart a (limitsOf (now (words .entry)) a same)
@@ -172,7 +172,7 @@ fn push_outer(
 
 // ---- the loop that I becomes, inside
 
-fn push_widened(filling: &mut [i32], words: &[i16], a: usize, side: Side) -> usize
+fn push_widened(filling: &mut [i32], words: &[i16], a: usize, side: SideLimits) -> usize
     requires { ⌜ (a < mostLoops) × (length (now filling) ≡ mostLimits * rowRoom) × SpanIn (now words) side ⌝ }
     ensures { λ r. ⌜ Holds (a + 1) (now (filling .exit)) r (map widened (limitsOf (now (words .entry)) a side)) × Filled (now (filling .exit)) r ⌝ }
 {
@@ -213,7 +213,7 @@ fn push_solved(
     count: usize,
     a: usize,
     words: &[i16],
-    js: Side,
+    js: SideLimits,
     positive: bool,
 ) -> usize
     requires { ⌜ SolveIn a (now filling) count (now words) js ⌝ }
@@ -238,9 +238,9 @@ fn push_inner(
     filling: &mut [i32],
     words: &[i16],
     a: usize,
-    own: Side,
-    lower: Side,
-    upper: Side,
+    own: SideLimits,
+    lower: SideLimits,
+    upper: SideLimits,
     positive: bool,
 ) -> usize
     requires { ⌜ ThreeIn a (now filling) (now words) own lower upper ⌝ }
@@ -255,21 +255,21 @@ fn push_inner(
 
 // ---- the pair
 
-fn lower_side(counts: &[usize], k: usize) -> Side
+fn lower_side(counts: &[usize], k: usize) -> SideLimits
     requires { ⌜ (k < mostLoops) × (length (now counts) ≡ mostSides) ⌝ }
     ensures { λ r. ⌜ r ≡ lowerSpan (now (counts .entry)) k ⌝ }
 {
-    Side {
+    SideLimits {
         from: k * 32,
         count: counts[k * 2],
     }
 }
 
-fn upper_side(counts: &[usize], k: usize) -> Side
+fn upper_side(counts: &[usize], k: usize) -> SideLimits
     requires { ⌜ (k < mostLoops) × (length (now counts) ≡ mostSides) ⌝ }
     ensures { λ r. ⌜ r ≡ upperSpan (now (counts .entry)) k ⌝ }
 {
-    Side {
+    SideLimits {
         from: k * 32 + 16,
         count: counts[k * 2 + 1],
     }
