@@ -149,13 +149,13 @@ fn has_coefficient(nest: &[i16], j: usize, n: usize, i: usize) -> bool
     false
 }
 
-// The least or the greatest value of loop k. Most limits have coefficients of few loops, and it goes only into these: the range of another stays
-// 0 to 0, since its coefficients are 0.
-pub fn extreme_value(nest: &[i16], counts: &[usize], k: usize, side: Side) -> Whole
+// The least value of loop k. Most limits have coefficients of few loops, and it goes only into these: the range of another stays 0 to 0, since its
+// coefficients are 0.
+pub fn least_value(nest: &[i16], counts: &[usize], k: usize) -> Whole
     requires { ⌜ NestOk (now nest) (now counts) (suc k) ⌝ }
-    ensures { λ r. ⌜ (r .value ≡ endOf side (rangeAt (now (nest .entry)) (now (counts .entry)) k)) × (size (r .value) ≤ 32767) ⌝ }
+    ensures { λ r. ⌜ (r .value ≡ rangeAt (now (nest .entry)) (now (counts .entry)) k .least) × (size (r .value) ≤ 32767) ⌝ }
 {
-    let s = side_number(k, side);
+    let s = side_number(k, Side::Lower);
     let n = counts[s];
     let mut outer = [Range {
         least: 0,
@@ -164,8 +164,8 @@ pub fn extreme_value(nest: &[i16], counts: &[usize], k: usize, side: Side) -> Wh
     let mut i = 0;
     while i < k {
         if has_coefficient(nest, s * 16, n, i) {
-            let least = extreme_value(nest, counts, i, Side::Lower);
-            let greatest = extreme_value(nest, counts, i, Side::Upper);
+            let least = least_value(nest, counts, i);
+            let greatest = greatest_value(nest, counts, i);
             outer[i] = Range {
                 least: least.value,
                 greatest: greatest.value,
@@ -173,7 +173,33 @@ pub fn extreme_value(nest: &[i16], counts: &[usize], k: usize, side: Side) -> Wh
         }
         i += 1;
     }
-    loop_extreme(nest, counts, k, outer, side)
+    loop_extreme(nest, counts, k, outer, Side::Lower)
+}
+
+// The greatest value of loop k.
+pub fn greatest_value(nest: &[i16], counts: &[usize], k: usize) -> Whole
+    requires { ⌜ NestOk (now nest) (now counts) (suc k) ⌝ }
+    ensures { λ r. ⌜ (r .value ≡ rangeAt (now (nest .entry)) (now (counts .entry)) k .greatest) × (size (r .value) ≤ 32767) ⌝ }
+{
+    let s = side_number(k, Side::Upper);
+    let n = counts[s];
+    let mut outer = [Range {
+        least: 0,
+        greatest: 0,
+    }; 6];
+    let mut i = 0;
+    while i < k {
+        if has_coefficient(nest, s * 16, n, i) {
+            let least = least_value(nest, counts, i);
+            let greatest = greatest_value(nest, counts, i);
+            outer[i] = Range {
+                least: least.value,
+                greatest: greatest.value,
+            };
+        }
+        i += 1;
+    }
+    loop_extreme(nest, counts, k, outer, Side::Upper)
 }
 
 // The ranges of the first n loops.
@@ -187,8 +213,8 @@ pub fn ranges(nest: &[i16], counts: &[usize], n: usize) -> [Range; LOOPS]
     }; 6];
     let mut i = 0;
     while i < n {
-        let least = extreme_value(nest, counts, i, Side::Lower);
-        let greatest = extreme_value(nest, counts, i, Side::Upper);
+        let least = least_value(nest, counts, i);
+        let greatest = greatest_value(nest, counts, i);
         r[i] = Range {
             least: least.value,
             greatest: greatest.value,

@@ -9,6 +9,7 @@ use lib.Seq.{length-take-le}
 use Rattle.lists.specs.Membership.{All}
 use Rattle.lists.proofs.MembershipLaws.{all-imp, all-cons, all-take, all-getD, all-getD-default, map-all}
 use Rattle.model.specs.Ranges.{InRange, ArrayRanges}
+use Rattle.model.specs.Grammar.{mostArrays, arrayRoom, mostExtents, mostExtent}
 use Rattle.nest_flat.specs.Layout.{extentsAt, arraysFrom, arraysOf}
 use Rattle.ticket_arrays.specs.Laid.{layRows, shapeWords}
 use Rattle.ticket_arrays.proofs.RowLaws.{part-take, part-head, part-tail, rows-length, rows-all, rows-at}
@@ -32,17 +33,17 @@ arrays-back s i (a ∷ as′) h =
 
 -- ---- all arrays of a nest
 
-module _ (blank : List ℕ) (l₀ : length blank ≡ 16) (as′ : List (List ℕ)) (n : ℕ) (z : length as′ ≡ n) (few : n ≤ 4) (ranges : All ArrayRanges as′)
-    (s : List ℕ) (e : s ≡ layRows 4 blank 0 (map shapeWords as′)) where
-  short : All (λ (x : List ℕ). length x ≤ 4) (map shapeWords as′)
+module _ (blank : List ℕ) (l₀ : length blank ≡ mostExtents) (as′ : List (List ℕ)) (n : ℕ) (z : length as′ ≡ n) (few : n ≤ mostArrays) (ranges : All ArrayRanges as′)
+    (s : List ℕ) (e : s ≡ layRows arrayRoom blank 0 (map shapeWords as′)) where
+  short : All (λ (x : List ℕ). length x ≤ arrayRoom) (map shapeWords as′)
   unfolding shapeWords
-  short = map-all shapeWords ArrayRanges (λ x. length x ≤ 4) as′ (λ a r. let h = r .dimensions .high in omega arith) ranges
+  short = map-all shapeWords ArrayRanges (λ x. length x ≤ arrayRoom) as′ (λ a r. let h = r .dimensions .high in omega arith) ranges
 
   room : (0 + length (map shapeWords as′)) * 4 ≤ length blank
   room = let l = length-map as′ shapeWords in omega arith
 
-  pub laid-length : length s ≡ 16
-  laid-length = ap length e ∙ rows-length 4 blank 0 (map shapeWords as′) short room ∙ l₀
+  pub laid-length : length s ≡ mostExtents
+  laid-length = ap length e ∙ rows-length arrayRoom blank 0 (map shapeWords as′) short room ∙ l₀
 
   pub used-length : length (take (n * 4) s) ≡ n * 4
   used-length = let l = laid-length in length-take-le (n * 4) s (omega arith)
@@ -59,8 +60,8 @@ module _ (blank : List ℕ) (l₀ : length blank ≡ 16) (as′ : List (List ℕ
       let m : getD (map shapeWords as′) k (shapeWords []) ≡ shapeWords a = List·getD-map shapeWords as′ k [] in
       part-take (k * 4) (suc (length a)) (n * 4) s (omega arith)
       ∙ ap₂ (λ l t. take (suc (length a)) (drop (t * 4) l)) e (sym (zero-add k))
-      ∙ ap (λ x. take (length x) (drop ((0 + k) * 4) (layRows 4 blank 0 (map shapeWords as′)))) (sym m)
-      ∙ rows-at 4 blank 0 (map shapeWords as′) short room k (shapeWords []) (omega arith)
+      ∙ ap (λ x. take (length x) (drop ((0 + k) * 4) (layRows arrayRoom blank 0 (map shapeWords as′)))) (sym m)
+      ∙ rows-at arrayRoom blank 0 (map shapeWords as′) short room k (shapeWords []) (omega arith)
       ∙ m
 
   pub arrays-same : arraysOf (take (n * 4) s) ≡ as′
@@ -88,7 +89,7 @@ module _ (blank : List ℕ) (l₀ : length blank ≡ 16) (as′ : List (List ℕ
       all-getD-default (λ x. x ≤ 4096) (take (n * 4) s) j 0 (omega arith)
       (all-take (λ x. x ≤ 4096) (n * 4) s
       (subst (λ (l : List ℕ). All (λ x. x ≤ 4096) l) (sym e)
-      (rows-all 4 (λ x. x ≤ 4096) blank 0 (map shapeWords as′) h
+      (rows-all arrayRoom (λ x. x ≤ mostExtent) blank 0 (map shapeWords as′) h
       (map-all shapeWords ArrayRanges (λ l. All (λ x. x ≤ 4096) l) as′
       (λ a r. let h = r .dimensions .high in all-cons (λ x. x ≤ 4096) (omega arith) (all-imp (InRange 1 4096) a (r .extents) (λ x m q. q .high)))
       ranges))))

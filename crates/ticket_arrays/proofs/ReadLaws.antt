@@ -9,7 +9,7 @@ use Rattle.lists.specs.Parts.{put}
 use Rattle.lists.proofs.MembershipLaws.{all-nil, all-cons, all-append}
 use Rattle.model.specs.Answer.{accepted, refused}
 use Rattle.model.specs.Grammar as Grammar
-use Rattle.model.specs.Grammar.{Reader, _>>=_, done, count, elements, total, shape, array, arraysFrom}
+use Rattle.model.specs.Grammar.{Reader, _>>=_, done, count, elements, total, shape, array, arraysFrom, mostArrays, arrayRoom, mostExtents}
 use Rattle.model.specs.Ranges.{ArrayRanges}
 use Rattle.model.proofs.Answers.AnswerLaws.{leads-accepted}
 use Rattle.model.proofs.Grammar.ArrayReading.{total-snoc, shape-meets}
@@ -37,29 +37,29 @@ repeats t (suc n) = ap (λ (g : List ℕ → Reader (List (List ℕ))). array t 
     (fun-ext (λ a. repeats (t + elements a) n))
 
 module _ (b : List ℕ) (k : ℕ) where
-  pub no-count : (n p : ℕ) → count 1 4 b k ≡ refused n p → Grammar.arrays b k ≡ refused n p
+  pub no-count : (n p : ℕ) → count 1 mostArrays b k ≡ refused n p → Grammar.arrays b k ≡ refused n p
   unfolding Grammar.arrays
-  no-count n p e = after-refusal (count 1 4) _ b k n p e
+  no-count n p e = after-refusal (count 1 mostArrays) _ b k n p e
 
-  counted : (n : ℕ) → count 1 4 b k ≡ accepted (record { value = n; next = k + 1 }) → Grammar.arrays b k ≡ repeated array adds n 0 b (k + 1)
+  counted : (n : ℕ) → count 1 mostArrays b k ≡ accepted (record { value = n; next = k + 1 }) → Grammar.arrays b k ≡ repeated array adds n 0 b (k + 1)
   unfolding Grammar.arrays
-  counted n e = after-value (count 1 4) _ b k n (k + 1) e ∙ ap (λ (r : Reader (List (List ℕ))). r b (k + 1)) (repeats 0 n)
+  counted n e = after-value (count 1 mostArrays) _ b k n (k + 1) e ∙ ap (λ (r : Reader (List (List ℕ))). r b (k + 1)) (repeats 0 n)
 
 -- k of n arrays are read and laid, with `many` elements, and the rest goes on from `next`
 pub record Filling (b : List ℕ) (at n : ℕ) (o w : List ℕ) (many next k : ℕ) : Type 0 where
   pub arrays : List (List ℕ)
   pub number : length arrays ≡ k
   pub low : k ≤ n
-  pub few : n ≤ 4
+  pub few : n ≤ mostArrays
   pub reached : Reached b next
   pub total-is : many ≡ total arrays
   pub bounded : many ≤ 16384
-  pub laid : w ≡ layRows 4 o 0 (map shapeWords arrays)
+  pub laid : w ≡ layRows arrayRoom o 0 (map shapeWords arrays)
   pub ranges : All ArrayRanges arrays
   pub so : Grammar.arrays b at ≡ before arrays (repeated array adds (n - k) many b next)
 
-module _ (b : List ℕ) (at n : ℕ) (o : List ℕ) (z : length o ≡ 16) where
-  pub filling-starts : count 1 4 b at ≡ accepted (record { value = n; next = at + 1 }) → n ≤ 4 → Reached b (at + 1) → Filling b at n o o 0 (at + 1) 0
+module _ (b : List ℕ) (at n : ℕ) (o : List ℕ) (z : length o ≡ mostExtents) where
+  pub filling-starts : count 1 mostArrays b at ≡ accepted (record { value = n; next = at + 1 }) → n ≤ mostArrays → Reached b (at + 1) → Filling b at n o o 0 (at + 1) 0
   unfolding layRows total
   filling-starts e h r = record {
     arrays = [];
@@ -75,10 +75,10 @@ module _ (b : List ℕ) (at n : ℕ) (o : List ℕ) (z : length o ≡ 16) where
   }
 
   module _ (w : List ℕ) (many next k : ℕ) (f : Filling b at n o w many next k) where
-    few : k ≤ 4
+    few : k ≤ mostArrays
     few = let a = f .low in let h = f .few in omega arith
 
-    pub filling-length : length w ≡ 16
+    pub filling-length : length w ≡ mostExtents
     filling-length = laid-length o z (f .arrays) k (f .number) few (f .ranges) w (f .laid)
 
     pub filling-same : arraysOf (take (k * 4) w) ≡ f .arrays
@@ -99,7 +99,7 @@ module _ (b : List ℕ) (at n : ℕ) (o : List ℕ) (z : length o ≡ 16) where
             total-is = let y = f .total-is in let l = total-snoc (f .arrays) a in omega arith;
             bounded = g;
             laid = q ∙ ap₂ (λ y t. put y (t * 4) (shapeWords a)) (f .laid) i ∙ sym (rows-more 4 o 0 F (shapeWords a))
-                ∙ ap (layRows 4 o 0) (sym (map-append shapeWords (f .arrays) (a ∷ [])));
+                ∙ ap (layRows arrayRoom o 0) (sym (map-append shapeWords (f .arrays) (a ∷ [])));
             ranges = all-append ArrayRanges (f .arrays) (a ∷ []) (f .ranges) (all-cons ArrayRanges s (all-nil ArrayRanges));
             so = f .so ∙ repeated-more array adds b n k next many (f .arrays) a to h e
                 ∙ ap (λ y. before (f .arrays ++ (a ∷ [])) (repeated array adds (n - (k + 1)) (many + y) b to)) (sym x);

@@ -11,7 +11,7 @@ use Rattle.model.specs.Ticket as Model
 use Rattle.model.specs.Grammar as Grammar
 use Rattle.model.specs.Ranges.{Small}
 use Rattle.model.proofs.Grammar.GrammarLaws.{decode-ranges, decode-formed}
-use Rattle.model.specs.Grammar.{mostWords, nestRoom, mostAccesses, mostStatements}
+use Rattle.model.specs.Grammar.{mostWords, nestRoom, mostAccesses, mostStatements, ticketLoops, ticketLimits, mostArrays, mostExtents}
 use Rattle.nest_flat.specs.Flat.{loopsFrom, NestOk}
 use Rattle.ticket_refusals.specs.Refusals.{firstOf}
 use Rattle.ticket_words.specs.Reads.{answer}
@@ -53,7 +53,7 @@ pub lent-room : (l w : List ℤ) → Lent l w → Nest.Room l (replicate 12 0)
 lent-room l w h = record { words = h .limits-length; counts = length-replicate 12 zero; small = h .limits-small }
 
 module _ (b : List ℕ) (at : ℕ) (e : List ℕ) (A : ArraysRead) (r : ReadsArrays b at noExtents e A) where
-  blank-length : length noExtents ≡ 16
+  blank-length : length noExtents ≡ mostExtents
   blank-length = length-replicate 16 zero
 
   pub extents-used : length (take (A .count * 4) e) ≡ A .count * 4
@@ -105,7 +105,7 @@ module _ (b : List ℕ) (l w : List ℤ) (lent : Lent l w) (O : Header) (l′ w�
   abbrev T : Model.Ticket
   T = record { nest = nestOn P (a .arrays) (c .statements); steps = stepsOf (S .steps) }
 
-  read-loops : answer (N .status) loops (N .next) ≡ Grammar.loops 4 4 b 1
+  read-loops : answer (N .status) loops (N .next) ≡ Grammar.loops ticketLoops ticketLimits b 1
   read-loops = ap (λ d. answer (N .status) (loopsFrom (P .limits) (P .counts) 0 d) (N .next)) depth-is ∙ n .reads .same
 
   read-statements : answer (B .status) (c .statements) (B .next) ≡ Grammar.statements (N .depth) (a .arrays) b (A .next)
@@ -121,7 +121,7 @@ module _ (b : List ℕ) (l w : List ℤ) (lent : Lent l w) (O : Header) (l′ w�
   ticket-read : decoded u T ≡ Grammar.decode b
   ticket-read = ap (λ t. decoded t T) h ∙ ended b z T (S .next) sections-read
 
-  few-arrays : P .arrays ≤ 4
+  few-arrays : P .arrays ≤ mostArrays
   few-arrays = let l = a .few in omega arith
 
   few-accesses : P .accesses ≤ mostAccesses

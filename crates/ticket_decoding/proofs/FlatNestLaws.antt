@@ -13,7 +13,7 @@ use Rattle.lists.proofs.FlatMapLaws.{all-flatMap}
 use Rattle.lists.proofs.PartLaws.{take-put-end}
 use Rattle.integers.proofs.AffineLaws.{within-take}
 use Rattle.model.specs.Ticket.{Subscript, Access, Statement, Nest}
-use Rattle.model.specs.Grammar.{extents, total, mostWords, mostAccesses, accessRoom, mostStatements}
+use Rattle.model.specs.Grammar.{extents, total, mostWords, mostAccesses, accessRoom, mostStatements, ticketLoops, ticketLimits, mostArrays, mostExtents, arrayRoom}
 use Rattle.model.specs.Bounds.{accessesOf}
 use Rattle.model.specs.Ranges.{Small, ArrayRanges, AccessRanges, StatementRanges, NestRanges}
 use Rattle.model.specs.Shape.{Fits, WellFormed}
@@ -48,18 +48,18 @@ abbrev pub nestOn : FlatNest → List (List ℕ) → List Statement → Nest
 nestOn P as′ ss = record { loops = loopsFrom (P .limits) (P .counts) 0 (P .depth); arrays = as′; statements = ss }
 
 module _ (P : FlatNest) (w : List ℤ) (room : length w ≡ mostWords) (small : All Small w) (as′ : List (List ℕ)) (ss : List Statement)
-    (t : StatementsRead) (nest : NestOk (P .limits) (P .counts) (P .depth)) (array-count : length as′ ≡ P .arrays) (few-arrays : P .arrays ≤ 4)
-    (e : P .extents ≡ layRows 4 noExtents 0 (map shapeWords as′)) (b : StatementsLaid ss w (P .words) noAccessed (P .accessed) (P .sizes) (P .rules)
+    (t : StatementsRead) (nest : NestOk (P .limits) (P .counts) (P .depth)) (array-count : length as′ ≡ P .arrays) (few-arrays : P .arrays ≤ mostArrays)
+    (e : P .extents ≡ layRows arrayRoom noExtents 0 (map shapeWords as′)) (b : StatementsLaid ss w (P .words) noAccessed (P .accessed) (P .sizes) (P .rules)
     (P .constants) t)
     (statements-is : P .statements ≡ t .count) (accesses-is : P .accesses ≡ t .accesses) (few-accesses : P .accesses ≤ mostAccesses)
-    (ranges : NestRanges 4 4 (nestOn P as′ ss)) (formed : WellFormed (nestOn P as′ ss)) where
+    (ranges : NestRanges ticketLoops ticketLimits (nestOn P as′ ss)) (formed : WellFormed (nestOn P as′ ss)) where
   abbrev all : List Access
   all = accessesIn ss
 
   abbrev deep : ℕ
   deep = length (loopsFrom (P .limits) (P .counts) 0 (P .depth))
 
-  blank-length : length noExtents ≡ 16
+  blank-length : length noExtents ≡ mostExtents
   blank-length = length-replicate 16 zero
 
   access-count : P .accesses ≡ length all

@@ -9,7 +9,7 @@ use lib.ListN.{length}
 use Rattle.model.specs.Answer as Answer
 use Rattle.model.specs.Answer.{Answer, accepted, refused, require}
 use Rattle.model.specs.Ticket as Model
-use Rattle.model.specs.Grammar.{Read, _>>=_, _>>_, done, mustAt, loops, arrays, statements, steps, nest, end, ticket, decode}
+use Rattle.model.specs.Grammar.{Read, _>>=_, _>>_, done, mustAt, loops, arrays, statements, steps, nest, end, ticket, decode, ticketLoops, ticketLimits}
 use Rattle.ticket_refusals.specs.Refusals.{firstOf}
 use Rattle.ticket_words.specs.Reads.{answer}
 use Rattle.ticket_refusals.specs.declared.Status.{Status}
@@ -24,40 +24,40 @@ module _ (b : List ℕ) (ls : List Model.Loop) (as′ : List (List ℕ)) (ss : L
   abbrev all : Model.Nest
   all = record { loops = ls; arrays = as′; statements = ss }
 
-  no-loops : (q p : ℕ) → loops 4 4 b 1 ≡ refused q p → sections b 1 ≡ refused q p
+  no-loops : (q p : ℕ) → loops ticketLoops ticketLimits b 1 ≡ refused q p → sections b 1 ≡ refused q p
   unfolding sections nest
-  no-loops q p e = after-refusal (nest 4 4) _ b 1 q p (after-refusal (loops 4 4) _ b 1 q p e)
+  no-loops q p e = after-refusal (nest ticketLoops ticketLimits) _ b 1 q p (after-refusal (loops ticketLoops ticketLimits) _ b 1 q p e)
 
-  module _ (j : ℕ) (e : loops 4 4 b 1 ≡ accepted (record { value = ls; next = j })) where
+  module _ (j : ℕ) (e : loops ticketLoops ticketLimits b 1 ≡ accepted (record { value = ls; next = j })) where
     no-arrays : (q p : ℕ) → arrays b j ≡ refused q p → sections b 1 ≡ refused q p
     unfolding sections nest
-    no-arrays q p f = after-refusal (nest 4 4) _ b 1 q p (after-value (loops 4 4) _ b 1 ls j e ∙ after-refusal arrays _ b j q p f)
+    no-arrays q p f = after-refusal (nest ticketLoops ticketLimits) _ b 1 q p (after-value (loops ticketLoops ticketLimits) _ b 1 ls j e ∙ after-refusal arrays _ b j q p f)
 
     module _ (k : ℕ) (f : arrays b j ≡ accepted (record { value = as′; next = k })) where
       no-statements : (q p : ℕ) → statements depth as′ b k ≡ refused q p → sections b 1 ≡ refused q p
       unfolding sections nest
       no-statements q p g =
-          after-refusal (nest 4 4) _ b 1 q p
-          (after-value (loops 4 4) _ b 1 ls j e ∙ after-value arrays _ b j as′ k f
+          after-refusal (nest ticketLoops ticketLimits) _ b 1 q p
+          (after-value (loops ticketLoops ticketLimits) _ b 1 ls j e ∙ after-value arrays _ b j as′ k f
           ∙ after-refusal (statements (length ls) as′) _ b k q p (rw depth-is g))
 
       module _ (i : ℕ) (g : statements depth as′ b k ≡ accepted (record { value = ss; next = i })) where
-        one-nest : nest 4 4 b 1 ≡ accepted (record { value = all; next = i })
+        one-nest : nest ticketLoops ticketLimits b 1 ≡ accepted (record { value = all; next = i })
         unfolding nest done
-        one-nest = after-value (loops 4 4) _ b 1 ls j e ∙ after-value arrays _ b j as′ k f
+        one-nest = after-value (loops ticketLoops ticketLimits) _ b 1 ls j e ∙ after-value arrays _ b j as′ k f
             ∙ after-value (statements (length ls) as′) _ b k ss i (rw depth-is g)
 
         no-steps : (q p : ℕ) → steps depth b i ≡ refused q p → sections b 1 ≡ refused q p
         unfolding sections
-        no-steps q p s = after-value (nest 4 4) _ b 1 all i one-nest ∙ after-refusal (steps (length ls)) _ b i q p (rw depth-is s)
+        no-steps q p s = after-value (nest ticketLoops ticketLimits) _ b 1 all i one-nest ∙ after-refusal (steps (length ls)) _ b i q p (rw depth-is s)
 
         all-sections : (n : ℕ) → steps depth b i ≡ accepted (record { value = ts; next = n })
             → sections b 1 ≡ accepted (record { value = record { nest = all; steps = ts }; next = n })
         unfolding sections done
-        all-sections n s = after-value (nest 4 4) _ b 1 all i one-nest ∙ after-value (steps (length ls)) _ b i ts n (rw depth-is s)
+        all-sections n s = after-value (nest ticketLoops ticketLimits) _ b 1 all i one-nest ∙ after-value (steps (length ls)) _ b i ts n (rw depth-is s)
 
   -- the first refusal decides
-  pub joined : (s₁ s₂ s₃ s₄ : Status) (j k i n : ℕ) → answer s₁ ls j ≡ loops 4 4 b 1 → answer s₂ as′ k ≡ arrays b j
+  pub joined : (s₁ s₂ s₃ s₄ : Status) (j k i n : ℕ) → answer s₁ ls j ≡ loops ticketLoops ticketLimits b 1 → answer s₂ as′ k ≡ arrays b j
       → answer s₃ ss i ≡ statements depth as′ b k → answer s₄ ts n ≡ steps depth b i
       → answer (firstOf s₁ (firstOf s₂ (firstOf s₃ s₄))) (record { nest = all; steps = ts }) n ≡ sections b 1
   joined (Status.Refused r) s₂ s₃ s₄ j k i n e f g s = sym (no-loops _ _ (sym e))
@@ -91,7 +91,7 @@ module _ (b : List ℕ) where
 
   then-end : ticket b 1 ≡ (sections >>= (λ t. end >> done t)) b 1
   unfolding ticket sections _>>=_
-  then-end = then-nest (nest 4 4 b 1)
+  then-end = then-nest (nest ticketLoops ticketLimits b 1)
 
   decode-refused : (q p : ℕ) → sections b 1 ≡ refused q p → decode b ≡ refused q p
   unfolding decode Answer._>>=_

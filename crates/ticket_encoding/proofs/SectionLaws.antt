@@ -6,7 +6,7 @@ use native.Mathlib.Omega.{arith}
 use lib.IntN.{ℤ, pos}
 use lib.ListN.{length, getD, take, drop}
 use Rattle.model.specs.Encode.{counted, accessWords}
-use Rattle.model.specs.Grammar.{mostAccesses}
+use Rattle.model.specs.Grammar.{mostAccesses, mostExtents}
 use Rattle.nest_flat.specs.Layout.{accessAt, accessesFrom}
 use Rattle.ticket_encoding_words.proofs.WritingLaws.{spans}
 use Rattle.ticket_lengths.specs.Lengths.{ArraysIn}
@@ -29,7 +29,7 @@ module _ (w : List ℤ) (o a : List ℕ) (n k : ℕ) (p : AccessesIn w o a n k 1
   pub its-array-ends : getD o k 0 * 4 + 4 ≤ length a
   its-array-ends = array-ends a (getD o k 0) access-its-array
 
-  pub its-array-small : getD o k 0 * 4 + 4 ≤ 16
+  pub its-array-small : getD o k 0 * 4 + 4 ≤ mostExtents
   its-array-small = let e = its-array-ends in let f = p .accesses .few in omega arith
 
   pub access-small : (k < mostAccesses) × (n ≤ 6)

@@ -7,6 +7,7 @@ use native.Mathlib.Omega.{arith}
 use lib.ListN.{length, getD}
 use Rattle.lists.proofs.PartLaws.{row-next}
 use Rattle.ticket_lengths.specs.Lengths.{sums, CountsIn, ArraysIn, AccessedIn}
+use Rattle.model.specs.Grammar.{mostArrays}
 
 -- ---- sums
 
@@ -73,7 +74,7 @@ loop-most c k p = let s = p .shallow in let l = p .lower k (omega arith) in let 
 pub array-ends : (a : List ℕ) (i : ℕ) → i < length a / 4 → i * 4 + 4 ≤ length a
 array-ends a i h = let d = mul-div-le (length a) 4 in omega arith
 
-pub few-arrays : (a : List ℕ) → ArraysIn a → length a / 4 ≤ 4
+pub few-arrays : (a : List ℕ) → ArraysIn a → length a / 4 ≤ mostArrays
 few-arrays a p = let d = mul-div-le (length a) 4 in let f = p .few in omega arith
 
 module _ (o a : List ℕ) (n k : ℕ) (p : AccessedIn o a n) (h : k < length o) where

@@ -11,9 +11,9 @@ use Rattle.lists.specs.Membership.{All}
 use Rattle.lists.proofs.MembershipLaws.{all-nil, all-cons, all-append}
 use Rattle.integers.specs.Affine.{Within}
 use Rattle.model.specs.Answer.{accepted, refused}
-use Rattle.model.specs.Ticket.{Limit, Loop}
+use Rattle.model.specs.Ticket.{Loop}
 use Rattle.model.specs.Grammar as Grammar
-use Rattle.model.specs.Grammar.{count, side, loop, loops, done}
+use Rattle.model.specs.Grammar.{count, side, loop, loops, ticketLoops, ticketLimits}
 use Rattle.model.specs.Shape.{Sized, Shaped}
 use Rattle.model.specs.Ranges.{LoopRanges}
 use Rattle.model.proofs.Answers.AnswerLaws.{leads-accepted}
@@ -72,7 +72,7 @@ module _ (b : List ℕ) (at k : ℕ) (w : List ℤ) (c : List ℕ) (q : Room w c
       loop-reads a e = record {
         body = body;
         reads = record {
-          same = ap (λ z. answer z body (u .next)) e ∙ both-read (side 4 k) (λ _. side 4 k) (λ x y. record { lower = x; upper = y }) b at
+          same = ap (λ z. answer z body (u .next)) e ∙ both-read (side ticketLimits k) (λ _. side ticketLimits k) (λ x y. record { lower = x; upper = y }) b at
               (l .status) (u .status) (s .limits) (t .limits) (l .next) (u .next) (s .reads .same) (t .reads .same);
           reached = t .reads .reached;
         };
@@ -87,9 +87,9 @@ module _ (b : List ℕ) (at k : ℕ) (w : List ℤ) (c : List ℕ) (q : Room w c
 
 -- ---- the loops of a nest
 
-pub loop-read : (k : ℕ) (b : List ℕ) (at : ℕ) (L : Loop) (next : ℕ) → Reached b at → loop 4 k b at ≡ accepted (record { value = L; next = next })
-    → LoopRead 4 k L
-loop-read k b at L next r e = leads-accepted _ _ (loop-meets 4 k .from b at (record { first = r .counted; there = r .there }) .leads) e .holds .holds
+pub loop-read : (k : ℕ) (b : List ℕ) (at : ℕ) (L : Loop) (next : ℕ) → Reached b at → loop ticketLimits k b at ≡ accepted (record { value = L; next = next })
+    → LoopRead ticketLimits k L
+loop-read k b at L next r e = leads-accepted _ _ (loop-meets ticketLimits k .from b at (record { first = r .counted; there = r .there }) .leads) e .holds .holds
 
 shaped-more : (k : ℕ) (N : List Loop) (L : Loop) → Shaped k N → Sized (k + length N) (L .lower) × Sized (k + length N) (L .upper)
     → Shaped k (N ++ (L ∷ []))
@@ -104,29 +104,29 @@ repeats m k zero = refl
 repeats m k (suc n) = rw (repeats m (suc k) n)
 
 module _ (b : List ℕ) (k : ℕ) where
-  pub no-count : (n p : ℕ) → count 1 4 b k ≡ refused n p → loops 4 4 b k ≡ refused n p
+  pub no-count : (n p : ℕ) → count 1 ticketLoops b k ≡ refused n p → loops ticketLoops ticketLimits b k ≡ refused n p
   unfolding loops
-  no-count n p e = after-refusal (count 1 4) _ b k n p e
+  no-count n p e = after-refusal (count 1 ticketLoops) _ b k n p e
 
-  counted : (n : ℕ) → count 1 4 b k ≡ accepted (record { value = n; next = k + 1 }) → loops 4 4 b k ≡ Grammar.loopsFrom 4 0 n b (k + 1)
+  counted : (n : ℕ) → count 1 ticketLoops b k ≡ accepted (record { value = n; next = k + 1 }) → loops ticketLoops ticketLimits b k ≡ Grammar.loopsFrom ticketLimits 0 n b (k + 1)
   unfolding loops
-  counted n e = after-value (count 1 4) _ b k n (k + 1) e
+  counted n e = after-value (count 1 ticketLoops) _ b k n (k + 1) e
 
 -- k of n loops are read and laid, and the rest goes on from `next`
 pub record Passing (b : List ℕ) (at n : ℕ) (o w : List ℤ) (d c : List ℕ) (next k : ℕ) : Type 0 where
   pub passed : List Loop
   pub number : length passed ≡ k
   pub low : k ≤ n
-  pub few : n ≤ 4
+  pub few : n ≤ ticketLoops
   pub reached : Reached b next
   pub words : w ≡ layLoops o 0 passed
   pub counts : c ≡ layCounts d 0 passed
   pub shaped : Shaped 0 passed
   pub ranges : All (LoopRanges 16) passed
-  pub so : loops 4 4 b at ≡ before passed (Grammar.loopsFrom 4 k (n - k) b next)
+  pub so : loops ticketLoops ticketLimits b at ≡ before passed (Grammar.loopsFrom ticketLimits k (n - k) b next)
 
 module _ (b : List ℕ) (at n : ℕ) (o : List ℤ) (d : List ℕ) (q : Room o d) where
-  pub passing-starts : count 1 4 b at ≡ accepted (record { value = n; next = at + 1 }) → n ≤ 4 → Reached b (at + 1)
+  pub passing-starts : count 1 ticketLoops b at ≡ accepted (record { value = n; next = at + 1 }) → n ≤ ticketLoops → Reached b (at + 1)
       → Passing b at n o o d d (at + 1) 0
   unfolding layLoops layCounts
   passing-starts e h r = record {
@@ -154,12 +154,12 @@ module _ (b : List ℕ) (at n : ℕ) (o : List ℤ) (d : List ℕ) (q : Room o d
       small = subst (Within 32767) (sym (f .words)) (loops-within o d 0 (f .passed) fit (q .small));
     }
 
-    module _ (L : Loop) (to : ℕ) (h : k < n) (e : loop 4 k b next ≡ accepted (record { value = L; next = to })) where
-      goes-on : before (f .passed) (Grammar.loopsFrom 4 k (n - k) b next) ≡ before (f .passed ++ (L ∷ []))
-          (Grammar.loopsFrom 4 (k + 1) (n - (k + 1)) b to)
+    module _ (L : Loop) (to : ℕ) (h : k < n) (e : loop ticketLimits k b next ≡ accepted (record { value = L; next = to })) where
+      goes-on : before (f .passed) (Grammar.loopsFrom ticketLimits k (n - k) b next) ≡ before (f .passed ++ (L ∷ []))
+          (Grammar.loopsFrom ticketLimits (k + 1) (n - (k + 1)) b to)
       goes-on =
-          let t = repeated-more (loop 4) (λ k a. suc k) b n k next k (f .passed) L to h e in
-          rw (repeats 4 k (n - k), repeats 4 (k + 1) (n - (k + 1)), add-one) (rw add-one at t)
+          let t = repeated-more (loop ticketLimits) (λ k a. suc k) b n k next k (f .passed) L to h e in
+          rw (repeats ticketLimits k (n - k), repeats ticketLimits (k + 1) (n - (k + 1)), add-one) (rw add-one at t)
 
       pub passing-more : (v : List ℤ) (a : List ℕ) → v ≡ layLoop w k L → a ≡ layCount c k L → Reached b to → Passing b at n o v d a to (k + 1)
       passing-more v a x y r =
@@ -179,8 +179,8 @@ module _ (b : List ℕ) (at n : ℕ) (o : List ℤ) (d : List ℕ) (q : Room o d
             so = f .so ∙ goes-on;
           }
 
-    pub passing-no : (r p : ℕ) → k < n → loop 4 k b next ≡ refused r p → loops 4 4 b at ≡ refused r p
-    passing-no r p h e = f .so ∙ rw (repeats 4 k (n - k)) (repeated-no (loop 4) (λ k a. suc k) b n k next k (f .passed) r p h e)
+    pub passing-no : (r p : ℕ) → k < n → loop ticketLimits k b next ≡ refused r p → loops ticketLoops ticketLimits b at ≡ refused r p
+    passing-no r p h e = f .so ∙ rw (repeats ticketLimits k (n - k)) (repeated-no (loop ticketLimits) (λ k a. suc k) b n k next k (f .passed) r p h e)
 
     -- the loops that the slices stand for
     passing-back : loopsFrom w c 0 k ≡ f .passed
@@ -189,9 +189,9 @@ module _ (b : List ℕ) (at n : ℕ) (o : List ℤ) (d : List ℕ) (q : Room o d
         ap₂ (λ x y. loopsFrom x y 0 k) (f .words) (f .counts) ∙ ap (loopsFrom (layLoops o 0 N) (layCounts d 0 N) 0) (sym (f .number))
         ∙ nest-back o d N fit (q .small)
 
-    pub passing-done : n ≤ k → loops 4 4 b at ≡ accepted (record { value = loopsFrom w c 0 k; next = next })
+    pub passing-done : n ≤ k → loops ticketLoops ticketLimits b at ≡ accepted (record { value = loopsFrom w c 0 k; next = next })
     passing-done h =
-        f .so ∙ rw (repeats 4 k (n - k)) (repeated-done (loop 4) (λ k a. suc k) b n k next k (f .passed) h)
+        f .so ∙ rw (repeats ticketLimits k (n - k)) (repeated-done (loop ticketLimits) (λ k a. suc k) b n k next k (f .passed) h)
         ∙ ap (λ l. accepted (record { value = l; next = next })) (sym passing-back)
 
     pub passing-ok : NestOk w c k

@@ -10,7 +10,7 @@ use Rattle.lists.specs.Parts.{put}
 use Rattle.lists.proofs.MembershipLaws.{all-nil, all-cons, all-append}
 use Rattle.model.specs.Answer.{accepted, refused}
 use Rattle.model.specs.Ticket as Model
-use Rattle.model.specs.Grammar.{count, times, limit, side}
+use Rattle.model.specs.Grammar.{count, times, limit, side, ticketLimits}
 use Rattle.model.specs.Encode.{limitWords}
 use Rattle.model.specs.Shape.{Sized}
 use Rattle.model.specs.Ranges.{LimitRanges}
@@ -30,28 +30,28 @@ limit-read outer b k l next r e = leads-accepted _ _ (limit-meets outer .from b 
     e .holds .holds
 
 module _ (outer : ℕ) (b : List ℕ) (k : ℕ) where
-  pub no-count : (n p : ℕ) → count 1 4 b k ≡ refused n p → side 4 outer b k ≡ refused n p
+  pub no-count : (n p : ℕ) → count 1 ticketLimits b k ≡ refused n p → side ticketLimits outer b k ≡ refused n p
   unfolding side
-  no-count n p e = after-refusal (count 1 4) _ b k n p e
+  no-count n p e = after-refusal (count 1 ticketLimits) _ b k n p e
 
-  counted : (n : ℕ) → count 1 4 b k ≡ accepted (record { value = n; next = k + 1 }) → side 4 outer b k ≡ times n (limit outer) b (k + 1)
+  counted : (n : ℕ) → count 1 ticketLimits b k ≡ accepted (record { value = n; next = k + 1 }) → side ticketLimits outer b k ≡ times n (limit outer) b (k + 1)
   unfolding side
-  counted n e = after-value (count 1 4) _ b k n (k + 1) e
+  counted n e = after-value (count 1 ticketLimits) _ b k n (k + 1) e
 
 -- k of n limits are read and laid, and the rest goes on from `next`
 pub record Filling (b : List ℕ) (at outer j n : ℕ) (o w : List ℤ) (next k : ℕ) : Type 0 where
   pub limits : List Model.Limit
   pub number : length limits ≡ k
   pub low : k ≤ n
-  pub few : n ≤ 4
+  pub few : n ≤ ticketLimits
   pub reached : Reached b next
   pub laid : w ≡ layLimits o j limits
   pub sized : Sized outer limits
   pub ranges : All LimitRanges limits
-  pub so : side 4 outer b at ≡ before limits (times (n - k) (limit outer) b next)
+  pub so : side ticketLimits outer b at ≡ before limits (times (n - k) (limit outer) b next)
 
 module _ (b : List ℕ) (at outer j n : ℕ) (o : List ℤ) (p : SideIn b at outer j (length o)) where
-  pub filling-starts : count 1 4 b at ≡ accepted (record { value = n; next = at + 1 }) → n ≤ 4 → Reached b (at + 1)
+  pub filling-starts : count 1 ticketLimits b at ≡ accepted (record { value = n; next = at + 1 }) → n ≤ ticketLimits → Reached b (at + 1)
       → Filling b at outer j n o o (at + 1) 0
   unfolding layLimits
   filling-starts e h r = record {
@@ -100,8 +100,8 @@ module _ (b : List ℕ) (at outer j n : ℕ) (o : List ℤ) (p : SideIn b at out
             so = f .so ∙ times-more (limit outer) b n k next (f .limits) x to h e;
           }
 
-    pub filling-no : (q a : ℕ) → k < n → limit outer b next ≡ refused q a → side 4 outer b at ≡ refused q a
+    pub filling-no : (q a : ℕ) → k < n → limit outer b next ≡ refused q a → side ticketLimits outer b at ≡ refused q a
     filling-no q a h e = f .so ∙ times-no (limit outer) b n k next (f .limits) q a h e
 
-    pub filling-done : n ≤ k → side 4 outer b at ≡ accepted (record { value = f .limits; next = next })
+    pub filling-done : n ≤ k → side ticketLimits outer b at ≡ accepted (record { value = f .limits; next = next })
     filling-done h = f .so ∙ times-done (limit outer) b n k next (f .limits) h

@@ -1,6 +1,6 @@
 -- An access read and laid subscript by subscript, then accesses one after another.
 use mathlib.Core.Path.{_≡_, refl, sym, ap, ap₂, _∙_}
-use mathlib.Core.List.{List, [], _∷_, _++_, map, append-nil, map-append}
+use mathlib.Core.List.{List, [], _∷_, _++_, map, map-append}
 use Prim.Native.Nat.{ℕ, suc, _+_, _*_, _-_, _≤_, _<_}
 use native.Mathlib.Omega.{arith}
 use native.Mathlib.Nat.{add-zero}
@@ -161,7 +161,7 @@ pub record Passing (b : List ℕ) (at lo n : ℕ) (as′ : List (List ℕ)) (m k
   pub list : List Model.Access
   pub number : length list ≡ i
   pub low : i ≤ m
-  pub few : m ≤ 4
+  pub few : m ≤ mostReads
   pub reached : Reached b next
   pub words-room : length w ≡ length w₀
   pub accessed-room : length o ≡ length o₀
@@ -170,7 +170,7 @@ pub record Passing (b : List ℕ) (at lo n : ℕ) (as′ : List (List ℕ)) (m k
   pub so : accesses lo n as′ b at ≡ before list (times (m - i) (access n as′) b next)
 
 module _ (b : List ℕ) (at lo n : ℕ) (as′ : List (List ℕ)) (m k : ℕ) (w₀ : List ℤ) (o₀ : List ℕ) where
-  pub passing-starts : count lo mostReads b at ≡ accepted (record { value = m; next = at + 1 }) → m ≤ 4 → Reached b (at + 1)
+  pub passing-starts : count lo mostReads b at ≡ accepted (record { value = m; next = at + 1 }) → m ≤ mostReads → Reached b (at + 1)
       → Passing b at lo n as′ m k w₀ w₀ o₀ o₀ (at + 1) 0
   unfolding layAccesses
   passing-starts e h r = record {

@@ -13,7 +13,7 @@ use Rattle.lists.proofs.PartLaws.{put-nil, put-put}
 use Rattle.model.specs.Answer.{accepted, refused}
 use Rattle.model.specs.Ticket.{Access, Statement}
 use Rattle.model.specs.Bounds.{accessesOf}
-use Rattle.model.specs.Grammar.{count, times, statement, statements, mostAccesses}
+use Rattle.model.specs.Grammar.{count, times, statement, statements, mostStatements, mostWrites, mostReads, mostAccesses}
 use Rattle.ticket_words.specs.Reads.{Reached}
 use Rattle.ticket_words.proofs.ReaderLaws.{after-value, after-refusal, before, times-start, times-more, times-no, times-done}
 use Rattle.ticket_statements.specs.Laid.{layAccesses, arrayNumbers, accessesIn, sizeOf}
@@ -22,13 +22,13 @@ use Rattle.ticket_statements.specs.declared.StatementRead.{StatementRead
 use Rattle.ticket_statements.proofs.AccessLaws.{lay-append}
 
 module _ (n : ℕ) (as′ : List (List ℕ)) (b : List ℕ) (k : ℕ) where
-  pub no-count : (q p : ℕ) → count 1 4 b k ≡ refused q p → statements n as′ b k ≡ refused q p
+  pub no-count : (q p : ℕ) → count 1 mostStatements b k ≡ refused q p → statements n as′ b k ≡ refused q p
   unfolding statements
-  no-count q p e = after-refusal (count 1 4) _ b k q p e
+  no-count q p e = after-refusal (count 1 mostStatements) _ b k q p e
 
-  counted : (m : ℕ) → count 1 4 b k ≡ accepted (record { value = m; next = k + 1 }) → statements n as′ b k ≡ times m (statement n as′) b (k + 1)
+  counted : (m : ℕ) → count 1 mostStatements b k ≡ accepted (record { value = m; next = k + 1 }) → statements n as′ b k ≡ times m (statement n as′) b (k + 1)
   unfolding statements
-  counted m e = after-value (count 1 4) _ b k m (k + 1) e
+  counted m e = after-value (count 1 mostStatements) _ b k m (k + 1) e
 
 -- one number more for each statement
 column-more : (f : Statement → ℕ) (ss : List Statement) (s : Statement) (x : ℕ) (l : List ℕ) (i : ℕ) → i < length l → x ≡ f s → take i l ≡ map f ss
@@ -41,14 +41,14 @@ pub record Filling (b : List ℕ) (at n : ℕ) (as′ : List (List ℕ)) (m : �
   pub list : List Statement
   pub number : length list ≡ i
   pub low : i ≤ m
-  pub few : m ≤ 4
-  pub bounded : many ≤ i * 5
+  pub few : m ≤ mostStatements
+  pub bounded : many ≤ i * (mostWrites + mostReads)
   pub reached : Reached b next
   pub words-room : length w ≡ length w₀
   pub accessed-room : length o ≡ length o₀
-  pub sizes-room : length ms ≡ 4
-  pub rules-room : length rs ≡ 4
-  pub constants-room : length cs ≡ 4
+  pub sizes-room : length ms ≡ mostStatements
+  pub rules-room : length rs ≡ mostStatements
+  pub constants-room : length cs ≡ mostStatements
   pub many-is : many ≡ length (accessesIn list)
   pub laid : Laid 0 (accessesIn list) w₀ w o₀ o
   pub sizes : take i ms ≡ map sizeOf list
@@ -57,8 +57,8 @@ pub record Filling (b : List ℕ) (at n : ℕ) (as′ : List (List ℕ)) (m : �
   pub so : statements n as′ b at ≡ before list (times (m - i) (statement n as′) b next)
 
 module _ (b : List ℕ) (at n : ℕ) (as′ : List (List ℕ)) (m : ℕ) (w₀ : List ℤ) (o₀ : List ℕ) where
-  pub filling-starts : (ms rs cs : List ℕ) → length ms ≡ 4 → length rs ≡ 4 → length cs ≡ 4
-      → count 1 4 b at ≡ accepted (record { value = m; next = at + 1 }) → m ≤ 4 → Reached b (at + 1)
+  pub filling-starts : (ms rs cs : List ℕ) → length ms ≡ mostStatements → length rs ≡ mostStatements → length cs ≡ mostStatements
+      → count 1 mostStatements b at ≡ accepted (record { value = m; next = at + 1 }) → m ≤ mostStatements → Reached b (at + 1)
       → Filling b at n as′ m w₀ w₀ o₀ o₀ ms rs cs 0 (at + 1) 0
   unfolding layAccesses accessesIn flatMap
   filling-starts ms rs cs x y z e h r = record {
@@ -84,7 +84,7 @@ module _ (b : List ℕ) (at n : ℕ) (as′ : List (List ℕ)) (m : ℕ) (w₀ :
   module _ (w : List ℤ) (o ms rs cs : List ℕ) (many next i : ℕ) (f : Filling b at n as′ m w₀ w o₀ o ms rs cs many next i) where
     pub filling-more : (s : Statement) (r : StatementRead) (v : List ℤ) (u : List ℕ) → length o₀ ≡ mostAccesses → i < m
         → statement n as′ b next ≡ accepted (record { value = s; next = r .next })
-        → StatementLaid s many w v o u r → r .size ≤ 5 → length v ≡ length w → length u ≡ length o → Reached b (r .next)
+        → StatementLaid s many w v o u r → r .size ≤ mostWrites + mostReads → length v ≡ length w → length u ≡ length o → Reached b (r .next)
         → Filling b at n as′ m w₀ v o₀ u (set ms i (r .size)) (set rs i (r .rule)) (set cs i (r .constant)) (many + r .size) (r .next) (i + 1)
     unfolding accessesIn
     filling-more s r v u y h e q five c d t =

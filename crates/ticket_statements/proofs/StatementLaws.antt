@@ -13,7 +13,7 @@ use Rattle.lists.proofs.PartLaws.{set-is-put, put-put}
 use Rattle.model.specs.Answer.{accepted, refused}
 use Rattle.model.specs.Ticket.{Access, Statement}
 use Rattle.model.specs.Bounds.{accessesOf}
-use Rattle.model.specs.Grammar.{Reader, _>>=_, count, natural, times, done, access, statement}
+use Rattle.model.specs.Grammar.{Reader, _>>=_, count, natural, times, done, access, statement, mostReads}
 use Rattle.ticket_refusals.specs.Refusals.{firstOf}
 use Rattle.ticket_words.specs.Reads.{answer}
 use Rattle.ticket_refusals.specs.declared.Status.{Status}
@@ -58,8 +58,8 @@ module _ (n : ℕ) (as′ : List (List ℕ)) (b : List ℕ) (k : ℕ) where
       joined s₁ s₂ w l lo j i t g h =
           both-read (access n as′) (λ _. accesses lo n as′) made b (k + 2) s₁ s₂ w l j i g h
           ∙ ap (λ (r : Access → Reader Statement). (access n as′ >>= r) b (k + 2))
-          (fun-ext (λ x. fun-ext (λ a. fun-ext (λ q. sym (regrouped (count lo 4) (λ m. times m (access n as′)) (λ y. done (made x y)) a q)))))
-          ∙ ap (λ y. (access n as′ >>= (λ x. count y 4 >>= (λ m. times m (access n as′) >>= (λ rs. done (made x rs))))) b (k + 2)) t
+          (fun-ext (λ x. fun-ext (λ a. fun-ext (λ q. sym (regrouped (count lo mostReads) (λ m. times m (access n as′)) (λ y. done (made x y)) a q)))))
+          ∙ ap (λ y. (access n as′ >>= (λ x. count y mostReads >>= (λ m. times m (access n as′) >>= (λ rs. done (made x rs))))) b (k + 2)) t
           ∙ sym (after-value (natural 0 3) _ b k v (k + 1) e ∙ after-value (natural 0 (cond (eqb v 3) 0 32767)) _ b (k + 1) c (k + 2) constant-read)
 
 -- ---- its accesses, the written one first

@@ -14,7 +14,7 @@ use Rattle.lists.specs.Membership.{All}
 use Rattle.model.specs.Encode.{kindOf}
 use Rattle.model.specs.Answer.{refused}
 use Rattle.model.specs.Ticket.{Limit, Loop, Subscript, Access, Statement, Step, exchange, reversal, skew, section, Nest, Ticket}
-use Rattle.model.specs.Grammar.{between, elements, extents, depthAfter}
+use Rattle.model.specs.Grammar.{between, elements, extents, depthAfter, mostStatements, mostArrays, mostDimensions, ticketLoops, ticketLimits}
 use Rattle.model.specs.Bounds.{accessesOf}
 use Rattle.model.specs.Shape.{Shaped}
 use Rattle.model.specs.Shape as Shape
@@ -137,16 +137,16 @@ brief-limit k l e = brief-more (omega arith) (brief-append (slot (wordFrom (pos 
 
 brief-loop : (k : ℕ) (L : Loop) → Shape.Sized k (L .lower) → Shape.Sized k (L .upper) → Brief (18 + 8 * k) (loopSlots L)
 unfolding loopSlots
-brief-loop k L s t = brief-more (omega arith) (brief-append (countedSlots 1 4 limitSlots (L .lower)) (countedSlots 1 4 limitSlots (L .upper))
-    (brief-counted 1 4 limitSlots (L .lower) (λ l i. brief-limit k l (s l i)))
-    (brief-counted 1 4 limitSlots (L .upper) (λ l i. brief-limit k l (t l i))))
+brief-loop k L s t = brief-more (omega arith) (brief-append (countedSlots 1 ticketLimits limitSlots (L .lower)) (countedSlots 1 ticketLimits limitSlots (L .upper))
+    (brief-counted 1 ticketLimits limitSlots (L .lower) (λ l i. brief-limit k l (s l i)))
+    (brief-counted 1 ticketLimits limitSlots (L .upper) (λ l i. brief-limit k l (t l i))))
 
 -- the words of n loops inside k others
 loopsRoom : ℕ → ℕ → ℕ
 loopsRoom k zero = 0
 loopsRoom k (suc n) = 18 + 8 * k + loopsRoom (suc k) n
 
-room-most : (n : ℕ) → n ≤ 4 → loopsRoom 0 n ≤ 120
+room-most : (n : ℕ) → n ≤ ticketLoops → loopsRoom 0 n ≤ 120
 unfolding loopsRoom
 room-most zero h = omega arith
 room-most (suc zero) h = omega arith
@@ -161,10 +161,10 @@ brief-loopsFrom k [] s = brief-nil
 brief-loopsFrom k (L ∷ N) s = brief-append (loopSlots L) (flatMap loopSlots N) (brief-loop k L (s .0 .0) (s .0 .1))
     (brief-loopsFrom (suc k) N (s .1))
 
-brief-loops : (N : List Loop) → Shaped 0 N → Brief 121 (countedSlots 1 4 loopSlots N)
+brief-loops : (N : List Loop) → Shaped 0 N → Brief 121 (countedSlots 1 ticketLoops loopSlots N)
 unfolding countedSlots
-brief-loops N s = brief-after (slot (countFrom 1 4) (pos (length N)) ∷ []) (flatMap loopSlots N) (brief-slot (countFrom 1 4) (pos (length N)) tt)
-    (λ b k h. brief-more (room-most (length N) (count-most 1 4 (length N) b k h)) (brief-loopsFrom 0 N s))
+brief-loops N s = brief-after (slot (countFrom 1 ticketLoops) (pos (length N)) ∷ []) (flatMap loopSlots N) (brief-slot (countFrom 1 ticketLoops) (pos (length N)) tt)
+    (λ b k h. brief-more (room-most (length N) (count-most 1 ticketLoops (length N) b k h)) (brief-loopsFrom 0 N s))
 
 -- ---- arrays
 
@@ -187,10 +187,10 @@ brief-arraysFrom t [] = brief-more (omega arith) brief-nil
 brief-arraysFrom t (a ∷ as′) = brief-more (omega arith) (brief-append (arraySlots t a) (arraysSlots (t + elements a) as′) (brief-array t a)
     (brief-arraysFrom (t + elements a) as′))
 
-brief-arrays : (as′ : List (List ℕ)) → Brief 17 (slot (countFrom 1 4) (pos (length as′)) ∷ arraysSlots 0 as′)
-brief-arrays as′ = brief-after {n = 16} (slot (countFrom 1 4) (pos (length as′)) ∷ []) (arraysSlots 0 as′)
-    (brief-slot (countFrom 1 4) (pos (length as′)) tt)
-    (λ b k s. brief-more (let h = count-most 1 4 (length as′) b k s in omega arith) (brief-arraysFrom 0 as′))
+brief-arrays : (as′ : List (List ℕ)) → Brief 17 (slot (countFrom 1 mostArrays) (pos (length as′)) ∷ arraysSlots 0 as′)
+brief-arrays as′ = brief-after {n = 16} (slot (countFrom 1 mostArrays) (pos (length as′)) ∷ []) (arraysSlots 0 as′)
+    (brief-slot (countFrom 1 mostArrays) (pos (length as′)) tt)
+    (λ b k s. brief-more (let h = count-most 1 mostArrays (length as′) b k s in omega arith) (brief-arraysFrom 0 as′))
 
 -- arrays that are taken have at most 3 dimensions
 flat-arrays : (b : List ℕ) (k t : ℕ) (as′ : List (List ℕ)) → AllTaken b k (arraysSlots t as′) → (a : ℕ) → length (extents as′ a) ≤ 3
@@ -202,7 +202,7 @@ flat-arrays b k t (x ∷ as′) s (suc a) = flat-arrays b (suc k + length (exten
 
 -- ---- statements
 
-module _ (as′ : List (List ℕ)) (n : ℕ) (shallow : n ≤ 4) (flat : (a : ℕ) → length (extents as′ a) ≤ 3) where
+module _ (as′ : List (List ℕ)) (n : ℕ) (shallow : n ≤ ticketLoops) (flat : (a : ℕ) → length (extents as′ a) ≤ mostDimensions) where
   brief-subscript : (s : Subscript) → length (s .coefficients) ≡ n → Brief 5 (subscriptSlots s)
   unfolding subscriptSlots
   brief-subscript s e = brief-more (omega arith) (brief-numbers (s .constant ∷ s .coefficients))
@@ -261,13 +261,13 @@ brief-steps m ts = brief-after {n = 32} (slot (countFrom 0 8) (pos (length ts)) 
 brief-nest : (N : Nest) → Shaped 0 (N .loops) → All (StatementSized (N .arrays) (length (N .loops))) (N .statements) → Brief 471 (nestSlots N)
 unfolding nestSlots countedSlots
 brief-nest N s f =
-    let loops = countedSlots 1 4 loopSlots (N .loops) in
-    let arrays = slot (countFrom 1 4) (pos (length (N .arrays))) ∷ arraysSlots 0 (N .arrays) in
-    let statements = countedSlots 1 4 (statementSlots (length (N .arrays))) (N .statements) in
+    let loops = countedSlots 1 ticketLoops loopSlots (N .loops) in
+    let arrays = slot (countFrom 1 mostArrays) (pos (length (N .arrays))) ∷ arraysSlots 0 (N .arrays) in
+    let statements = countedSlots 1 mostStatements (statementSlots (length (N .arrays))) (N .statements) in
     brief-after {n = 350} loops (arrays ++ statements) (brief-loops (N .loops) s) (λ b k h.
     brief-after {n = 333} arrays statements (brief-arrays (N .arrays)) (λ c j i.
-    brief-counted 1 4 (statementSlots (length (N .arrays))) (N .statements) (λ x m. brief-statement (N .arrays) (length (N .loops))
-    (count-most 1 4 (length (N .loops)) b k (h .0, tt)) (flat-arrays c (suc j) 0 (N .arrays) (i .1)) x (f x m))))
+    brief-counted 1 mostStatements (statementSlots (length (N .arrays))) (N .statements) (λ x m. brief-statement (N .arrays) (length (N .loops))
+    (count-most 1 ticketLoops (length (N .loops)) b k (h .0, tt)) (flat-arrays c (suc j) 0 (N .arrays) (i .1)) x (f x m))))
 
 pub brief-ticket : (K : Ticket) → TicketSized K → Brief 504 (ticketSlots K)
 unfolding ticketSlots

@@ -15,7 +15,7 @@ use Rattle.model.specs.Answer as Answer
 use Rattle.model.specs.Answer.{accepted}
 use Rattle.model.specs.Words.{bytesOf}
 use Rattle.model.specs.Ticket.{Limit, Loop, Subscript, Access, Statement, Nest, Ticket}
-use Rattle.model.specs.Grammar.{Reader, _>>=_, _>>_, done, count, nest, end, decode, written, decodeNest}
+use Rattle.model.specs.Grammar.{Reader, _>>=_, _>>_, done, count, nest, end, decode, written, decodeNest, mostArrays}
 use Rattle.model.specs.Encode.{counted, limitWords, loopWords, arrayWords, accessWords, statementWords, nestWords, encode}
 use Rattle.model.specs.Shape.{Fits, FitsAll, WellFormed}
 use Rattle.model.specs.Ranges.{Small, LimitRanges, LoopRanges, ArrayRanges, AccessRanges, StatementRanges, NestRanges}
@@ -47,13 +47,13 @@ unfolding arrayWords
 array-small a r = let u = r .dimensions .high in counted-small one a (omega arith)
     (λ n i. let e = r .extents n i .high in all-cons Small (omega arith) (all-nil Small))
 
-access-small : {n : ℕ} (as′ : List (List ℕ)) (a : Access) → length as′ ≤ 4 → AccessRanges a → Fits as′ n a → All Small (accessWords a)
+access-small : {n : ℕ} (as′ : List (List ℕ)) (a : Access) → length as′ ≤ mostArrays → AccessRanges a → Fits as′ n a → All Small (accessWords a)
 unfolding accessWords
 access-small as′ a h r f = let t = f .there in all-cons Small (omega arith)
     (all-flatMap (λ (s : Subscript). s .constant ∷ s .coefficients) Small (a .subscripts)
     (λ s i. all-cons Small (r s i .constant) (r s i .coefficients)))
 
-statement-small : {n : ℕ} (as′ : List (List ℕ)) (s : Statement) → length as′ ≤ 4 → StatementRanges s → FitsAll as′ n s → All Small (statementWords s)
+statement-small : {n : ℕ} (as′ : List (List ℕ)) (s : Statement) → length as′ ≤ mostArrays → StatementRanges s → FitsAll as′ n s → All Small (statementWords s)
 unfolding statementWords
 statement-small as′ s h r f = let u = r .rule in let v = r .few-reads in
     all-cons Small (omega arith) (all-cons Small (r .constant) (all-append Small (flatMap accessWords (s .writes)) (counted accessWords (s .reads))

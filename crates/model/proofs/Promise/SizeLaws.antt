@@ -14,7 +14,7 @@ use Rattle.lists.specs.Tests.{select}
 use Rattle.lists.proofs.FlatMapLaws.{length-flatMap-most}
 use Rattle.lists.proofs.TestLaws.{cond-cases}
 use Rattle.model.specs.Ticket.{Limit, Loop, Subscript, Access, Statement, Nest}
-use Rattle.model.specs.Grammar.{extents}
+use Rattle.model.specs.Grammar.{extents, arrayRoom, mostStatements, mostReads, mostArrays, ticketLoops, mostLoops, mostPoints}
 use Rattle.model.specs.Points.{iterations}
 use Rattle.model.specs.Machine.{accesses}
 use Rattle.model.specs.Directions.{kinds, Kind, Line, occurs, upFrom, signVectors, allLines, lines}
@@ -56,7 +56,7 @@ module _ (N : Nest) (r : NestRanges 6 16 N) (w : WellFormed N) where
       let b = most-counted limitWords (L .upper) 7 16 (x .few-upper .high) (λ l i. let q = c .1 l i in omega arith) in
       let l = length-append (counted limitWords (L .lower)) (counted limitWords (L .upper)) in omega arith
 
-  most-array : (a : List ℕ) → Mem a (N .arrays) → length (arrayWords a) ≤ 4
+  most-array : (a : List ℕ) → Mem a (N .arrays) → length (arrayWords a) ≤ arrayRoom
   unfolding arrayWords
   most-array a m = most-counted _ a 1 3 (r .arrays a m .dimensions .high) (λ n i. omega arith)
 
@@ -76,15 +76,15 @@ module _ (N : Nest) (r : NestRanges 6 16 N) (w : WellFormed N) where
       let x = r .statements s m in let f = w .fits s m in
       let o = x .one-write in
       let a = length-flatMap-most accessWords 22 (s .writes) (λ c i. most-access c (f .writes c i)) in
-      let b = most-counted accessWords (s .reads) 22 4 (x .few-reads) (λ c i. most-access c (f .reads c i)) in
+      let b = most-counted accessWords (s .reads) 22 mostReads (x .few-reads) (λ c i. most-access c (f .reads c i)) in
       let l = length-append (flatMap accessWords (s .writes)) (counted accessWords (s .reads)) in omega arith
 
   most-words : length (nestWords N) ≤ 1828
   unfolding nestWords
   most-words =
-      let a = most-counted loopWords (N .loops) 226 6 (r .few-loops .high) most-loop in
-      let b = most-counted arrayWords (N .arrays) 4 4 (r .few-arrays .high) most-array in
-      let c = most-counted statementWords (N .statements) 113 4 (r .few-statements .high) most-statement in
+      let a = most-counted loopWords (N .loops) 226 mostLoops (r .few-loops .high) most-loop in
+      let b = most-counted arrayWords (N .arrays) arrayRoom mostArrays (r .few-arrays .high) most-array in
+      let c = most-counted statementWords (N .statements) 113 mostStatements (r .few-statements .high) most-statement in
       let ls = counted loopWords (N .loops) in let as′ = counted arrayWords (N .arrays) in let ss = counted statementWords (N .statements) in
       let l = length-append ls (as′ ++ (ss ++ (pos 0 ∷ []))) in let m = length-append as′ (ss ++ (pos 0 ∷ [])) in
       let n = length-append ss (pos 0 ∷ []) in omega arith
@@ -105,7 +105,7 @@ unfolding decimal
 most-decimal n = most-digits (suc n) n
 
 -- source and sink of at most 4 statements, at most 4 signs
-most-line : (l : Line) → l .source < 4 → l .sink < 4 → length (l .vector) ≤ 4 → length (lineText l) ≤ 19
+most-line : (l : Line) → l .source < mostStatements → l .sink < mostStatements → length (l .vector) ≤ ticketLoops → length (lineText l) ≤ 19
 unfolding lineText
 most-line l h g v =
     let a = most-decimal (suc (l .source)) in let b = most-decimal (suc (l .sink)) in let c = length-map (l .vector) signChar in
@@ -135,7 +135,7 @@ no-signs : length (signVectors 0) ≤ 1
 unfolding signVectors
 no-signs = omega arith
 
-most-signs : (d : ℕ) → d ≤ 4 → length (signVectors d) ≤ 81
+most-signs : (d : ℕ) → d ≤ ticketLoops → length (signVectors d) ≤ 81
 most-signs zero h = let a = no-signs in omega arith
 most-signs (suc zero) h = let b = more-signs 0 1 no-signs in omega arith
 most-signs (suc (suc zero)) h = let c = more-signs 1 3 (more-signs 0 1 no-signs) in omega arith
@@ -152,7 +152,7 @@ abbrev lineOf : ℕ → ℕ → Kind → List Sign → Line
 lineOf s t k v = record { kind = k; source = s; sink = t; vector = v }
 
 -- for each source, sink and kind the vectors
-most-lines : (n d : ℕ) → n ≤ 4 → d ≤ 4 → length (allLines n d) ≤ 3888
+most-lines : (n d : ℕ) → n ≤ mostStatements → d ≤ ticketLoops → length (allLines n d) ≤ 3888
 unfolding allLines
 most-lines n d h g =
     let z = length-upFrom 0 n in
@@ -168,7 +168,8 @@ most-lines n d h g =
         let a = length-flatMap-most (λ t. flatMap (λ k. map (lineOf s t k) (signVectors d)) kinds) 243 (upFrom 0 n) (λ t _. of-sink s t) in
         omega arith
 
-pub most-text : (N : Nest) → length (N .loops) ≤ 4 → length (N .statements) ≤ 4 → length (iterations (N .loops)) ≤ 4096 → length (listing N) ≤ 82000
+pub most-text : (N : Nest) → length (N .loops) ≤ ticketLoops → length (N .statements) ≤ mostStatements
+    → length (iterations (N .loops)) ≤ mostPoints → length (listing N) ≤ 82000
 unfolding listing linesOf lines
 most-text N h g i =
     let found = linesOf N in

@@ -11,7 +11,7 @@ use Rattle.lists.proofs.MembershipLaws.{map-all}
 use Rattle.lists.proofs.FlatMapLaws.{mem-flatMap}
 use Rattle.model.specs.Answer.{Answer, accepted}
 use Rattle.model.specs.Ticket.{Limit, Loop, Access, Statement, Step, exchange, reversal, skew, section, Nest, Ticket}
-use Rattle.model.specs.Grammar.{total, mostStatements, decodeNest}
+use Rattle.model.specs.Grammar.{total, mostStatements, decodeNest, mostReads}
 use Rattle.model.specs.Bounds.{accessesOf}
 use Rattle.model.specs.Limits.{accessAfter, statementAfter, nestAfter, nestAfterAll}
 use Rattle.model.specs.Encode.{encode}
@@ -33,7 +33,7 @@ record StatementCounts (s : Statement) : Type 0 where
   rule : s .rule ≤ 3
   constant : s .constant ≤ 32767
   one-write : length (s .writes) ≡ 1
-  few-reads : length (s .reads) ≤ 4
+  few-reads : length (s .reads) ≤ mostReads
   copy-reads : s .rule ≡ 3 → 1 ≤ length (s .reads)
   copy-constant : s .rule ≡ 3 → s .constant ≡ 0
 

@@ -16,12 +16,12 @@ abbrev μ-loop : tie.MeasureT-loop
 loop-holds : tie.Need-loop-holds Inv-loop μ-loop
 loop-holds c = let s = c .before in (omega arith, none-held (s .args .nest .now) (s .args .counts .now) _ refl)
 
-extreme-value-requires : tie.Need-extreme-value-requires Inv-loop μ-loop
-extreme-value-requires c κs = let s = c .before .before .before in loops-before (s .args .nest .now) (s .args .counts .now) (s .args .n)
+least-value-requires : tie.Need-least-value-requires Inv-loop μ-loop
+least-value-requires c κs = let s = c .before .before .before in loops-before (s .args .nest .now) (s .args .counts .now) (s .args .n)
     (c .before .loop .i) (s .pre) (c .loop-test .taken)
 
-extreme-value-requires-2 : tie.Need-extreme-value-requires-2 Inv-loop μ-loop
-extreme-value-requires-2 c κs = let s = c .before .before .before .before in loops-before (s .args .nest .now) (s .args .counts .now) (s .args .n)
+greatest-value-requires : tie.Need-greatest-value-requires Inv-loop μ-loop
+greatest-value-requires c κs = let s = c .before .before .before .before in loops-before (s .args .nest .now) (s .args .counts .now) (s .args .n)
     (c .before .before .loop .i) (s .pre) (c .before .loop-test .taken)
 
 mul-r : tie.Need-mul-r Inv-loop μ-loop
@@ -44,9 +44,9 @@ loop-again : tie.Need-loop-again Inv-loop μ-loop
 loop-again c = let s = c .before .before .before .before .before .before .before in let l = c .before .before .before .before .before .loop
     in let f = s .pre .shallow in let h = c .before .before .before .before .loop-test .taken in (
       omega arith,
-      more-held (s .args .nest .now) (s .args .counts .now) (l .i) (l .r) (c .before .before .before .extreme-value .result .value)
-          (c .before .before .extreme-value2 .result .value) (omega arith) (l .inv .1) (c .before .before .before .extreme-value .ensures)
-          (c .before .before .extreme-value2 .ensures),
+      more-held (s .args .nest .now) (s .args .counts .now) (l .i) (l .r) (c .before .before .before .least-value .result .value)
+          (c .before .before .greatest-value .result .value) (omega arith) (l .inv .1) (c .before .before .before .least-value .ensures)
+          (c .before .before .greatest-value .ensures),
     )
 
 returns : tie.Need-returns Inv-loop μ-loop
@@ -60,8 +60,8 @@ ranges-spec =
     Inv-loop
     μ-loop
     loop-holds
-    extreme-value-requires
-    extreme-value-requires-2
+    least-value-requires
+    greatest-value-requires
     mul-r
     array-set-from-r
     add-i

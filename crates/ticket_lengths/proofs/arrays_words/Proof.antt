@@ -3,13 +3,14 @@ use borrow.Author.Needs.{needs}
 use mathlib.Core.Path.{refl}
 use Prim.Native.Nat.{_-_}
 use native.Mathlib.Omega.{arith}
+use Rattle.model.specs.Grammar.{mostArrays, arrayRoom}
 use Rattle.ticket_lengths.specs.Lengths.{arrayLength}
 use Rattle.ticket_lengths.proofs.SumLaws.{Summing, sum-start, sum-more, sum-done, sum-small, array-ends, few-arrays}
 use Rattle.ticket_lengths.proofs.arrays_words.Statement.{statement}
 use Rattle.ticket_lengths.proofs.arrays_words.Tie as tie
 
 abbrev Inv-loop : tie.InvT-loop
-Inv-loop extents count total₀ i₀ total i = Summing (arrayLength extents) 4 count total i
+Inv-loop extents count total₀ i₀ total i = Summing (arrayLength extents) arrayRoom count total i
 
 abbrev μ-loop : tie.MeasureT-loop
 μ-loop extents count total₀ i₀ total i = count - i
@@ -34,7 +35,7 @@ add-total c = let d = c .before .before .before .pre .dimensions (c .before .bef
 
 add-total-2 : tie.Need-add-total-2 Inv-loop μ-loop
 add-total-2 c = let s = c .before .before .before in let d = s .pre .dimensions (c .before .before .loop .i) (c .before .loop-test .taken)
-    in let i = sum-small (c .before .before .loop .inv) 4 (few-arrays (s .args .extents .now) (s .pre)) in search needs
+    in let i = sum-small (c .before .before .loop .inv) mostArrays (few-arrays (s .args .extents .now) (s .pre)) in search needs
 
 add-i : tie.Need-add-i Inv-loop μ-loop
 add-i c = let t = few-arrays (c .before .before .before .args .extents .now) (c .before .before .before .pre) in search needs
@@ -50,7 +51,7 @@ loop-again c = let d = c .before .before .before .pre .dimensions (c .before .be
 returns : tie.Need-returns Inv-loop μ-loop
 returns c = let i = c .before .loop .inv in let s = c .before .before in (
   sum-done i (c .loop-test .left),
-  sum-small i 4
+  sum-small i mostArrays
       (few-arrays (s .args .extents .now) (s .pre)),
 )
 
