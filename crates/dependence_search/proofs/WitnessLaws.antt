@@ -31,7 +31,7 @@ body = (record {
 }) ∷ []
 
 abbrev stored : Flat
-stored = flat (pos 0 ∷ pos 1 ∷ []) (record { depth = 1; count = 2; elements = 1; body = 1 }) (replicate 2 0) (0 ∷ []) (true ∷ [])
+stored = flat (pos 0 ∷ pos 1 ∷ []) 1 2 (replicate 2 0) (0 ∷ []) (true ∷ []) 1
 
 number-is : (a x : ℕ) → a < 1 → x < 2 → numberAt stored a x ≡ 0
 number-is a x h g = getD-replicate 2 (a * 2 + x) 0 0 (omega arith)

@@ -31,16 +31,12 @@ pub record Flat : Type 0 where
   pub writes : List Bool
   pub body : ℕ
 
-abbrev pub flat : List ℤ → Sizes → List ℕ → List ℕ → List Bool → Flat
-flat p z e s w = record {
-  points = p;
-  depth = z .depth;
-  count = z .count;
-  numbers = e;
-  statements = s;
-  writes = w;
-  body = z .body;
-}
+abbrev pub flat : List ℤ → ℕ → ℕ → List ℕ → List ℕ → List Bool → ℕ → Flat
+flat p d n e s w b = record { points = p; depth = d; count = n; numbers = e; statements = s; writes = w; body = b }
+
+-- the same with the sizes in a struct
+abbrev pub flatIn : List ℤ → Sizes → List ℕ → List ℕ → List Bool → Flat
+flatIn p z e s w = flat p (z .depth) (z .count) e s w (z .body)
 
 abbrev pub numberAt : Flat → ℕ → ℕ → ℕ
 numberAt F a x = getD (F .numbers) (a * F .count + x) 0

@@ -6,7 +6,7 @@ ghost use lib.ListN.{length};
 ghost use Rattle.model.specs.Directions.{kindCount, vectorCount};
 ghost use Rattle.dependence_vectors.specs.Numbers.{placeOf, marksFor};
 ghost use Rattle.dependence_pair_search.specs.Search.{Adds, Clear, Linked};
-ghost use Rattle.dependence_search.specs.Flat.{flat, Ready, SearchIn, Searched, kindOf, numbersOf, setBy, setFrom, NumbersBelow, Lent, Listed, Alike};
+ghost use Rattle.dependence_search.specs.Flat.{flat, flatIn, Ready, SearchIn, Searched, kindOf, numbersOf, setBy, setFrom, NumbersBelow, Lent, Listed, Alike};
 ghost use Rattle.dependence_search.specs.Flat.{FirstLike};
 use model::ELEMENTS;
 use model::KINDS;
@@ -111,10 +111,12 @@ pub fn block(body: usize, s: usize, t: usize, k: usize) -> usize
 // Marks the conflicts of access a, as the source, with access b. The links of a are lent.
 fn mark_pair(
     points: &[i64],
-    sizes: Sizes,
+    depth: usize,
+    count: usize,
     numbers: &[u16],
     statements: &[usize],
     writes: &[bool],
+    body: usize,
     a: usize,
     b: usize,
     next: &[u16],
@@ -122,26 +124,25 @@ fn mark_pair(
     start: &mut [u16],
     marks: &mut [bool],
 )
-    requires { ⌜ Ready (flat (now points) sizes (now numbers) (now statements) (now writes)) (now marks) × (a < length (now statements))
-        × (b < length (now statements)) × Linked (numbersOf (sizes .count) (now numbers) a) (now next) (now head) (now start)
-        × NumbersBelow (length (now head)) (flat (now points) sizes (now numbers) (now statements) (now writes)) ⌝ }
-    ensures { λ _. ⌜ Adds (now (marks .entry)) (now (marks .exit)) (setBy (flat (now (points .entry)) sizes (now (numbers .entry))
-        (now (statements .entry)) (now (writes .entry))) a b) × Clear (now (head .exit)) ⌝ }
+    requires { ⌜ Ready (flat (now points) depth count (now numbers) (now statements) (now writes) body) (now marks) × (a < length (now statements))
+        × (b < length (now statements)) × Linked (numbersOf count (now numbers) a) (now next) (now head) (now start)
+        × NumbersBelow (length (now head)) (flat (now points) depth count (now numbers) (now statements) (now writes) body) ⌝ }
+    ensures { λ _. ⌜ Adds (now (marks .entry)) (now (marks .exit)) (setBy (flat (now (points .entry)) depth count (now (numbers .entry))
+        (now (statements .entry)) (now (writes .entry)) body) a b) × Clear (now (head .exit)) ⌝ }
 {
     let k = kind(writes[a], writes[b]);
     if k < KINDS {
         let s = statements[a];
         let t = statements[b];
-        let count = sizes.count;
         let i = a * count;
         let j = b * count;
         dependence_pair_search::search(
             points,
-            sizes.depth,
+            depth,
             &numbers[i..i + count],
             &numbers[j..j + count],
             s < t,
-            block(sizes.body, s, t, k),
+            block(body, s, t, k),
             next,
             head,
             start,
@@ -153,22 +154,23 @@ fn mark_pair(
 // Marks the conflicts of access a, as the source, with every access.
 fn mark_source(
     points: &[i64],
-    sizes: Sizes,
+    depth: usize,
+    count: usize,
     numbers: &[u16],
     statements: &[usize],
     writes: &[bool],
+    body: usize,
     a: usize,
     next: &mut [u16],
     head: &mut [u16],
     start: &mut [u16],
     marks: &mut [bool],
 )
-    requires { ⌜ Ready (flat (now points) sizes (now numbers) (now statements) (now writes)) (now marks) × (a < length (now statements))
-        × Lent (flat (now points) sizes (now numbers) (now statements) (now writes)) (now next) (now head) (now start) ⌝ }
-    ensures { λ _. ⌜ Adds (now (marks .entry)) (now (marks .exit)) (setFrom (flat (now (points .entry)) sizes (now (numbers .entry))
-        (now (statements .entry)) (now (writes .entry))) a) × Clear (now (head .exit)) ⌝ }
+    requires { ⌜ Ready (flat (now points) depth count (now numbers) (now statements) (now writes) body) (now marks) × (a < length (now statements))
+        × Lent (flat (now points) depth count (now numbers) (now statements) (now writes) body) (now next) (now head) (now start) ⌝ }
+    ensures { λ _. ⌜ Adds (now (marks .entry)) (now (marks .exit)) (setFrom (flat (now (points .entry)) depth count (now (numbers .entry))
+        (now (statements .entry)) (now (writes .entry)) body) a) × Clear (now (head .exit)) ⌝ }
 {
-    let count = sizes.count;
     let i = a * count;
     dependence_pair_search::link(
         &numbers[i..i + count],
@@ -182,10 +184,12 @@ fn mark_source(
         if first_like(count, numbers, statements, writes, b) == b {
             mark_pair(
                 points,
-                sizes,
+                depth,
+                count,
                 numbers,
                 statements,
                 writes,
+                body,
                 a,
                 b,
                 next,
@@ -201,29 +205,33 @@ fn mark_source(
 // Marks the conflicts of every access, as the source, with every access. A source that an earlier one is like sets no more.
 fn mark_sources(
     points: &[i64],
-    sizes: Sizes,
+    depth: usize,
+    count: usize,
     numbers: &[u16],
     statements: &[usize],
     writes: &[bool],
+    body: usize,
     next: &mut [u16],
     head: &mut [u16],
     start: &mut [u16],
     marks: &mut [bool],
 )
-    requires { ⌜ Ready (flat (now points) sizes (now numbers) (now statements) (now writes)) (now marks)
-        × Lent (flat (now points) sizes (now numbers) (now statements) (now writes)) (now next) (now head) (now start) ⌝ }
-    ensures { λ _. ⌜ Searched (flat (now (points .entry)) sizes (now (numbers .entry)) (now (statements .entry)) (now (writes .entry)))
+    requires { ⌜ Ready (flat (now points) depth count (now numbers) (now statements) (now writes) body) (now marks)
+        × Lent (flat (now points) depth count (now numbers) (now statements) (now writes) body) (now next) (now head) (now start) ⌝ }
+    ensures { λ _. ⌜ Searched (flat (now (points .entry)) depth count (now (numbers .entry)) (now (statements .entry)) (now (writes .entry)) body)
         (now (marks .entry)) (now (marks .exit)) ⌝ }
 {
     let mut a = 0;
     while a < statements.len() {
-        if first_like(sizes.count, numbers, statements, writes, a) == a {
+        if first_like(count, numbers, statements, writes, a) == a {
             mark_source(
                 points,
-                sizes,
+                depth,
+                count,
                 numbers,
                 statements,
                 writes,
+                body,
                 a,
                 next,
                 head,
@@ -254,8 +262,8 @@ fn dependences_in_large(
     writes: &[bool],
     marks: &mut [bool],
 )
-    requires { ⌜ SearchIn (flat (now points) sizes (now numbers) (now statements) (now writes)) (sizes .elements) (now marks) ⌝ }
-    ensures { λ _. ⌜ Searched (flat (now (points .entry)) sizes (now (numbers .entry)) (now (statements .entry)) (now (writes .entry)))
+    requires { ⌜ SearchIn (flatIn (now points) sizes (now numbers) (now statements) (now writes)) (sizes .elements) (now marks) ⌝ }
+    ensures { λ _. ⌜ Searched (flatIn (now (points .entry)) sizes (now (numbers .entry)) (now (statements .entry)) (now (writes .entry)))
         (now (marks .entry)) (now (marks .exit)) ⌝ }
 {
     if has_room(sizes, 256, 8192) {
@@ -264,10 +272,12 @@ fn dependences_in_large(
         let mut start = [0u16; 256];
         mark_sources(
             points,
-            sizes,
+            sizes.depth,
+            sizes.count,
             numbers,
             statements,
             writes,
+            sizes.body,
             &mut next,
             &mut head,
             &mut start,
@@ -280,10 +290,12 @@ fn dependences_in_large(
     let mut start = [0u16; POINTS];
     mark_sources(
         points,
-        sizes,
+        sizes.depth,
+        sizes.count,
         numbers,
         statements,
         writes,
+        sizes.body,
         &mut next,
         &mut head,
         &mut start,
@@ -300,8 +312,8 @@ pub fn dependences(
     writes: &[bool],
     marks: &mut [bool],
 )
-    requires { ⌜ SearchIn (flat (now points) sizes (now numbers) (now statements) (now writes)) (sizes .elements) (now marks) ⌝ }
-    ensures { λ _. ⌜ Searched (flat (now (points .entry)) sizes (now (numbers .entry)) (now (statements .entry)) (now (writes .entry)))
+    requires { ⌜ SearchIn (flatIn (now points) sizes (now numbers) (now statements) (now writes)) (sizes .elements) (now marks) ⌝ }
+    ensures { λ _. ⌜ Searched (flatIn (now (points .entry)) sizes (now (numbers .entry)) (now (statements .entry)) (now (writes .entry)))
         (now (marks .entry)) (now (marks .exit)) ⌝ }
 {
     if has_room(sizes, 32, 128) {
@@ -310,10 +322,12 @@ pub fn dependences(
         let mut start = [0u16; 32];
         mark_sources(
             points,
-            sizes,
+            sizes.depth,
+            sizes.count,
             numbers,
             statements,
             writes,
+            sizes.body,
             &mut next,
             &mut head,
             &mut start,
@@ -327,10 +341,12 @@ pub fn dependences(
         let mut start = [0u16; 256];
         mark_sources(
             points,
-            sizes,
+            sizes.depth,
+            sizes.count,
             numbers,
             statements,
             writes,
+            sizes.body,
             &mut next,
             &mut head,
             &mut start,

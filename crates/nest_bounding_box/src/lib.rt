@@ -16,7 +16,6 @@ use model::ARRAY_ROOM;
 use model::LOOPS;
 use nest_flat::Header;
 use nest_index_range::Ends;
-use nest_index_range::Side;
 use nest_loop_ranges::Range;
 
 // Whether subscript j of all stays within its extent over the ranges of n loops.
@@ -25,11 +24,11 @@ fn subscript_fits(words: &[i16], j: usize, n: usize, extent: usize, ranges: [Ran
     ensures { λ r. ⌜ (r ≡ true → Enclosed (rangesOf n ranges) extent (formAt (now (words .entry)) n j)) ⌝ }
 {
     let constant = integers::word(words, j * 8);
-    let least = nest_loop_ranges::extreme_sum(words, j * 8 + 1, n, ranges, Side::Lower);
+    let least = nest_loop_ranges::least_sum(words, j * 8 + 1, n, ranges);
     if constant + least.value < 0 {
         return false;
     }
-    let greatest = nest_loop_ranges::extreme_sum(words, j * 8 + 1, n, ranges, Side::Upper);
+    let greatest = nest_loop_ranges::greatest_sum(words, j * 8 + 1, n, ranges);
     constant + greatest.value < extent as i64
 }
 

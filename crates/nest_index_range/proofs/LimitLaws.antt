@@ -17,9 +17,7 @@ use Rattle.integers.proofs.AffineLaws.{within-at, within-take, affine-size, nes
 use Rattle.model.specs.Points.{value}
 use Rattle.nest_flat.specs.Flat.{limitAt}
 use Rattle.nest_index_range.specs.Ranges.{Narrow, LimitIn, DivisorIn}
-use Rattle.nest_index_range.specs.declared.Side.{Side}
-use Rattle.nest_index_range.specs.Sides.{rounded}
-use Rattle.nest_index_range.proofs.Sides.{rounded-size}
+use Rattle.nest_index_range.proofs.Sides.{Side, rounded, rounded-size}
 
 pub within-drop : (n : ℕ) (l : List ℤ) (i : ℕ) → Within n l → Within n (drop i l)
 within-drop n l zero w = w

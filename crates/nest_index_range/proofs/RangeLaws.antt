@@ -18,8 +18,7 @@ use Rattle.integers.proofs.RingLaws.{zarith}
 use Rattle.integers.proofs.RangeLaws.{back, size-fits, size-sub, size-natAbs, cast-ok, test-lt, test-lt-no}
 use Rattle.model.specs.Points.{span, firstIndex, lastIndex}
 use Rattle.nest_flat.specs.Flat.{NestOk, loopAt}
-use Rattle.nest_index_range.specs.declared.Side.the-variants.{Lower, Upper}
-use Rattle.nest_index_range.specs.Ranges.{Narrow, indexAt, indexFrom, Outside, RangeIn, Ranged}
+use Rattle.nest_index_range.specs.Ranges.{Narrow, ceilAt, floorAt, firstFrom, lastFrom, Outside, RangeIn, Ranged}
 use Rattle.nest_index_range.proofs.LimitLaws.{copied}
 
 pub range-in : (s : List ℤ) (c : List ℕ) (depth : ℕ) (outer : List ℤ) → NestOk s c depth → length outer < depth → Within 100000 outer
@@ -51,10 +50,10 @@ range-in s c depth outer p h w =
 
 -- the model's ends
 pub ranged : (s : List ℤ) (c : List ℕ) (outer : List ℤ) (lo hi : ℤ)
-    → (lo ≡ indexFrom Lower s (length outer * 32) (getD c (length outer * 2) 0) outer) × Narrow lo
-    → (hi ≡ indexFrom Upper s (length outer * 32 + 16) (getD c (length outer * 2 + 1) 0) outer) × Narrow hi
+    → (lo ≡ firstFrom s (length outer * 32) (getD c (length outer * 2) 0) outer) × Narrow lo
+    → (hi ≡ lastFrom s (length outer * 32 + 16) (getD c (length outer * 2 + 1) 0) outer) × Narrow hi
     → Ranged (loopAt s c (length outer)) outer (toZ w64 (ofZ w64 lo)) (toZ w64 (ofZ w64 hi))
-unfolding loopAt indexFrom indexAt firstIndex lastIndex
+unfolding loopAt firstFrom lastFrom firstIndex lastIndex ceilAt floorAt
 ranged s c outer lo hi p q = let a = copied lo (p .1) in let b = copied hi (q .1) in
     record { first = a ∙ p .0; last = b ∙ q .0; low-size = rw a (p .1); high-size = rw b (q .1) }
 

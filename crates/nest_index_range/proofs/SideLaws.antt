@@ -1,6 +1,6 @@
 -- The limits of one side of a loop, the last one first: the first index is the largest of what the lower ones allow, the last index the
 -- smallest of what the upper ones do.
-use mathlib.Core.Path.{_≡_, refl, sym, _∙_}
+use mathlib.Core.Path.{_≡_, sym, _∙_}
 use mathlib.Core.Bool.{true, false}
 use mathlib.Core.List.{List, map}
 use Prim.Native.Nat.{ℕ, _+_, _-_, _≤_, _<_}
@@ -12,22 +12,20 @@ use Rattle.model.specs.Ticket.{Limit}
 use Rattle.nest_flat.specs.Flat.{limitAt, limitsAt}
 use Rattle.nest_index_range.specs.Ranges.{Narrow, DivisorIn, SideIn}
 use Rattle.nest_index_range.proofs.LimitLaws.{copied}
-use Rattle.nest_index_range.specs.declared.Side.{Side}
-use Rattle.nest_index_range.specs.Sides.{isTighter, tighter, tightest}
-use Rattle.nest_index_range.proofs.Sides.{on-side, first-tighter, second-tighter, one-limit, more-limits}
+use Rattle.nest_index_range.proofs.Sides.{Side, isTighter, tighter, tightest, first-tighter, second-tighter, one-limit, more-limits}
 
 -- ---- the tighter of two
 
 module _ (d : Side) (x y : ℤ) (p : Narrow x × Narrow y) where
-  pub test-is : {e : Side} → d ≡ e → isTighter e (toZ w64 (ofZ w64 x)) (toZ w64 (ofZ w64 y)) ≡ isTighter d x y
-  test-is h = on-side isTighter h (copied x (p .0)) (copied y (p .1))
+  test-is : isTighter d (toZ w64 (ofZ w64 x)) (toZ w64 (ofZ w64 y)) ≡ isTighter d x y
+  test-is = rw (copied x (p .0), copied y (p .1))
 
   pub first-chosen : isTighter d (toZ w64 (ofZ w64 x)) (toZ w64 (ofZ w64 y)) ≡ true
       → (toZ w64 (ofZ w64 x) ≡ tighter d x y) × Narrow (toZ w64 (ofZ w64 x))
-  first-chosen e = let a = copied x (p .0) in (a ∙ first-tighter d x y (sym (test-is refl) ∙ e), rw a (p .0))
+  first-chosen e = let a = copied x (p .0) in (a ∙ first-tighter d x y (sym test-is ∙ e), rw a (p .0))
 
   pub second-chosen : isTighter d (toZ w64 (ofZ w64 x)) (toZ w64 (ofZ w64 y)) ≡ false → (y ≡ tighter d x y) × Narrow y
-  second-chosen e = (second-tighter d x y (sym (test-is refl) ∙ e), p .1)
+  second-chosen e = (second-tighter d x y (sym test-is ∙ e), p .1)
 
 -- ---- limit by limit
 

@@ -6,25 +6,30 @@ use lib.IntN.{ℤ, pos}
 use lib.Signed.{_<ℤ_}
 use lib.ListN.{length, getD}
 use Rattle.integers.specs.Difference.{size}
+use Rattle.integers.specs.Division.{floorDiv, ceilDiv}
 use Rattle.integers.specs.Affine.{Within}
 use Rattle.model.specs.Ticket.{Limit, Loop}
-use Rattle.model.specs.Points.{value, firstIndex, lastIndex}
+use Rattle.model.specs.Points.{value, largest, smallest, firstIndex, lastIndex}
 use Rattle.model.specs.Grammar.{mostSides, nestLimits, nestRoom, mostLoops}
 use Rattle.nest_flat.specs.Flat.{limitsAt, Positive}
-use Rattle.nest_index_range.specs.declared.Side.{Side}
-use Rattle.nest_index_range.specs.Sides.{rounded, tightest}
 
 -- within ±2^35, as the value of every limit is at indices within ±100,000
 abbrev pub Narrow : ℤ → Type 0
 Narrow z = size z ≤ 34359738368
 
--- the smallest index that a lower limit allows, or the largest that an upper one does
-unfoldable pub indexAt : Side → List ℤ → Limit → ℤ
-indexAt d outer l = rounded d (value l outer) (pos (l .multiplier))
+-- the smallest index that a lower limit allows, and the largest that an upper one does
+unfoldable pub ceilAt : List ℤ → Limit → ℤ
+ceilAt outer l = ceilDiv (value l outer) (pos (l .multiplier))
+
+unfoldable pub floorAt : List ℤ → Limit → ℤ
+floorAt outer l = floorDiv (value l outer) (pos (l .multiplier))
 
 -- of n limits from limit j on
-unfoldable pub indexFrom : Side → List ℤ → ℕ → ℕ → List ℤ → ℤ
-indexFrom d s j n outer = tightest d (map (indexAt d outer) (limitsAt s (length outer) j n))
+unfoldable pub firstFrom : List ℤ → ℕ → ℕ → List ℤ → ℤ
+firstFrom s j n outer = largest (map (ceilAt outer) (limitsAt s (length outer) j n))
+
+unfoldable pub lastFrom : List ℤ → ℕ → ℕ → List ℤ → ℤ
+lastFrom s j n outer = smallest (map (floorAt outer) (limitsAt s (length outer) j n))
 
 -- indices outside a loop that were admitted
 pub record Outside (outer : List ℤ) : Type 0 where

@@ -15,16 +15,14 @@ use Rattle.model.specs.Ticket.{Limit}
 use Rattle.model.specs.Quick as Model
 use Rattle.model.specs.Quick.{leastTerm, greatestTerm, cut, rangeOf, rangesFrom, ranges}
 use Rattle.nest_flat.specs.Flat.{NestOk, limitAt, limitsAt, loopAt, loopsFrom}
-use Rattle.nest_index_range.specs.declared.Side.{Side}
-use Rattle.nest_index_range.specs.declared.Side.the-variants.{Lower, Upper}
-use Rattle.nest_index_range.specs.Sides.{rounded, tightest}
+use Rattle.nest_index_range.proofs.Sides.{Side, lower, upper, rounded, tightest}
 use Rattle.nest_loop_ranges.specs.declared.Range.{Range}
-use Rattle.nest_loop_ranges.specs.Ranges.{rangeAs, rangesOf, NearRange, NearRanges, endOf, extremeTerm, extremeSum}
-use Rattle.nest_loop_ranges.specs.Values.{extremeOf, extremeFrom, sideNumber, rangeAt, Free, LoopIn}
+use Rattle.nest_loop_ranges.specs.Ranges.{rangeAs, rangesOf, NearRange, NearRanges}
+use Rattle.nest_loop_ranges.specs.Values.{leastOf, greatestOf, largestFrom, smallestFrom, rangeAt, Free, LoopIn}
 use Rattle.nest_loop_ranges.proofs.TermLaws.{copy}
 use Rattle.nest_loop_ranges.proofs.SumLaws.{noRange, ranges-length, ranges-at}
-use Rattle.nest_loop_ranges.proofs.ExtremeLaws.{sum-none, sum-cons}
-use Rattle.nest_loop_ranges.proofs.RangeLaws.{cut-is, ranges-more, range-made}
+use Rattle.nest_loop_ranges.proofs.ExtremeLaws.{extremeTerm, extremeSum, extremeOf, sum-none, sum-cons}
+use Rattle.nest_loop_ranges.proofs.RangeLaws.{least-cut, greatest-cut, ranges-more, range-made}
 
 pub free-more : (s : List ℤ) (j l i : ℕ) → Free s j l i → getD s ((j + l) * 8 + 2 + i) (pos 0) ≡ pos 0 → Free s j (l + 1) i
 free-more s j l i f e m h = ⊎-elim (λ g. ap (λ (z : ℕ). getD s ((j + z) * 8 + 2 + i) (pos 0)) g ∙ e) (f m)
@@ -34,8 +32,8 @@ free-more s j l i f e m h = ⊎-elim (λ g. ap (λ (z : ℕ). getD s ((j + z) * 
 
 term-none : (d : Side) (r : Model.Range) → extremeTerm d (pos 0) r ≡ pos 0
 unfolding leastTerm greatestTerm
-term-none Lower r = zero-*ℤ (r .greatest)
-term-none Upper r = zero-*ℤ (r .least)
+term-none lower r = zero-*ℤ (r .greatest)
+term-none upper r = zero-*ℤ (r .least)
 
 -- the ranges are the same, but at coefficients of 0
 abbrev Alike : List ℤ → List Model.Range → List Model.Range → Type 0
@@ -82,7 +80,6 @@ module _ (s : List ℤ) (k j n : ℕ) (rs qs : List Model.Range) (p : AlikeBut s
       (λ i g. ⊎-elim (λ f. inl (coefficient-at s k (j + l) i (omega arith) ∙ f l h)) inr (p .same i (omega arith)))
 
   side-alike : (d : Side) → tightest d (map (extremeOf d rs) (limitsAt s k j n)) ≡ tightest d (map (extremeOf d qs) (limitsAt s k j n))
-  unfolding extremeOf
   side-alike d = ap (tightest d) (limits-alike (extremeOf d rs) (extremeOf d qs) s k j n
       (λ l h. let m = limitAt s k (j + l) in ap (λ (z : ℤ). rounded d (m .constant +ℤ z) (pos (m .multiplier))) (sums-alike d l h)))
 
@@ -181,9 +178,16 @@ module _ (s : List ℤ) (c : List ℕ) (k i : ℕ) (b : List Range) (q : NestOk 
   abbrev full : List Model.Range
   full = ranges (loopsFrom s c 0 k)
 
-  pub needed-value : (d : Side) (m : ℕ) → m ≡ sideNumber d k → NeededAre s c (m * 16) (getD c m 0) i b
-      → r ≡ endOf d (rangeOf (rangesOf k b) (loopAt s c k)) → r ≡ endOf d (rangeAt s c k)
-  unfolding rangeAt extremeFrom
-  needed-value d m g p e = let j = m * 16 in let n = getD c m 0 in
-      e ∙ sym (cut-is d s c k m g (rangesOf k b)) ∙ ap cut (side-alike s k j n (rangesOf k b) full (alike-but s c j n k i b q p h) d)
-      ∙ cut-is d s c k m g full
+  pub needed-least : NeededAre s c (k * 32) (getD c (k * 2) 0) i b → r ≡ rangeOf (rangesOf k b) (loopAt s c k) .least → r ≡ rangeAt s c k .least
+  unfolding rangeAt largestFrom leastOf
+  needed-least p e = let m = getD c (k * 2) 0 in
+      e ∙ sym (least-cut s c k (rangesOf k b) _ _ refl refl)
+      ∙ ap cut (side-alike s k (k * 32) m (rangesOf k b) full (alike-but s c (k * 32) m k i b q p h) lower) ∙ least-cut s c k full _ _ refl refl
+
+  pub needed-greatest : NeededAre s c (k * 32 + 16) (getD c (k * 2 + 1) 0) i b → r ≡ rangeOf (rangesOf k b) (loopAt s c k) .greatest
+      → r ≡ rangeAt s c k .greatest
+  unfolding rangeAt smallestFrom greatestOf
+  needed-greatest p e = let m = getD c (k * 2 + 1) 0 in
+      e ∙ sym (greatest-cut s c k (rangesOf k b) _ _ refl refl)
+      ∙ ap cut (side-alike s k (k * 32 + 16) m (rangesOf k b) full (alike-but s c (k * 32 + 16) m k i b q p h) upper)
+      ∙ greatest-cut s c k full _ _ refl refl

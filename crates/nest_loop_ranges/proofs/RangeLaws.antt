@@ -11,47 +11,49 @@ use Rattle.integers.specs.Difference.{size}
 use Rattle.model.specs.Ticket.{Loop}
 use Rattle.model.specs.Quick as Model
 use Rattle.model.specs.Quick.{cut, rangeOf, rangesFrom, ranges}
-use Rattle.nest_flat.specs.Flat.{NestOk, Positive, loopAt, loopsFrom}
-use Rattle.nest_index_range.specs.declared.Side.{Side}
-use Rattle.nest_index_range.specs.declared.Side.the-variants.{Lower, Upper}
+use Rattle.nest_flat.specs.Flat.{NestOk, loopAt, loopsFrom}
 use Rattle.nest_index_range.proofs.LimitLaws.{copied}
 use Rattle.nest_points.proofs.DepthLaws.{nest-part}
 use Rattle.nest_loop_ranges.specs.declared.Range.{Range}
-use Rattle.nest_loop_ranges.specs.Ranges.{rangeAs, rangesOf, NearRange, NearRanges, RangesIn, endOf}
-use Rattle.nest_loop_ranges.specs.Values.{extremeOf, extremeFrom, sideNumber, rangeAt, SideIn, LoopIn, RangesAre}
+use Rattle.nest_loop_ranges.specs.Ranges.{rangeAs, rangesOf, NearRange, NearRanges}
+use Rattle.nest_loop_ranges.specs.Values.{leastOf, greatestOf, largestFrom, smallestFrom, rangeAt, SideIn, LoopIn, RangesAre}
 use Rattle.nest_loop_ranges.proofs.TermLaws.{copy}
 
 -- ---- one loop
 
-module _ (s : List ℤ) (c : List ℕ) (k : ℕ) (p : NestOk s c (suc k)) where
-  side-count : (d : Side) → (1 ≤ getD c (sideNumber d k) 0) × (getD c (sideNumber d k) 0 ≤ 16)
-  side-count Lower = p .lower-count k (omega arith)
-  side-count Upper = p .upper-count k (omega arith)
+module _ (s : List ℤ) (c : List ℕ) (k : ℕ) (b : List Range) (p : LoopIn s c k b) where
+  pub lower-in : SideIn s (k * 32) (getD c (k * 2) 0) k b
+  lower-in = let q = p .nest .lower-count k (omega arith) in let f = p .nest .shallow in
+      record {
+        words = p .nest .words;
+        small = p .nest .small;
+        some = q .0;
+        inside = omega arith;
+        positive = p .nest .lower-positive k
+            (omega arith);
+        outside = p .outside;
+      }
 
-  side-positive : (d : Side) → Positive s (sideNumber d k * 16) (getD c (sideNumber d k) 0)
-  side-positive Lower = subst (λ (j : ℕ). Positive s j (getD c (k * 2) 0)) (omega arith) (p .lower-positive k (omega arith))
-  side-positive Upper = subst (λ (j : ℕ). Positive s j (getD c (k * 2 + 1) 0)) (omega arith) (p .upper-positive k (omega arith))
+  pub upper-in : SideIn s (k * 32 + 16) (getD c (k * 2 + 1) 0) k b
+  upper-in = let q = p .nest .upper-count k (omega arith) in let f = p .nest .shallow in
+      record {
+        words = p .nest .words;
+        small = p .nest .small;
+        some = q .0;
+        inside = omega arith;
+        positive = p .nest .upper-positive k
+            (omega arith);
+        outside = p .outside;
+      }
 
-  side-inside : (d : Side) → sideNumber d k < 12
-  side-inside Lower = let f = p .shallow in omega arith
-  side-inside Upper = let f = p .shallow in omega arith
+module _ (s : List ℤ) (c : List ℕ) (k : ℕ) (rs : List Model.Range) (x r : ℤ) where
+  pub least-cut : x ≡ largestFrom s k (k * 32) (getD c (k * 2) 0) rs → r ≡ cut x → r ≡ rangeOf rs (loopAt s c k) .least
+  unfolding rangeOf loopAt largestFrom leastOf
+  least-cut e f = f ∙ ap cut e
 
-  pub side-room : (d : Side) (m : ℕ) → m ≡ sideNumber d k → (m < 12) × (m * 16 + getD c m 0 ≤ 192)
-  side-room d m e = let q = side-count d in let f = side-inside d in subst (λ (n : ℕ). (n < 12) × (n * 16 + getD c n 0 ≤ 192)) (sym e)
-      (f, omega arith)
-
-  pub side-in : (d : Side) (m : ℕ) → m ≡ sideNumber d k → (b : List Range) → RangesIn k b → SideIn s (m * 16) (getD c m 0) k b
-  side-in d m e b o = let q = side-count d in let f = side-inside d in subst (λ (n : ℕ). SideIn s (n * 16) (getD c n 0) k b) (sym e)
-      (record { words = p .words; small = p .small; some = q .0; inside = omega arith; positive = side-positive d; outside = o })
-
--- what a side of loop k leaves, cut
-pub cut-is : (d : Side) (s : List ℤ) (c : List ℕ) (k m : ℕ) → m ≡ sideNumber d k → (rs : List Model.Range)
-    → cut (extremeFrom d s k (m * 16) (getD c m 0) rs) ≡ endOf d (rangeOf rs (loopAt s c k))
-unfolding rangeOf loopAt extremeFrom extremeOf
-cut-is Lower s c k m e rs = ap (λ (n : ℕ). cut (extremeFrom Lower s k (n * 16) (getD c n 0) rs)) e
-    ∙ ap (λ (j : ℕ). cut (extremeFrom Lower s k j (getD c (k * 2) 0) rs)) (omega arith)
-cut-is Upper s c k m e rs = ap (λ (n : ℕ). cut (extremeFrom Upper s k (n * 16) (getD c n 0) rs)) e
-    ∙ ap (λ (j : ℕ). cut (extremeFrom Upper s k j (getD c (k * 2 + 1) 0) rs)) (omega arith)
+  pub greatest-cut : x ≡ smallestFrom s k (k * 32 + 16) (getD c (k * 2 + 1) 0) rs → r ≡ cut x → r ≡ rangeOf rs (loopAt s c k) .greatest
+  unfolding rangeOf loopAt smallestFrom greatestOf
+  greatest-cut e f = f ∙ ap cut e
 
 -- ---- one loop more
 
@@ -120,9 +122,13 @@ module _ (s : List ℤ) (c : List ℕ) (k i : ℕ) (b : List Range) (q : NestOk 
   pub loop-in : LoopIn s c k b
   loop-in = record { nest = q; outside = all-held .held }
 
-  pub extreme-at : (d : Side) (r : ℤ) → r ≡ endOf d (rangeOf (rangesOf k b) (loopAt s c k)) → r ≡ endOf d (rangeAt s c k)
+  pub least-at : (r : ℤ) → r ≡ rangeOf (rangesOf k b) (loopAt s c k) .least → r ≡ rangeAt s c k .least
   unfolding rangeAt
-  extreme-at d r e = e ∙ rw (all-held .are)
+  least-at r e = e ∙ rw (all-held .are)
+
+  pub greatest-at : (r : ℤ) → r ≡ rangeOf (rangesOf k b) (loopAt s c k) .greatest → r ≡ rangeAt s c k .greatest
+  unfolding rangeAt
+  greatest-at r e = e ∙ rw (all-held .are)
 
 pub loops-before : (s : List ℤ) (c : List ℕ) (n i : ℕ) → NestOk s c n → i < n → NestOk s c (suc i)
 loops-before s c n i p h = nest-part s c n (suc i) p (omega arith)

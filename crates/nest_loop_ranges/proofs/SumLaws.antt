@@ -13,11 +13,12 @@ use Rattle.integers.proofs.RangeLaws.{size-add}
 use Rattle.integers.proofs.AffineLaws.{within-at, within-take}
 use Rattle.model.specs.Quick as Model
 use Rattle.nest_index_range.proofs.LimitLaws.{within-drop, copied}
-use Rattle.nest_index_range.specs.declared.Side.{Side}
+use Rattle.nest_index_range.proofs.Sides.{Side}
 use Rattle.nest_loop_ranges.specs.declared.Range.{Range}
-use Rattle.nest_loop_ranges.specs.Ranges.{rangeAs, rangesOf, NearRange, NearRanges, RangesIn, extremeTerm, extremeSum, ExtremeTermIn, SumIn}
+use Rattle.nest_loop_ranges.specs.Ranges.{rangeAs, rangesOf, NearRange, NearRanges, RangesIn, termBy, TermIn, SumIn}
 use Rattle.nest_loop_ranges.proofs.TermLaws.{copy}
-use Rattle.nest_loop_ranges.proofs.ExtremeLaws.{sum-none, sum-short, sum-cons, term-size}
+use Rattle.nest_loop_ranges.proofs.ExtremeLaws.{extremeTerm, extremeSum, endOf, other, term-is, sum-none, sum-short, sum-cons, end-size}
+use Rattle.nest_loop_ranges.proofs.ExtremeLaws.{term-size}
 
 -- ---- the ranges in the array
 
@@ -96,9 +97,17 @@ module _ (d : Side) (w : List ℤ) (at n : ℕ) (b : List Range) (p : SumIn w at
       word-is : copy c ≡ getD w (at + i) (pos 0)
       word-is = let s = word-small in ap copy v ∙ copied (getD w (at + i) (pos 0)) (omega arith)
 
-      pub term-in : ExtremeTermIn e (copy c) r
-      term-in = let s = so-far-size in
-          record { sum = omega arith; coefficient = rw word-is word-small; near = range-near n b (p .ranges) i h }
+      end-is : (f : Side) → copy (endOf f r) ≡ endOf f r
+      end-is f = let s = end-size f r (range-near n b (p .ranges) i h) in copied (endOf f r) (omega arith)
+
+      pub term-in : TermIn e (copy c) (copy (endOf d r)) (copy (endOf (other d) r))
+      term-in = let s = so-far-size in let g = range-near n b (p .ranges) i h in
+          record {
+            sum = omega arith;
+            coefficient = rw word-is word-small;
+            up = rw (end-is d) (end-size d r g);
+            down = rw (end-is (other d)) (end-size (other d) r g);
+          }
 
       in-words : i < length (drop at w)
       in-words = let l = length-drop at w in let o = p .inside in omega arith
@@ -109,9 +118,9 @@ module _ (d : Side) (w : List ℤ) (at n : ℕ) (b : List Range) (p : SumIn w at
       range-is : getD (rangesOf n b) i (rangeAs noRange) ≡ r
       range-is = let s = p .ranges .six in let g = p .ranges .few in ranges-at n b i h (omega arith)
 
-      pub next-sum : (f : ℤ) → f ≡ e +ℤ extremeTerm d (copy c) r → SoFar d w at n b (i + 1) f
+      pub next-sum : (f : ℤ) → f ≡ e +ℤ termBy (copy c) (copy (endOf d r)) (copy (endOf (other d) r)) → SoFar d w at n b (i + 1) f
       next-sum f g = record {
-        is = g ∙ rw (q .is, word-is)
+        is = g ∙ rw (q .is, word-is, end-is d, end-is (other d), ← term-is d (getD w (at + i) (pos 0)) r)
             (sym (rw (add-one i, sum-more d (drop at w) (rangesOf n b) i in-words in-ranges, getD-drop at w i (pos 0), range-is)));
       }
 

@@ -14,12 +14,12 @@ use Rattle.integers.proofs.RangeLaws.{back, size-fits, size-add, to-nat}
 use Rattle.integers.proofs.AffineLaws.{within-at}
 use Rattle.nest_flat.specs.Flat.{limitAt}
 use Rattle.nest_index_range.proofs.LimitLaws.{copied, rounded-is}
-use Rattle.nest_index_range.specs.declared.Side.{Side}
-use Rattle.nest_index_range.specs.Sides.{rounded}
+use Rattle.nest_index_range.proofs.Sides.{Side, rounded}
 use Rattle.nest_loop_ranges.specs.declared.Range.{Range}
-use Rattle.nest_loop_ranges.specs.Ranges.{rangesOf, extremeSum}
-use Rattle.nest_loop_ranges.specs.Values.{extremeOf, LimitIn, SideIn}
+use Rattle.nest_loop_ranges.specs.Ranges.{rangesOf}
+use Rattle.nest_loop_ranges.specs.Values.{LimitIn, SideIn}
 use Rattle.nest_loop_ranges.proofs.TermLaws.{copy}
+use Rattle.nest_loop_ranges.proofs.ExtremeLaws.{extremeSum, extremeOf}
 
 -- ---- one limit
 
@@ -54,7 +54,7 @@ module _ (s : List ℤ) (j k : ℕ) (b : List Range) (p : LimitIn s j k b) where
 
     pub quotient-is : (d : Side) {m : ℤ} → m ≡ getD s (j * 8) (pos 0) → (r : ℤ) → e ≡ extremeSum d (take k (drop (j * 8 + 2) s)) (rangesOf k b)
         → r ≡ rounded d (copy (copy c +ℤ copy e)) (copy m) → (copy r ≡ extremeOf d (rangesOf k b) (limitAt s k j)) × (size (copy r) ≤ 34359738368)
-    unfolding limitAt extremeOf
+    unfolding limitAt
     quotient-is d q r g f =
         let x = rounded-is d (limitAt s k j .constant +ℤ e) (pos (limitAt s k j .multiplier)) r value-size (f ∙ rw (value-is, divisor-is q)) in
         (x .0 ∙ rw g, x .1)

@@ -9,10 +9,7 @@ use lib.ListN.{length, take}
 use Rattle.integers.specs.Difference.{size}
 use Rattle.integers.specs.Affine.{Within}
 use Rattle.model.specs.Quick as Model
-use Rattle.model.specs.Quick.{leastTerm, greatestTerm, leastSum, greatestSum}
 use Rattle.model.specs.Grammar.{mostLoops}
-use Rattle.nest_index_range.specs.declared.Side.{Side}
-use Rattle.nest_index_range.specs.declared.Side.the-variants.{Lower, Upper}
 use Rattle.nest_loop_ranges.specs.declared.Range.{Range}
 
 abbrev pub rangeAs : Range → Model.Range
@@ -45,32 +42,12 @@ pub record RangesIn (n : ℕ) (b : List Range) : Type 0 where
 unfoldable pub termBy : ℤ → ℤ → ℤ → ℤ
 termBy c rising falling = cond (ltZ (pos 0) c) (c *ℤ rising) (c *ℤ falling)
 
--- the end of a range on a side; a coefficient above 0 asks for it, another for that on the other side
-abbrev pub endOf : Side → Model.Range → ℤ
-endOf Lower r = r .least
-endOf Upper r = r .greatest
-
--- the least term and sum, which lower limits ask for, or the greatest, which upper ones do
-abbrev pub extremeTerm : Side → ℤ → Model.Range → ℤ
-extremeTerm Lower = leastTerm
-extremeTerm Upper = greatestTerm
-
-abbrev pub extremeSum : Side → List ℤ → List Model.Range → ℤ
-extremeSum Lower = leastSum
-extremeSum Upper = greatestSum
-
 -- a sum, and a coefficient with two indices
 pub record TermIn (e c rising falling : ℤ) : Type 0 where
   pub sum : size e ≤ 17179869184
   pub coefficient : size c ≤ 32767
   pub up : size rising ≤ 32767
   pub down : size falling ≤ 32767
-
--- a sum, and a coefficient with the range of its index
-pub record ExtremeTermIn (e c : ℤ) (r : Model.Range) : Type 0 where
-  pub sum : size e ≤ 17179869184
-  pub coefficient : size c ≤ 32767
-  pub near : NearRange r
 
 -- n coefficients from place at on
 pub record SumIn (w : List ℤ) (at n : ℕ) (b : List Range) : Type 0 where

@@ -5,30 +5,30 @@ use Prim.Native.Nat.{ℕ, suc, _+_, _*_, _≤_, _<_}
 use lib.IntN.{ℤ, pos, _+ℤ_}
 use lib.Signed.{_<ℤ_}
 use lib.ListN.{length, getD}
+use Rattle.integers.specs.Division.{floorDiv, ceilDiv}
 use Rattle.integers.specs.Affine.{Within}
 use Rattle.model.specs.Ticket.{Limit}
+use Rattle.model.specs.Points.{largest, smallest}
 use Rattle.model.specs.Quick as Model
-use Rattle.model.specs.Quick.{rangeOf, ranges}
+use Rattle.model.specs.Quick.{leastSum, greatestSum, rangeOf, ranges}
 use Rattle.model.specs.Grammar.{nestLimits, nestRoom}
 use Rattle.nest_flat.specs.Flat.{limitsAt, loopAt, loopsFrom, Positive, NestOk}
-use Rattle.nest_index_range.specs.declared.Side.{Side}
-use Rattle.nest_index_range.specs.declared.Side.the-variants.{Lower, Upper}
-use Rattle.nest_index_range.specs.Sides.{rounded, tightest}
 use Rattle.nest_loop_ranges.specs.declared.Range.{Range}
-use Rattle.nest_loop_ranges.specs.Ranges.{rangesOf, extremeSum, RangesIn}
+use Rattle.nest_loop_ranges.specs.Ranges.{rangesOf, RangesIn}
 
--- the least index that a lower limit allows over the ranges outside, or the greatest that an upper one does
-unfoldable pub extremeOf : Side → List Model.Range → Limit → ℤ
-extremeOf d rs l = rounded d (l .constant +ℤ extremeSum d (l .coefficients) rs) (pos (l .multiplier))
+-- the least index that a lower limit allows over the ranges outside, and the greatest that an upper one does
+unfoldable pub leastOf : List Model.Range → Limit → ℤ
+leastOf rs l = ceilDiv (l .constant +ℤ leastSum (l .coefficients) rs) (pos (l .multiplier))
+
+unfoldable pub greatestOf : List Model.Range → Limit → ℤ
+greatestOf rs l = floorDiv (l .constant +ℤ greatestSum (l .coefficients) rs) (pos (l .multiplier))
 
 -- of n limits from limit j on, of a loop with k loops outside
-unfoldable pub extremeFrom : Side → List ℤ → ℕ → ℕ → ℕ → List Model.Range → ℤ
-extremeFrom d s k j n rs = tightest d (map (extremeOf d rs) (limitsAt s k j n))
+unfoldable pub largestFrom : List ℤ → ℕ → ℕ → ℕ → List Model.Range → ℤ
+largestFrom s k j n rs = largest (map (leastOf rs) (limitsAt s k j n))
 
--- the number of a side of loop k, of all sides of the nest
-abbrev pub sideNumber : Side → ℕ → ℕ
-sideNumber Lower k = k * 2
-sideNumber Upper k = k * 2 + 1
+unfoldable pub smallestFrom : List ℤ → ℕ → ℕ → ℕ → List Model.Range → ℤ
+smallestFrom s k j n rs = smallest (map (greatestOf rs) (limitsAt s k j n))
 
 -- the range of loop k
 unfoldable pub rangeAt : List ℤ → List ℕ → ℕ → Model.Range

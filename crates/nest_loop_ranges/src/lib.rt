@@ -1,6 +1,5 @@
 // The least and the greatest value of every loop, and of sums over them.
 use model::LOOPS;
-use nest_index_range::Side;
 use nest_index_range::Whole;
 ghost use mathlib.Core.Path.{_≡_};
 ghost use mathlib.Core.Bool.{true, false};
@@ -8,11 +7,12 @@ ghost use Prim.Native.Nat.{suc, _+_, _*_, _≤_, _<_};
 ghost use lib.IntN.{_+ℤ_};
 ghost use lib.ListN.{length, take, drop};
 ghost use Rattle.integers.specs.Difference.{size};
-ghost use Rattle.model.specs.Quick.{rangeOf};
+ghost use Rattle.model.specs.Quick.{leastSum, greatestSum, rangeOf};
 ghost use Rattle.model.specs.Grammar.{nestLimits, nestRoom, mostLoops};
 ghost use Rattle.nest_flat.specs.Flat.{NestOk, limitAt, loopAt};
-ghost use Rattle.nest_loop_ranges.specs.Ranges.{rangeAs, rangesOf, termBy, endOf, extremeTerm, extremeSum, TermIn, ExtremeTermIn, SumIn};
-ghost use Rattle.nest_loop_ranges.specs.Values.{extremeOf, extremeFrom, sideNumber, rangeAt, Free, LimitIn, SideIn, LoopIn, RangesAre};
+ghost use Rattle.nest_loop_ranges.specs.Ranges.{rangesOf, termBy, TermIn, SumIn};
+ghost use Rattle.nest_loop_ranges.specs.Values.{leastOf, greatestOf, largestFrom, smallestFrom, rangeAt, Free, LimitIn, SideIn, LoopIn};
+ghost use Rattle.nest_loop_ranges.specs.Values.{RangesAre};
 
 // The least and the greatest value of an index.
 pub struct Range {
@@ -35,60 +35,84 @@ fn plus_term(sum: Whole, c: i64, rising: i64, falling: i64) -> Whole
     }
 }
 
-// The sum and the extreme term of a side: the least for the lower one, the greatest for the upper one.
-fn plus_extreme_term(sum: Whole, c: i64, r: Range, side: Side) -> Whole
-    requires { ⌜ ExtremeTermIn (sum .value) c (rangeAs r) ⌝ }
-    ensures { λ s. ⌜ s .value ≡ sum .value +ℤ extremeTerm side c (rangeAs r) ⌝ }
-{
-    match side {
-        Side::Lower => plus_term(sum, c, r.least, r.greatest),
-        Side::Upper => plus_term(sum, c, r.greatest, r.least),
-    }
-}
-
-// The least or the greatest that n coefficients from place at on, times their indices, can sum to.
-pub fn extreme_sum(words: &[i16], at: usize, n: usize, ranges: [Range; LOOPS], side: Side) -> Whole
+// The least that n coefficients from place at on, times their indices, can sum to.
+pub fn least_sum(words: &[i16], at: usize, n: usize, ranges: [Range; LOOPS]) -> Whole
     requires { ⌜ SumIn (now words) at n ranges ⌝ }
-    ensures { λ r. ⌜ (r .value ≡ extremeSum side (take n (drop at (now (words .entry)))) (rangesOf n ranges)) × (size (r .value) ≤ 6442057734) ⌝ }
+    ensures { λ r. ⌜ (r .value ≡ leastSum (take n (drop at (now (words .entry)))) (rangesOf n ranges)) × (size (r .value) ≤ 6442057734) ⌝ }
 {
     let mut sum = Whole { value: 0 };
     let mut i = 0;
     while i < n {
-        sum = plus_extreme_term(sum, integers::word(words, at + i), ranges[i], side);
+        let r = ranges[i];
+        sum = plus_term(sum, integers::word(words, at + i), r.least, r.greatest);
         i += 1;
     }
     sum
 }
 
-// The least index that lower limit j allows over the ranges of the k loops outside, or the greatest that an upper one does.
-fn limit_extreme(nest: &[i16], j: usize, k: usize, outer: [Range; LOOPS], side: Side) -> i64
-    requires { ⌜ LimitIn (now nest) j k outer ⌝ }
-    ensures { λ r. ⌜ (r ≡ extremeOf side (rangesOf k outer) (limitAt (now (nest .entry)) k j)) × (size r ≤ 34359738368) ⌝ }
+// The greatest that they can sum to.
+pub fn greatest_sum(words: &[i16], at: usize, n: usize, ranges: [Range; LOOPS]) -> Whole
+    requires { ⌜ SumIn (now words) at n ranges ⌝ }
+    ensures { λ r. ⌜ (r .value ≡ greatestSum (take n (drop at (now (words .entry)))) (rangesOf n ranges)) × (size (r .value) ≤ 6442057734) ⌝ }
 {
-    let e = extreme_sum(nest, j * 8 + 2, k, outer, side);
-    let constant = integers::word(nest, j * 8 + 1);
-    nest_index_range::round_div(constant + e.value, integers::word(nest, j * 8), side)
+    let mut sum = Whole { value: 0 };
+    let mut i = 0;
+    while i < n {
+        let r = ranges[i];
+        sum = plus_term(sum, integers::word(words, at + i), r.greatest, r.least);
+        i += 1;
+    }
+    sum
 }
 
-// The tightest of what n limits of a side, from limit j on, allow: the last one first.
-fn side_extreme(
-    nest: &[i16],
-    j: usize,
-    n: usize,
-    k: usize,
-    outer: [Range; LOOPS],
-    side: Side,
-) -> Whole
+// The least index that lower limit j allows over the ranges of the k loops outside.
+fn limit_least(nest: &[i16], j: usize, k: usize, outer: [Range; LOOPS]) -> i64
+    requires { ⌜ LimitIn (now nest) j k outer ⌝ }
+    ensures { λ r. ⌜ (r ≡ leastOf (rangesOf k outer) (limitAt (now (nest .entry)) k j)) × (size r ≤ 34359738368) ⌝ }
+{
+    let e = least_sum(nest, j * 8 + 2, k, outer);
+    let constant = integers::word(nest, j * 8 + 1);
+    integers::ceil_div(constant + e.value, integers::word(nest, j * 8))
+}
+
+// The greatest index that upper limit j allows.
+fn limit_greatest(nest: &[i16], j: usize, k: usize, outer: [Range; LOOPS]) -> i64
+    requires { ⌜ LimitIn (now nest) j k outer ⌝ }
+    ensures { λ r. ⌜ (r ≡ greatestOf (rangesOf k outer) (limitAt (now (nest .entry)) k j)) × (size r ≤ 34359738368) ⌝ }
+{
+    let e = greatest_sum(nest, j * 8 + 2, k, outer);
+    let constant = integers::word(nest, j * 8 + 1);
+    integers::floor_div(constant + e.value, integers::word(nest, j * 8))
+}
+
+// The largest of what n lower limits from limit j on allow, the last one first.
+fn largest_lower(nest: &[i16], j: usize, n: usize, k: usize, outer: [Range; LOOPS]) -> Whole
     requires { ⌜ SideIn (now nest) j n k outer ⌝ }
-    ensures { λ r. ⌜ (r .value ≡ extremeFrom side (now (nest .entry)) k j n (rangesOf k outer)) × (size (r .value) ≤ 34359738368) ⌝ }
+    ensures { λ r. ⌜ (r .value ≡ largestFrom (now (nest .entry)) k j n (rangesOf k outer)) × (size (r .value) ≤ 34359738368) ⌝ }
 {
     let mut i = n - 1;
     let mut r = Whole {
-        value: limit_extreme(nest, j + i, k, outer, side),
+        value: limit_least(nest, j + i, k, outer),
     };
     while 0 < i {
         i -= 1;
-        r = nest_index_range::tighter(limit_extreme(nest, j + i, k, outer, side), r, side);
+        r = nest_index_range::larger(limit_least(nest, j + i, k, outer), r);
+    }
+    r
+}
+
+// The smallest of what n upper limits from limit j on allow.
+fn smallest_upper(nest: &[i16], j: usize, n: usize, k: usize, outer: [Range; LOOPS]) -> Whole
+    requires { ⌜ SideIn (now nest) j n k outer ⌝ }
+    ensures { λ r. ⌜ (r .value ≡ smallestFrom (now (nest .entry)) k j n (rangesOf k outer)) × (size (r .value) ≤ 34359738368) ⌝ }
+{
+    let mut i = n - 1;
+    let mut r = Whole {
+        value: limit_greatest(nest, j + i, k, outer),
+    };
+    while 0 < i {
+        i -= 1;
+        r = nest_index_range::smaller(limit_greatest(nest, j + i, k, outer), r);
     }
     r
 }
@@ -107,31 +131,22 @@ fn clamp(x: Whole) -> Whole
     x
 }
 
-// The number of a side of loop k, of all sides of the nest: each loop has its lower side first.
-fn side_number(k: usize, side: Side) -> usize
-    requires { ⌜ k < mostLoops ⌝ }
-    ensures { λ r. ⌜ r ≡ sideNumber side k ⌝ }
-{
-    match side {
-        Side::Lower => k * 2,
-        Side::Upper => k * 2 + 1,
-    }
-}
-
-// The least or the greatest value of loop k, from the ranges of the loops outside.
-fn loop_extreme(
-    nest: &[i16],
-    counts: &[usize],
-    k: usize,
-    outer: [Range; LOOPS],
-    side: Side,
-) -> Whole
+// The least value of loop k, from the ranges of the loops outside.
+fn loop_least(nest: &[i16], counts: &[usize], k: usize, outer: [Range; LOOPS]) -> Whole
     requires { ⌜ LoopIn (now nest) (now counts) k outer ⌝ }
-    ensures { λ r. ⌜ (r .value ≡ endOf side (rangeOf (rangesOf k outer) (loopAt (now (nest .entry)) (now (counts .entry)) k)))
+    ensures { λ r. ⌜ (r .value ≡ rangeOf (rangesOf k outer) (loopAt (now (nest .entry)) (now (counts .entry)) k) .least)
         × (size (r .value) ≤ 32767) ⌝ }
 {
-    let s = side_number(k, side);
-    clamp(side_extreme(nest, s * 16, counts[s], k, outer, side))
+    clamp(largest_lower(nest, k * 32, counts[k * 2], k, outer))
+}
+
+// The greatest value of loop k.
+fn loop_greatest(nest: &[i16], counts: &[usize], k: usize, outer: [Range; LOOPS]) -> Whole
+    requires { ⌜ LoopIn (now nest) (now counts) k outer ⌝ }
+    ensures { λ r. ⌜ (r .value ≡ rangeOf (rangesOf k outer) (loopAt (now (nest .entry)) (now (counts .entry)) k) .greatest)
+        × (size (r .value) ≤ 32767) ⌝ }
+{
+    clamp(smallest_upper(nest, k * 32 + 16, counts[k * 2 + 1], k, outer))
 }
 
 // Whether one of n limits from limit j on has a coefficient of loop i.
@@ -155,15 +170,14 @@ pub fn least_value(nest: &[i16], counts: &[usize], k: usize) -> Whole
     requires { ⌜ NestOk (now nest) (now counts) (suc k) ⌝ }
     ensures { λ r. ⌜ (r .value ≡ rangeAt (now (nest .entry)) (now (counts .entry)) k .least) × (size (r .value) ≤ 32767) ⌝ }
 {
-    let s = side_number(k, Side::Lower);
-    let n = counts[s];
+    let n = counts[k * 2];
     let mut outer = [Range {
         least: 0,
         greatest: 0,
     }; 6];
     let mut i = 0;
     while i < k {
-        if has_coefficient(nest, s * 16, n, i) {
+        if has_coefficient(nest, k * 32, n, i) {
             let least = least_value(nest, counts, i);
             let greatest = greatest_value(nest, counts, i);
             outer[i] = Range {
@@ -173,7 +187,7 @@ pub fn least_value(nest: &[i16], counts: &[usize], k: usize) -> Whole
         }
         i += 1;
     }
-    loop_extreme(nest, counts, k, outer, Side::Lower)
+    loop_least(nest, counts, k, outer)
 }
 
 // The greatest value of loop k.
@@ -181,15 +195,14 @@ pub fn greatest_value(nest: &[i16], counts: &[usize], k: usize) -> Whole
     requires { ⌜ NestOk (now nest) (now counts) (suc k) ⌝ }
     ensures { λ r. ⌜ (r .value ≡ rangeAt (now (nest .entry)) (now (counts .entry)) k .greatest) × (size (r .value) ≤ 32767) ⌝ }
 {
-    let s = side_number(k, Side::Upper);
-    let n = counts[s];
+    let n = counts[k * 2 + 1];
     let mut outer = [Range {
         least: 0,
         greatest: 0,
     }; 6];
     let mut i = 0;
     while i < k {
-        if has_coefficient(nest, s * 16, n, i) {
+        if has_coefficient(nest, k * 32 + 16, n, i) {
             let least = least_value(nest, counts, i);
             let greatest = greatest_value(nest, counts, i);
             outer[i] = Range {
@@ -199,7 +212,7 @@ pub fn greatest_value(nest: &[i16], counts: &[usize], k: usize) -> Whole
         }
         i += 1;
     }
-    loop_extreme(nest, counts, k, outer, Side::Upper)
+    loop_greatest(nest, counts, k, outer)
 }
 
 // The ranges of the first n loops.
@@ -235,8 +248,8 @@ pub fn ranges_in_turn(nest: &[i16], counts: &[usize], n: usize) -> [Range; LOOPS
     }; 6];
     let mut i = 0;
     while i < n {
-        let least = loop_extreme(nest, counts, i, r, Side::Lower);
-        let greatest = loop_extreme(nest, counts, i, r, Side::Upper);
+        let least = loop_least(nest, counts, i, r);
+        let greatest = loop_greatest(nest, counts, i, r);
         r[i] = Range {
             least: least.value,
             greatest: greatest.value,

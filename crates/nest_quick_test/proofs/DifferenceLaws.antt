@@ -21,15 +21,13 @@ use Rattle.model.specs.Quick as Model
 use Rattle.model.specs.Quick.{leastTerm, greatestTerm, difference, divides, neverZero}
 use Rattle.model.specs.Ticket.{Subscript}
 use Rattle.nest_index_range.proofs.LimitLaws.{copied}
-use Rattle.nest_index_range.specs.declared.Side.{Side}
-use Rattle.nest_index_range.specs.declared.Side.the-variants.{Lower, Upper}
-use Rattle.nest_index_range.specs.Sides.{other}
+use Rattle.nest_index_range.proofs.Sides.{Side, lower, upper}
 use Rattle.nest_flat.specs.Layout.{formAt}
 use Rattle.nest_loop_ranges.specs.declared.Range.{Range}
-use Rattle.nest_loop_ranges.specs.Ranges.{rangesOf, termBy, extremeTerm, extremeSum}
-use Rattle.nest_quick_test.specs.Differences.{differenceAt, extremeDifference, PairIn, DifferenceIn}
+use Rattle.nest_loop_ranges.specs.Ranges.{rangesOf, termBy}
+use Rattle.nest_quick_test.specs.Differences.{differenceAt, leastDifference, greatestDifference, PairIn, DifferenceIn}
 use Rattle.nest_loop_ranges.proofs.TermLaws.{copy}
-use Rattle.nest_loop_ranges.proofs.ExtremeLaws.{sum-none, sum-short, sum-cons}
+use Rattle.nest_loop_ranges.proofs.ExtremeLaws.{extremeTerm, extremeSum, other, sum-none, sum-short, sum-cons}
 use Rattle.nest_loop_ranges.proofs.SumLaws.{count-of}
 
 -- ---- sums of two lists, and of negatives
@@ -60,8 +58,8 @@ by-neg (negsuc n) x y = rw (above n) (neg-times (negsuc n) x)
 
 term-neg : (d : Side) (c : ℤ) (r : Model.Range) → extremeTerm d (negℤ c) r ≡ negℤ (extremeTerm (other d) c r)
 unfolding leastTerm greatestTerm termBy
-term-neg Lower c r = by-neg c (r .least) (r .greatest)
-term-neg Upper c r = by-neg c (r .greatest) (r .least)
+term-neg lower c r = by-neg c (r .least) (r .greatest)
+term-neg upper c r = by-neg c (r .greatest) (r .least)
 
 neg-sum : (a b : ℤ) → negℤ a +ℤ negℤ b ≡ negℤ (a +ℤ b)
 neg-sum a b = lin (a ∷ b ∷ []) (λ a b. ⊝ a ⊕ ⊝ b ≐ ⊝ (a ⊕ b)) tt
@@ -134,11 +132,11 @@ module _ (w : List ℤ) (u v n : ℕ) (b : List Range) (p : DifferenceIn w u v n
   as-many = let c = count-of n b (p .ranges) in let i = p .pair .first .inside in let f = p .ranges .few in
       let l = length-take n (drop (u * 8 + 1) w) in let d = length-drop (u * 8 + 1) w in omega arith
 
-  pub difference-is : (d f : Side) → f ≡ other d → (c x y r : ℤ) → c ≡ differenceAt w n u v .constant
-      → x ≡ extremeSum d (take n (drop (u * 8 + 1) w)) (rangesOf n b) → y ≡ extremeSum f (take n (drop (v * 8 + 1) w)) (rangesOf n b)
-      → r ≡ c +ℤ (x -ℤ y) → r ≡ extremeDifference d w u v n (rangesOf n b)
-  unfolding extremeDifference differenceAt formAt
-  difference-is d f o c x y r hc hx hy e = e ∙ rw (hc, hx, hy, o)
+  pub difference-is : (d : Side) (c x y r : ℤ) → c ≡ differenceAt w n u v .constant → x ≡ extremeSum d (take n (drop (u * 8 + 1) w)) (rangesOf n b)
+      → y ≡ extremeSum (other d) (take n (drop (v * 8 + 1) w)) (rangesOf n b) → r ≡ c +ℤ (x -ℤ y)
+      → r ≡ differenceAt w n u v .constant +ℤ extremeSum d (differenceAt w n u v .coefficients) (rangesOf n b ++ rangesOf n b)
+  unfolding differenceAt formAt
+  difference-is d c x y r hc hx hy e = e ∙ rw (hc, hx, hy)
       (ap (differenceAt w n u v .constant +ℤ_) (sym (of-difference d (formAt w n u) (formAt w n v) (rangesOf n b) as-many)))
 
 -- ---- zero outside
@@ -164,7 +162,7 @@ module _ (w : List ℤ) (n u v : ℕ) (rs : List Model.Range) (g : ℕ) (c : ℤ
   unfolding neverZero
   never-divided e = rw (ap not decides ∙ e)
 
-  pub never-reached : not t ≡ false → (x y : ℤ) (r : Bool) → x ≡ extremeDifference Lower w u v n rs → y ≡ extremeDifference Upper w u v n rs
+  pub never-reached : not t ≡ false → (x y : ℤ) (r : Bool) → x ≡ leastDifference w u v n rs → y ≡ greatestDifference w u v n rs
       → r ≡ (ltZ (pos 0) x || ltZ y (pos 0)) → r ≡ neverZero (rs ++ rs) (differenceAt w n u v)
-  unfolding neverZero extremeDifference
+  unfolding neverZero leastDifference greatestDifference
   never-reached e x y r ex ey er = er ∙ rw (ex, ey) (sym (rw (ap not decides ∙ e)))

@@ -7,12 +7,11 @@ use Rattle.integers.specs.Gcd.{gcd}
 use Rattle.integers.specs.Affine.{Within}
 use Rattle.model.specs.Ticket.{Subscript}
 use Rattle.model.specs.Quick as Model
-use Rattle.model.specs.Quick.{difference}
+use Rattle.model.specs.Quick.{leastSum, greatestSum, difference}
 use Rattle.model.specs.Grammar.{mostLoops}
 use Rattle.nest_flat.specs.Layout.{formAt}
-use Rattle.nest_index_range.specs.declared.Side.{Side}
 use Rattle.nest_loop_ranges.specs.declared.Range.{Range}
-use Rattle.nest_loop_ranges.specs.Ranges.{extremeSum, RangesIn}
+use Rattle.nest_loop_ranges.specs.Ranges.{RangesIn}
 
 -- the greatest common divisor of g and the absolute values of a list
 unfoldable pub gcdOnto : List ℤ → ℕ → ℕ
@@ -23,9 +22,12 @@ gcdOnto (a ∷ rest) g = gcd (natAbs a) (gcdOnto rest g)
 unfoldable pub differenceAt : List ℤ → ℕ → ℕ → ℕ → Subscript
 differenceAt w n u v = difference (formAt w n u) (formAt w n v)
 
--- the least or the greatest that it can be, over two free iterations
-unfoldable pub extremeDifference : Side → List ℤ → ℕ → ℕ → ℕ → List Model.Range → ℤ
-extremeDifference d w u v n rs = differenceAt w n u v .constant +ℤ extremeSum d (differenceAt w n u v .coefficients) (rs ++ rs)
+-- the least and the greatest that it can be, over two free iterations
+unfoldable pub leastDifference : List ℤ → ℕ → ℕ → ℕ → List Model.Range → ℤ
+leastDifference w u v n rs = differenceAt w n u v .constant +ℤ leastSum (differenceAt w n u v .coefficients) (rs ++ rs)
+
+unfoldable pub greatestDifference : List ℤ → ℕ → ℕ → ℕ → List Model.Range → ℤ
+greatestDifference w u v n rs = differenceAt w n u v .constant +ℤ greatestSum (differenceAt w n u v .coefficients) (rs ++ rs)
 
 -- n words from place at on
 pub record WordsIn (w : List ℤ) (at n : ℕ) : Type 0 where

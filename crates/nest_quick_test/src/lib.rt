@@ -14,13 +14,12 @@ ghost use Rattle.model.specs.Quick.{neverZero, someApart, isApart};
 ghost use Rattle.nest_flat.specs.Layout.{formsFrom};
 ghost use Rattle.nest_flat.specs.FlatNests.{flatNest, nestOf, accessOf};
 ghost use Rattle.nest_loop_ranges.specs.Ranges.{rangeAs, rangesOf, isEmpty, NearRange, RangesIn};
-ghost use Rattle.nest_quick_test.specs.Differences.{gcdOnto, differenceAt, extremeDifference, WordsIn, PairIn, DifferenceIn, FormsIn};
+ghost use Rattle.nest_quick_test.specs.Differences.{gcdOnto, differenceAt, leastDifference, greatestDifference, WordsIn, PairIn, DifferenceIn, FormsIn};
 ghost use Rattle.nest_quick_test.specs.Nests.{NestTestIn};
 use model::ACCESS_ROOM;
 use model::ARRAY_ROOM;
 use model::LOOPS;
 use nest_flat::Header;
-use nest_index_range::Side;
 use nest_index_range::Whole;
 use nest_loop_ranges::Range;
 
@@ -109,22 +108,25 @@ fn plus_difference(c: Whole, e: Whole, f: Whole) -> Whole
     }
 }
 
-// The least or the greatest that subscript u less subscript v can be, over two free iterations.
-fn extreme_difference(
-    words: &[i16],
-    u: usize,
-    v: usize,
-    n: usize,
-    ranges: [Range; LOOPS],
-    side: Side,
-) -> Whole
+// The least that subscript u less subscript v can be, over two free iterations.
+fn least_difference(words: &[i16], u: usize, v: usize, n: usize, ranges: [Range; LOOPS]) -> Whole
     requires { ⌜ DifferenceIn (now words) u v n ranges ⌝ }
-    ensures { λ r. ⌜ (r .value ≡ extremeDifference side (now (words .entry)) u v n (rangesOf n ranges)) × (size (r .value) ≤ 34359738368) ⌝ }
+    ensures { λ r. ⌜ (r .value ≡ leastDifference (now (words .entry)) u v n (rangesOf n ranges)) × (size (r .value) ≤ 34359738368) ⌝ }
 {
     let c = constant_difference(words, u, v, n);
-    let e = nest_loop_ranges::extreme_sum(words, u * 8 + 1, n, ranges, side);
-    let other = nest_index_range::other_side(side);
-    let f = nest_loop_ranges::extreme_sum(words, v * 8 + 1, n, ranges, other);
+    let e = nest_loop_ranges::least_sum(words, u * 8 + 1, n, ranges);
+    let f = nest_loop_ranges::greatest_sum(words, v * 8 + 1, n, ranges);
+    plus_difference(c, e, f)
+}
+
+// The greatest that it can be.
+fn greatest_difference(words: &[i16], u: usize, v: usize, n: usize, ranges: [Range; LOOPS]) -> Whole
+    requires { ⌜ DifferenceIn (now words) u v n ranges ⌝ }
+    ensures { λ r. ⌜ (r .value ≡ greatestDifference (now (words .entry)) u v n (rangesOf n ranges)) × (size (r .value) ≤ 34359738368) ⌝ }
+{
+    let c = constant_difference(words, u, v, n);
+    let e = nest_loop_ranges::greatest_sum(words, u * 8 + 1, n, ranges);
+    let f = nest_loop_ranges::least_sum(words, v * 8 + 1, n, ranges);
     plus_difference(c, e, f)
 }
 
@@ -149,8 +151,8 @@ fn never_zero(words: &[i16], u: usize, v: usize, n: usize, ranges: [Range; LOOPS
     if !divides(g, c.value) {
         return true;
     }
-    let least = extreme_difference(words, u, v, n, ranges, Side::Lower);
-    let greatest = extreme_difference(words, u, v, n, ranges, Side::Upper);
+    let least = least_difference(words, u, v, n, ranges);
+    let greatest = greatest_difference(words, u, v, n, ranges);
     excludes_zero(least, greatest)
 }
 

@@ -1,13 +1,13 @@
 -- `dependences`: links and heads for a small nest, for few points and elements, or for a large nest.
 use native.Mathlib.Omega.{arith}
-use Rattle.dependence_search.specs.Flat.{Flat, flat}
+use Rattle.dependence_search.specs.Flat.{Flat, flatIn}
 use Rattle.dependence_search.proofs.FlatLaws.{lent-clear}
 use borrow.Author.Needs.{needs}
 use Rattle.dependence_search.proofs.dependences.Statement.{statement}
 use Rattle.dependence_search.proofs.dependences.Tie as tie
 
 abbrev nest : tie.Start → Flat
-nest s = flat (s .args .points .now) (s .args .sizes) (s .args .numbers .now) (s .args .statements .now) (s .args .writes .now)
+nest s = flatIn (s .args .points .now) (s .args .sizes) (s .args .numbers .now) (s .args .statements .now) (s .args .writes .now)
 
 has-room-requires : tie.Need-has-room-requires
 has-room-requires c κs = search needs

@@ -1,6 +1,6 @@
 -- `dependences_in_large`: links and heads for few points, or for the most.
 use native.Mathlib.Omega.{arith}
-use Rattle.dependence_search.specs.Flat.{Flat, flat}
+use Rattle.dependence_search.specs.Flat.{Flat, flatIn}
 use Rattle.dependence_search.proofs.FlatLaws.{lent-clear}
 use borrow.Author.Needs.{needs}
 use Rattle.model.specs.Grammar.{mostPoints}
@@ -8,7 +8,7 @@ use Rattle.dependence_search.proofs.dependences_in_large.Statement.{sta
 use Rattle.dependence_search.proofs.dependences_in_large.Tie as tie
 
 abbrev nest : tie.Start → Flat
-nest s = flat (s .args .points .now) (s .args .sizes) (s .args .numbers .now) (s .args .statements .now) (s .args .writes .now)
+nest s = flatIn (s .args .points .now) (s .args .sizes) (s .args .numbers .now) (s .args .statements .now) (s .args .writes .now)
 
 has-room-requires : tie.Need-has-room-requires
 has-room-requires c κs = search needs

@@ -6,7 +6,8 @@ use Rattle.dependence_search.proofs.mark_pair.Statement.{statement}
 use Rattle.dependence_search.proofs.mark_pair.Tie as tie
 
 abbrev nest : tie.Start → Flat
-nest s = flat (s .args .points .now) (s .args .sizes) (s .args .numbers .now) (s .args .statements .now) (s .args .writes .now)
+nest s = flat (s .args .points .now) (s .args .depth) (s .args .count) (s .args .numbers .now) (s .args .statements .now) (s .args .writes .now)
+    (s .args .body)
 
 shared-slice-read-kind : tie.Need-shared-slice-read-kind
 shared-slice-read-kind c = search needs
@@ -31,19 +32,19 @@ shared-slice-read-t c = search needs
 
 mul-i : tie.Need-mul-i
 mul-i c = let s = c .before .before .before .before .before .before .before .before .before .before .before .before .before in let q = part-fits _ _
-    (s .args .sizes .count) (s .pre .1) (s .pre .0 .table) in omega arith
+    (s .args .count) (s .pre .1) (s .pre .0 .table) in omega arith
 
 mul-j : tie.Need-mul-j
 mul-j c = let s = c .before .before .before .before .before .before .before .before .before .before .before .before .before in let q = part-fits _ _
-    (s .args .sizes .count) (s .pre .2) (s .pre .0 .table) in omega arith
+    (s .args .count) (s .pre .2) (s .pre .0 .table) in omega arith
 
 add-search : tie.Need-add-search
 add-search c = let s = c .before .before .before .before .before .before .before .before .before .before .before .before .before
-    in let q = part-fits _ _ (s .args .sizes .count) (s .pre .1) (s .pre .0 .table) in omega arith
+    in let q = part-fits _ _ (s .args .count) (s .pre .1) (s .pre .0 .table) in omega arith
 
 mul-search : tie.Need-mul-search
 mul-search c = let s = c .before .before .before .before .before .before .before .before .before .before .before .before .before
-    in let q = part-fits _ _ (s .args .sizes .count) (s .pre .1) (s .pre .0 .table) in omega arith
+    in let q = part-fits _ _ (s .args .count) (s .pre .1) (s .pre .0 .table) in omega arith
 
 sub-search : tie.Need-sub-search
 sub-search c = search needs
@@ -53,15 +54,15 @@ part-search-start c = search needs
 
 part-search-end : tie.Need-part-search-end
 part-search-end c = let s = c .before .before .before .before .before .before .before .before .before .before .before .before .before in part-fits _
-    _ (s .args .sizes .count) (s .pre .1) (s .pre .0 .table)
+    _ (s .args .count) (s .pre .1) (s .pre .0 .table)
 
 add-search-2 : tie.Need-add-search-2
 add-search-2 c = let s = c .before .before .before .before .before .before .before .before .before .before .before .before .before .before
-    in let q = part-fits _ _ (s .args .sizes .count) (s .pre .2) (s .pre .0 .table) in omega arith
+    in let q = part-fits _ _ (s .args .count) (s .pre .2) (s .pre .0 .table) in omega arith
 
 mul-search-2 : tie.Need-mul-search-2
 mul-search-2 c = let s = c .before .before .before .before .before .before .before .before .before .before .before .before .before .before
-    in let q = part-fits _ _ (s .args .sizes .count) (s .pre .2) (s .pre .0 .table) in omega arith
+    in let q = part-fits _ _ (s .args .count) (s .pre .2) (s .pre .0 .table) in omega arith
 
 sub-search-2 : tie.Need-sub-search-2
 sub-search-2 c = search needs
@@ -71,11 +72,11 @@ part-search-start-2 c = search needs
 
 part-search-end-2 : tie.Need-part-search-end-2
 part-search-end-2 c = let s = c .before .before .before .before .before .before .before .before .before .before .before .before .before .before
-    in part-fits _ _ (s .args .sizes .count) (s .pre .2) (s .pre .0 .table)
+    in part-fits _ _ (s .args .count) (s .pre .2) (s .pre .0 .table)
 
 block-requires : tie.Need-block-requires
 block-requires c κs = let s = c .before .before .before .before .before .before .before .before .before .before .before .before .before .before
-    .before in let r = s .pre .0 .room in let g = s .good .1 .1 .1 .1 .1 .1 .1 .1 .1 .0 .0 in (
+    .before in let r = s .pre .0 .room in let g = s .good .1 .1 .1 .1 .1 .1 .1 .1 .1 .1 .1 .0 .0 in (
       omega arith,
       s .pre .0 .inBody (s .args .a) (s .pre .1),
       s .pre .0 .inBody (s .args .b) (s .pre .2),

@@ -13,15 +13,16 @@ use Rattle.dependence_search.proofs.mark_source.Statement.{statement}
 use Rattle.dependence_search.proofs.mark_source.Tie as tie
 
 abbrev Inv-loop : tie.InvT-loop
-Inv-loop points sizes numbers statements writes a next head₀ start₀ marks₀ count i b₀ head start marks b = (b ≤ length statements)
-    × (length marks ≡ length marks₀) × Gathered marks₀ marks b (setBy (flat points sizes numbers statements writes) a)
-    × (length head ≡ length head₀) × (length start ≡ length start₀) × Linked (numbersOf (sizes .count) numbers a) next head start
+Inv-loop points depth count numbers statements writes body a next head₀ start₀ marks₀ i b₀ head start marks b = (b ≤ length statements)
+    × (length marks ≡ length marks₀) × Gathered marks₀ marks b (setBy (flat points depth count numbers statements writes body) a)
+    × (length head ≡ length head₀) × (length start ≡ length start₀) × Linked (numbersOf count numbers a) next head start
 
 abbrev μ-loop : tie.MeasureT-loop
-μ-loop points sizes numbers statements writes a next head₀ start₀ marks₀ count i b₀ head start marks b = length statements - b
+μ-loop points depth count numbers statements writes body a next head₀ start₀ marks₀ i b₀ head start marks b = length statements - b
 
 abbrev nest : tie.Start Inv-loop μ-loop → Flat
-nest s = flat (s .args .points .now) (s .args .sizes) (s .args .numbers .now) (s .args .statements .now) (s .args .writes .now)
+nest s = flat (s .args .points .now) (s .args .depth) (s .args .count) (s .args .numbers .now) (s .args .statements .now) (s .args .writes .now)
+    (s .args .body)
 
 turn : (c : tie.Joined1 Inv-loop μ-loop) → (let s = c .before .before .before .before .before .before .before .before .before .before .before
     .before .before .before .before .before .before .before .before .before in let l = c .before .before .before .loop in
@@ -30,7 +31,7 @@ turn c = let s = c .before .before .before .before .before .before .before .befo
     .before .before .before .before in let l = c .before .before .before .loop in let f = c .before .first-like in
     gathered-turn (s .args .marks .now) (l .marks) (c .if1 .marks) (l .b) (f .result) (setBy (nest s) (s .args .a)) (l .inv .2) (l .inv .1)
     (⊎-elim (λ w. inl (subst (λ m. Done (l .marks) m (setBy (nest s) (s .args .a) (l .b))) (sym (w .14))
-    (record { same-length = w .5 .kept .1 .1 .1 .1 .1 .1 .1 .1 .1 .1 .0; adds = w .5 .ensures .0 })))
+    (record { same-length = w .5 .kept .1 .1 .1 .1 .1 .1 .1 .1 .1 .1 .1 .1 .0; adds = w .5 .ensures .0 })))
     (λ w. let n = w .0 .left in let h = f .ensures .earlier in let k : f .result < l .b = omega arith in inr
     (w .3, k, alike-sink (nest s) (f .result) (l .b) (f .ensures .alike k) (s .args .a))) (c .if1 .came))
 
@@ -39,23 +40,23 @@ kept : (c : tie.Joined1 Inv-loop μ-loop) → (let l = c .before .before .before
     × Clear (c .if1 .head) × (length (c .if1 .start) ≡ length (l .start)))
 kept c = let l = c .before .before .before .loop in
     ⊎-elim (λ w. (
-      ap length (w .12) ∙ w .5 .kept .1 .1 .1 .1 .1 .1 .1 .1 .0,
+      ap length (w .12) ∙ w .5 .kept .1 .1 .1 .1 .1 .1 .1 .1 .1 .1 .0,
       subst Clear (sym (w .12)) (w .5 .ensures .1),
       ap length (w .13)
-          ∙ w .5 .kept .1 .1 .1 .1 .1 .1 .1 .1 .1 .0,
+          ∙ w .5 .kept .1 .1 .1 .1 .1 .1 .1 .1 .1 .1 .1 .0,
     ))
     (λ w. (ap length (w .1), subst Clear (sym (w .1)) (l .inv .5 .clear), ap length (w .2))) (c .if1 .came)
 
 mul-i : tie.Need-mul-i Inv-loop μ-loop
-mul-i c = let s = c .before .before .before .before .before .before .before in let q = part-fits _ _ (s .args .sizes .count) (s .pre .1) (s .pre .0 .table)
+mul-i c = let s = c .before .before .before .before .before .before .before in let q = part-fits _ _ (s .args .count) (s .pre .1) (s .pre .0 .table)
     in omega arith
 
 add-link : tie.Need-add-link Inv-loop μ-loop
-add-link c = let s = c .before .before .before .before .before .before .before in let q = part-fits _ _ (s .args .sizes .count) (s .pre .1)
+add-link c = let s = c .before .before .before .before .before .before .before in let q = part-fits _ _ (s .args .count) (s .pre .1)
     (s .pre .0 .table) in omega arith
 
 mul-link : tie.Need-mul-link Inv-loop μ-loop
-mul-link c = let s = c .before .before .before .before .before .before .before in let q = part-fits _ _ (s .args .sizes .count) (s .pre .1)
+mul-link c = let s = c .before .before .before .before .before .before .before in let q = part-fits _ _ (s .args .count) (s .pre .1)
     (s .pre .0 .table) in omega arith
 
 sub-link : tie.Need-sub-link Inv-loop μ-loop
@@ -65,14 +66,14 @@ part-link-start : tie.Need-part-link-start Inv-loop μ-loop
 part-link-start c = search needs
 
 part-link-end : tie.Need-part-link-end Inv-loop μ-loop
-part-link-end c = let s = c .before .before .before .before .before .before .before in part-fits _ _ (s .args .sizes .count) (s .pre .1) (s .pre .0 .table)
+part-link-end c = let s = c .before .before .before .before .before .before .before in part-fits _ _ (s .args .count) (s .pre .1) (s .pre .0 .table)
 
 add-link-2 : tie.Need-add-link-2 Inv-loop μ-loop
-add-link-2 c = let s = c .before .before .before .before .before .before .before .before in let q = part-fits _ _ (s .args .sizes .count) (s .pre .1)
+add-link-2 c = let s = c .before .before .before .before .before .before .before .before in let q = part-fits _ _ (s .args .count) (s .pre .1)
     (s .pre .0 .table) in omega arith
 
 mul-link-2 : tie.Need-mul-link-2 Inv-loop μ-loop
-mul-link-2 c = let s = c .before .before .before .before .before .before .before .before in let q = part-fits _ _ (s .args .sizes .count) (s .pre .1)
+mul-link-2 c = let s = c .before .before .before .before .before .before .before .before in let q = part-fits _ _ (s .args .count) (s .pre .1)
     (s .pre .0 .table) in omega arith
 
 sub-link-2 : tie.Need-sub-link-2 Inv-loop μ-loop
@@ -82,7 +83,7 @@ part-link-start-2 : tie.Need-part-link-start-2 Inv-loop μ-loop
 part-link-start-2 c = search needs
 
 part-link-end-2 : tie.Need-part-link-end-2 Inv-loop μ-loop
-part-link-end-2 c = let s = c .before .before .before .before .before .before .before .before in part-fits _ _ (s .args .sizes .count) (s .pre .1)
+part-link-end-2 c = let s = c .before .before .before .before .before .before .before .before in part-fits _ _ (s .args .count) (s .pre .1)
     (s .pre .0 .table)
 
 link-requires : tie.Need-link-requires Inv-loop μ-loop
@@ -135,7 +136,7 @@ loop-again c = let s = c .before .before .before .before .before .before .before
       turn c .1,
       k .0 ∙ l .inv .3,
       k .2 ∙ l .inv .4,
-      linked-still (numbersOf (s .sizes .count) (s .numbers .now) (s .a)) (c .before .before .before .before .before .before .before .before .link .last .1 .1
+      linked-still (numbersOf (s .count) (s .numbers .now) (s .a)) (c .before .before .before .before .before .before .before .before .link .last .1 .1
           .1 .1 .0) (l .head) (l .start) (c .if1 .head) (c .if1 .start) (k .0) (k .1) (k .2) (l .inv .5),
     )
 

@@ -13,17 +13,18 @@ use Rattle.dependence_search.proofs.mark_sources.Statement.{statement}
 use Rattle.dependence_search.proofs.mark_sources.Tie as tie
 
 abbrev Inv-loop : tie.InvT-loop
-Inv-loop points sizes numbers statements writes next₀ head₀ start₀ marks₀ a₀ next head start marks a =
+Inv-loop points depth count numbers statements writes body next₀ head₀ start₀ marks₀ a₀ next head start marks a =
     (a ≤ length statements) × (length marks ≡ length marks₀)
-    × Gathered marks₀ marks a (setFrom (flat points sizes numbers statements writes))
+    × Gathered marks₀ marks a (setFrom (flat points depth count numbers statements writes body))
     × (length next ≡ length next₀) × (length head ≡ length head₀) × (length start ≡ length start₀)
-    × Lent (flat points sizes numbers statements writes) next head start
+    × Lent (flat points depth count numbers statements writes body) next head start
 
 abbrev μ-loop : tie.MeasureT-loop
-μ-loop points sizes numbers statements writes next₀ head₀ start₀ marks₀ a₀ next head start marks a = length statements - a
+μ-loop points depth count numbers statements writes body next₀ head₀ start₀ marks₀ a₀ next head start marks a = length statements - a
 
 abbrev nest : tie.Start Inv-loop μ-loop → Flat
-nest s = flat (s .args .points .now) (s .args .sizes) (s .args .numbers .now) (s .args .statements .now) (s .args .writes .now)
+nest s = flat (s .args .points .now) (s .args .depth) (s .args .count) (s .args .numbers .now) (s .args .statements .now) (s .args .writes .now)
+    (s .args .body)
 
 turn : (c : tie.Joined1 Inv-loop μ-loop) → (let s = c .before .before .before .before .before .before .before .before .before .before .before
     in let l = c .before .before .before .loop in
@@ -32,7 +33,7 @@ turn c = let s = c .before .before .before .before .before .before .before .befo
     in let l = c .before .before .before .loop in let f = c .before .first-like in
     gathered-turn (s .args .marks .now) (l .marks) (c .if1 .marks) (l .a) (f .result) (setFrom (nest s)) (l .inv .2) (l .inv .1)
     (⊎-elim (λ w. inl (subst (λ m. Done (l .marks) m (setFrom (nest s) (l .a))) (sym (w .17))
-    (record { same-length = w .5 .kept .1 .1 .1 .1 .1 .1 .1 .1 .1 .0; adds = w .5 .ensures .0 })))
+    (record { same-length = w .5 .kept .1 .1 .1 .1 .1 .1 .1 .1 .1 .1 .1 .0; adds = w .5 .ensures .0 })))
     (λ w. let n = w .0 .left in let h = f .ensures .earlier in let k : f .result < l .a = omega arith in inr
     (w .4, k, alike-from (nest s) (f .result) (l .a) (f .ensures .alike k))) (c .if1 .came))
 
@@ -41,11 +42,11 @@ kept : (c : tie.Joined1 Inv-loop μ-loop) → (let l = c .before .before .before
     × (length (c .if1 .head) ≡ length (l .head)) × (length (c .if1 .start) ≡ length (l .start)) × Clear (c .if1 .head))
 kept c = let l = c .before .before .before .loop in
     ⊎-elim (λ w. let f = w .5 in (
-      ap length (w .14) ∙ f .kept .1 .1 .1 .1 .1 .1 .0,
+      ap length (w .14) ∙ f .kept .1 .1 .1 .1 .1 .1 .1 .1 .0,
       ap length (w .15)
-          ∙ f .kept .1 .1 .1 .1 .1 .1 .1 .0,
+          ∙ f .kept .1 .1 .1 .1 .1 .1 .1 .1 .1 .0,
       ap length (w .16)
-          ∙ f .kept .1 .1 .1 .1 .1 .1 .1 .1 .0,
+          ∙ f .kept .1 .1 .1 .1 .1 .1 .1 .1 .1 .1 .0,
       subst Clear (sym (w .15)) (f .ensures .1),
     ))
     (λ w. (ap length (w .1), ap length (w .2), ap length (w .3), subst Clear (sym (w .2)) (l .inv .6 .clear))) (c .if1 .came)

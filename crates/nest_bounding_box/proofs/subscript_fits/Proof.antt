@@ -12,33 +12,33 @@ mul-word c = search needs
 word-requires : tie.Need-word-requires
 word-requires c κs = search needs
 
-mul-extreme-sum : tie.Need-mul-extreme-sum
-mul-extreme-sum c = search needs
+mul-least-sum : tie.Need-mul-least-sum
+mul-least-sum c = search needs
 
-add-extreme-sum : tie.Need-add-extreme-sum
-add-extreme-sum c = search needs
+add-least-sum : tie.Need-add-least-sum
+add-least-sum c = search needs
 
-extreme-sum-requires : tie.Need-extreme-sum-requires
-extreme-sum-requires c κs = search needs
+least-sum-requires : tie.Need-least-sum-requires
+least-sum-requires c κs = search needs
 
 add-if1 : tie.Need-add-if1
-add-if1 c = let z = c .before .before .before .word in let x = c .before .before .extreme-sum in sum-fits (z .result) (x .result .value)
+add-if1 c = let z = c .before .before .before .word in let x = c .before .before .least-sum in sum-fits (z .result) (x .result .value)
     (constant-small (c .before .before .before .before .pre) (z .ensures)) (x .ensures .1)
 
 returns : tie.Need-returns
 returns c = λ e. absurd (true-T false e)
 
-mul-extreme-sum-2 : tie.Need-mul-extreme-sum-2
-mul-extreme-sum-2 c = search needs
+mul-greatest-sum : tie.Need-mul-greatest-sum
+mul-greatest-sum c = search needs
 
-add-extreme-sum-2 : tie.Need-add-extreme-sum-2
-add-extreme-sum-2 c = search needs
+add-greatest-sum : tie.Need-add-greatest-sum
+add-greatest-sum c = search needs
 
-extreme-sum-requires-2 : tie.Need-extreme-sum-requires-2
-extreme-sum-requires-2 c κs = search needs
+greatest-sum-requires : tie.Need-greatest-sum-requires
+greatest-sum-requires c κs = search needs
 
 add-result : tie.Need-add-result
-add-result c = let z = c .before .before .before .before .before .before .before .word in let y = c .before .before .extreme-sum2 in sum-fits
+add-result c = let z = c .before .before .before .before .before .before .before .word in let y = c .before .before .greatest-sum in sum-fits
     (z .result) (y .result .value) (constant-small (c .before .before .before .before .before .before .before .before .pre) (z .ensures))
     (y .ensures .1)
 
@@ -47,7 +47,7 @@ cast-result c = search needs
 
 returns-2 : tie.Need-returns-2
 returns-2 c = let z = c .before .before .before .before .before .before .before .word
-    in let x = c .before .before .before .before .before .before .extreme-sum in let y = c .before .before .extreme-sum2 in subscript-enclosed
+    in let x = c .before .before .before .before .before .before .least-sum in let y = c .before .before .greatest-sum in subscript-enclosed
     (c .before .before .before .before .before .before .before .before .pre) (z .ensures) (x .result .value) (y .result .value) (x .ensures)
     (y .ensures) (c .before .before .before .if1 .left)
 
@@ -57,14 +57,14 @@ subscript-fits-spec =
     (tie.spec
     mul-word
     word-requires
-    mul-extreme-sum
-    add-extreme-sum
-    extreme-sum-requires
+    mul-least-sum
+    add-least-sum
+    least-sum-requires
     add-if1
     returns
-    mul-extreme-sum-2
-    add-extreme-sum-2
-    extreme-sum-requires-2
+    mul-greatest-sum
+    add-greatest-sum
+    greatest-sum-requires
     add-result
     cast-result
     returns-2)

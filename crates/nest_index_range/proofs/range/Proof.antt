@@ -25,24 +25,24 @@ mul-upper-2 c = search needs
 shared-slice-read-upper : tie.Need-shared-slice-read-upper
 shared-slice-read-upper c = search needs
 
-mul-side-index : tie.Need-mul-side-index
-mul-side-index c = search needs
+mul-first-index : tie.Need-mul-first-index
+mul-first-index c = search needs
 
-side-index-requires : tie.Need-side-index-requires
-side-index-requires c κs = search needs
+first-index-requires : tie.Need-first-index-requires
+first-index-requires c κs = search needs
 
-mul-side-index-2 : tie.Need-mul-side-index-2
-mul-side-index-2 c = search needs
+mul-last-index : tie.Need-mul-last-index
+mul-last-index c = search needs
 
-add-side-index : tie.Need-add-side-index
-add-side-index c = search needs
+add-last-index : tie.Need-add-last-index
+add-last-index c = search needs
 
-side-index-requires-2 : tie.Need-side-index-requires-2
-side-index-requires-2 c κs = search needs
+last-index-requires : tie.Need-last-index-requires
+last-index-requires c κs = search needs
 
 returns : tie.Need-returns
 returns c = let s = c .before .before .before .before .before in ranged (s .args .nest .now) (s .args .counts .now) (s .args .outer .now)
-    (c .before .side-index .result) (c .side-index2 .result) (c .before .side-index .ensures) (c .side-index2 .ensures)
+    (c .before .first-index .result) (c .last-index .result) (c .before .first-index .ensures) (c .last-index .ensures)
 
 pub range-spec : {M : Type 1} → statement M
 range-spec =
@@ -55,9 +55,9 @@ range-spec =
     add-upper
     mul-upper-2
     shared-slice-read-upper
-    mul-side-index
-    side-index-requires
-    mul-side-index-2
-    add-side-index
-    side-index-requires-2
+    mul-first-index
+    first-index-requires
+    mul-last-index
+    add-last-index
+    last-index-requires
     returns)

@@ -6,6 +6,10 @@ use Rattle.nest_loop_ranges.specs.Values.{RangesAre}
 use Rattle.nest_loop_ranges.proofs.RangeLaws.{none-held, more-held, loops-before}
 use Rattle.nest_loop_ranges.proofs.ranges.Statement.{statement}
 use Rattle.nest_loop_ranges.proofs.ranges.Tie as tie
+use Rattle.nest_loop_ranges.proofs.ranges.Reads as reads
+use Rattle.nest_loop_ranges.proofs.ranges.Lts as lts
+use Rattle.nest_loop_ranges.proofs.greatest_value.Reads as greatest-value-reads
+use Rattle.nest_loop_ranges.proofs.least_value.Reads as least-value-reads
 
 abbrev Inv-loop : tie.InvT-loop
 Inv-loop nest counts n r₀ i₀ r i = (i ≤ n) × RangesAre nest counts i r

@@ -2,9 +2,8 @@
 use mathlib.Core.Path.{_≡_, refl, subst}
 use Prim.Native.Nat.{ℕ, _-_, _≤_}
 use native.Mathlib.Omega.{arith}
-use Rattle.nest_index_range.specs.declared.Side.the-variants.{Lower, Upper}
 use Rattle.nest_loop_ranges.specs.Values.{RangesAre}
-use Rattle.nest_loop_ranges.proofs.RangeLaws.{none-held, more-held, loop-in, extreme-at, loops-before}
+use Rattle.nest_loop_ranges.proofs.RangeLaws.{none-held, more-held, loop-in, least-at, greatest-at, loops-before}
 use Rattle.nest_loop_ranges.proofs.ranges_in_turn.Statement.{statement}
 use Rattle.nest_loop_ranges.proofs.ranges_in_turn.Tie as tie
 
@@ -17,13 +16,13 @@ abbrev μ-loop : tie.MeasureT-loop
 loop-holds : tie.Need-loop-holds Inv-loop μ-loop
 loop-holds c = let s = c .before in (omega arith, none-held (s .args .nest .now) (s .args .counts .now) _ refl)
 
-loop-extreme-requires : tie.Need-loop-extreme-requires Inv-loop μ-loop
-loop-extreme-requires c κs = let s = c .before .before .before in let l = c .before .loop in
+loop-least-requires : tie.Need-loop-least-requires Inv-loop μ-loop
+loop-least-requires c κs = let s = c .before .before .before in let l = c .before .loop in
     loop-in (s .args .nest .now) (s .args .counts .now) (l .i) (l .i) (l .r) (loops-before (s .args .nest .now) (s .args .counts .now) (s .args .n)
     (l .i) (s .pre) (c .loop-test .taken)) (l .inv .1) refl
 
-loop-extreme-requires-2 : tie.Need-loop-extreme-requires-2 Inv-loop μ-loop
-loop-extreme-requires-2 c κs = let s = c .before .before .before .before in let l = c .before .before .loop in
+loop-greatest-requires : tie.Need-loop-greatest-requires Inv-loop μ-loop
+loop-greatest-requires c κs = let s = c .before .before .before .before in let l = c .before .before .loop in
     loop-in (s .args .nest .now) (s .args .counts .now) (l .i) (l .i) (l .r) (loops-before (s .args .nest .now) (s .args .counts .now) (s .args .n)
     (l .i) (s .pre) (c .before .loop-test .taken)) (l .inv .1) refl
 
@@ -46,15 +45,14 @@ loop-less c = let h = c .before .before .before .before .loop-test .taken in ome
 loop-again : tie.Need-loop-again Inv-loop μ-loop
 loop-again c = let s = c .before .before .before .before .before .before .before in let l = c .before .before .before .before .before .loop
     in let f = s .pre .shallow in let h = c .before .before .before .before .loop-test .taken in
-    let k = loops-before (s .args .nest .now) (s .args .counts .now) (s .args .n) (l .i) (s .pre) h
-    in let x = c .before .before .before .loop-extreme
-    in let y = c .before .before .loop-extreme2 in (
+    let k = loops-before (s .args .nest .now) (s .args .counts .now) (s .args .n) (l .i) (s .pre) h in let x = c .before .before .before .loop-least
+    in let y = c .before .before .loop-greatest in (
       omega arith,
       more-held (s .args .nest .now) (s .args .counts .now) (l .i) (l .r) (x .result .value) (y .result .value) (omega arith) (l .inv .1) (
-        extreme-at (s .args .nest .now) (s .args .counts .now) (l .i) (l .i) (l .r) k (l .inv .1) refl Lower (x .result .value) (x .ensures .0),
+        least-at (s .args .nest .now) (s .args .counts .now) (l .i) (l .i) (l .r) k (l .inv .1) refl (x .result .value) (x .ensures .0),
         x .ensures .1,
       ) (
-        extreme-at (s .args .nest .now) (s .args .counts .now) (l .i) (l .i) (l .r) k (l .inv .1) refl Upper (y .result .value) (y .ensures .0),
+        greatest-at (s .args .nest .now) (s .args .counts .now) (l .i) (l .i) (l .r) k (l .inv .1) refl (y .result .value) (y .ensures .0),
         y .ensures .1,
       ),
     )
@@ -70,8 +68,8 @@ ranges-in-turn-spec =
     Inv-loop
     μ-loop
     loop-holds
-    loop-extreme-requires
-    loop-extreme-requires-2
+    loop-least-requires
+    loop-greatest-requires
     mul-r
     array-set-from-r
     add-i

@@ -4,6 +4,14 @@ use Rattle.nest_quick_test.proofs.DifferenceLaws.{divisor-asks, never-d
 use borrow.Author.Needs.{needs}
 use Rattle.nest_quick_test.proofs.never_zero.Statement.{statement}
 use Rattle.nest_quick_test.proofs.never_zero.Tie as tie
+use Rattle.nest_quick_test.proofs.never_zero.Reads as reads
+use Rattle.nest_quick_test.proofs.never_zero.Lts as lts
+use Rattle.nest_quick_test.proofs.common_divisor.Reads as common-divisor-reads
+use Rattle.nest_quick_test.proofs.constant_difference.Reads as constant-difference-reads
+use Rattle.nest_quick_test.proofs.divides.Reads as divides-reads
+use Rattle.nest_quick_test.proofs.excludes_zero.Reads as excludes-zero-reads
+use Rattle.nest_quick_test.proofs.greatest_difference.Reads as greatest-difference-reads
+use Rattle.nest_quick_test.proofs.least_difference.Reads as least-difference-reads
 
 common-divisor-requires : tie.Need-common-divisor-requires
 common-divisor-requires c κs = search needs
@@ -20,11 +28,11 @@ returns c = let s = c .before .before .before .before .before in let d = c .befo
     never-divided (s .args .words .now) (s .args .n) (s .args .u) (s .args .v) (rangesOf (s .args .n) (s .args .ranges)) (g .result)
     (d .result .value) (t .result) (g .ensures) (d .ensures) (t .ensures) (c .if1 .taken)
 
-extreme-difference-requires : tie.Need-extreme-difference-requires
-extreme-difference-requires c κs = search needs
+least-difference-requires : tie.Need-least-difference-requires
+least-difference-requires c κs = search needs
 
-extreme-difference-requires-2 : tie.Need-extreme-difference-requires-2
-extreme-difference-requires-2 c κs = search needs
+greatest-difference-requires : tie.Need-greatest-difference-requires
+greatest-difference-requires c κs = search needs
 
 excludes-zero-requires : tie.Need-excludes-zero-requires
 excludes-zero-requires c κs = search needs
@@ -33,7 +41,7 @@ returns-2 : tie.Need-returns-2
 returns-2 c = let s = c .before .before .before .before .before .before .before .before
     in let d = c .before .before .before .before .before .before .constant-difference
     in let g = c .before .before .before .before .before .before .before .common-divisor in let t = c .before .before .before .before .divides
-    in let x = c .before .before .extreme-difference in let y = c .before .extreme-difference2 in
+    in let x = c .before .before .least-difference in let y = c .before .greatest-difference in
     never-reached (s .args .words .now) (s .args .n) (s .args .u) (s .args .v) (rangesOf (s .args .n) (s .args .ranges)) (g .result)
     (d .result .value) (t .result) (g .ensures) (d .ensures) (t .ensures) (c .before .before .before .if1 .left)
     (x .result .value) (y .result .value) (c .excludes-zero .result) (x .ensures .0) (y .ensures .0) (c .excludes-zero .ensures)
@@ -46,7 +54,7 @@ never-zero-spec =
     constant-difference-requires
     divides-requires
     returns
-    extreme-difference-requires
-    extreme-difference-requires-2
+    least-difference-requires
+    greatest-difference-requires
     excludes-zero-requires
     returns-2)
