@@ -15,7 +15,8 @@ ghost use Rattle.integers.specs.Difference.{size};
 ghost use Rattle.model.specs.Grammar.{mostLoops};
 ghost use Rattle.nest_loop_ranges.specs.Ranges.{rangeAs, NearRange, RangesIn};
 ghost use Rattle.dependence_banerjee.specs.Sums.{coefficientSum, SubscriptsIn, SumsIn};
-ghost use Rattle.dependence_banerjee.specs.Spans.{SpanIn, TermDifferenceIn, Filled, Widened, Spans, TermIn, PairIn, RegionIn, Extent, Excluded, NoMultiple, NoIterations, Impossible};
+ghost use Rattle.dependence_banerjee.specs.Spans.{SpanIn, TermDifferenceIn, Filled, Widened, Spans, TermIn, PairIn, RegionIn, Extent, Excluded};
+ghost use Rattle.dependence_banerjee.specs.Spans.{NoMultiple, NoIterations, Impossible};
 ghost use Rattle.dependence_banerjee.specs.Covers.{Covers, CoverIn, candidates as «candidates-of»};
 
 // ---- sums of coefficients

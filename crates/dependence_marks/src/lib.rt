@@ -99,7 +99,8 @@ fn mark_using_numbers(
     );
 }
 
-// The same of few points: fewer accesses have fewer numbers to clear. Apart from `mark_many`, whose room would be walked through page by page here too.
+// The same of few points: fewer accesses have fewer numbers to clear. Apart from `mark_many`, whose room would be walked through page by page here
+// too.
 pub fn mark_few(
     header: Header,
     limits: &[i16],

@@ -6,7 +6,8 @@ ghost use lib.ListN.{length, getD};
 ghost use Rattle.model.specs.Directions.{vectorCount};
 ghost use Rattle.model.specs.Grammar.{mostElements};
 ghost use Rattle.dependence_vectors.specs.Candidates.{stride};
-ghost use Rattle.dependence_pair_search.specs.Search.{Below, Links, Unlinked, NextLinked, Clear, ClearElse, Linkable, Linked, Followable, upTo, Adds, walked, Walkable, Level, LevelElse, Tabled, Passed, found, Searchable};
+ghost use Rattle.dependence_pair_search.specs.Search.{Below, Links, Unlinked, NextLinked, Clear, ClearElse, Linkable, Linked, Followable, upTo};
+ghost use Rattle.dependence_pair_search.specs.Search.{Adds, walked, Walkable, Level, LevelElse, Tabled, Passed, found, Searchable};
 use model::LOOPS;
 
 // ---- chains of points by element

@@ -102,7 +102,7 @@ pub record NumbersBelow (m : ℕ) (F : Flat) : Type 0 where
   pub few : m ≤ mostElements
   pub below : (a x : ℕ) → a < length (F .statements) → x < F .count → numberAt F a x < m
 
--- every number is below m
+-- what is asked for the search of all accesses, whose numbers are below m
 abbrev pub SearchIn : Flat → ℕ → List Bool → Type 0
 SearchIn F m marks = Ready F marks × NumbersBelow m F
 

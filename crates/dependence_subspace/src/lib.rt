@@ -1,4 +1,5 @@
-// The corner or the centre of an iteration space: the nest with one more limit on a side of each loop, or on both, so that few of its points are left.
+// The corner or the centre of an iteration space: the nest with one more limit on a side of each loop, or on both, so that few of its points are
+// left.
 ghost use mathlib.Core.Path.{_≡_};
 ghost use Prim.Native.Nat.{_≤_, _<_};
 ghost use Rattle.integers.specs.Difference.{size};

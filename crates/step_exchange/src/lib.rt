@@ -1,5 +1,5 @@
-// The two loops that an exchange makes of loop I at place a and loop J inside it, put in their places among the words of the nest. Each side is filled
-// first, in wide numbers and with no limit twice.
+// The two loops that an exchange makes of loop I at place a and loop J inside it, put in their places among the words of the nest. Each side is
+// filled first, in wide numbers and with no limit twice.
 ghost use mathlib.Core.Path.{_≡_};
 ghost use mathlib.Core.Bool.{not, _&&_};
 ghost use mathlib.Core.List.{_++_, map, flatMap};
@@ -15,7 +15,8 @@ ghost use Rattle.nest_flat.specs.Flat.{loopAt};
 ghost use Rattle.step_limits.specs.Small.{SmallLimit};
 ghost use Rattle.step_limits.specs.Makes.{LimitIs};
 ghost use Rattle.step_exchange_sides.specs.Filling.{Filled, Holds, Adds};
-ghost use Rattle.step_exchange.specs.Pair.{solved, takenOf, limitsOf, SpanIn, CombineIn, PartIn, TakeIn, SolveIn, ThreeIn, lowerSpan, upperSpan, FillIn, LoopHeld, loopIn, PutLoopIn, LoopPut, PairIn, Exchanges};
+ghost use Rattle.step_exchange.specs.Pair.{solved, takenOf, limitsOf, SpanIn, CombineIn, PartIn, TakeIn, SolveIn, ThreeIn, lowerSpan};
+ghost use Rattle.step_exchange.specs.Pair.{upperSpan, FillIn, LoopHeld, loopIn, PutLoopIn, LoopPut, PairIn, Exchanges};
 use model::LIMITS;
 use model::ROW_ROOM;
 use ticket_loops::Limit;

@@ -8,7 +8,8 @@ ghost use Rattle.model.specs.Directions.{vectorCount};
 ghost use Rattle.dependence_vectors.specs.Numbers.{base3};
 ghost use Rattle.step_preimages.specs.Numbers.{digitsOf, Digits};
 ghost use Rattle.step_preimages.specs.Weights.{ChangeIn};
-ghost use Rattle.step_preimages.specs.Sources.{SourceIn, Source, joined, JoinedIn, joinedDigit, mayBeDigit, Signed, GaveIn, gaveDigits, SkewSourceIn, SkewSource};
+ghost use Rattle.step_preimages.specs.Sources.{SourceIn, Source, joined, JoinedIn, joinedDigit, mayBeDigit, Signed, GaveIn, gaveDigits};
+ghost use Rattle.step_preimages.specs.Sources.{SkewSourceIn, SkewSource};
 use model::VECTORS;
 
 // ---- numbers
