@@ -1,4 +1,4 @@
-// The entry `write_listing`: the listing of a ticket's directions.
+// The entry `list`: the listing of a ticket's directions.
 ghost use Rattle.model.specs.Answer.{accepted};
 ghost use Rattle.model.specs.Entries as Entries;
 ghost use Rattle.model.specs.Listing.{listing};
