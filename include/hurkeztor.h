@@ -1,6 +1,13 @@
 /* Hurkeztor: judges reorderings of loop nests. Five entries over a ticket's bytes; every one is proved to answer as document 01 says, for
  * every ticket, however mangled. No entry keeps memory, calls anything, or fails in any other way than by its answer.
  *
+ * A ticket's steps, up to eight, are of four words each: kind, a, b, c. Loops are numbered from 1, by their place when the step is reached.
+ *   1  exchange     loops a and b = a + 1; c is 0
+ *   2  reversal     loop a; b and c are 0
+ *   3  skew         inner loop b by outer loop a; c is 1 or -1
+ *   4  section      loop a by width b, 2 to 256; c is 0
+ *   5  circulation  loop a goes to place b, another one, and those between close up; c is 0
+ *
  * An answer is one number:
  *   bits 0 to 7    document 01's number: 0 accepted, 1 to 16 refused
  *   bits 8 to 31   the place of a refusal: a word, step, loop or statement, counted from 1; 0 on acceptance

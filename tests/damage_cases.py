@@ -1,7 +1,7 @@
 """Tickets with a wrong word, a word too few or too many, and others near the edges of document 01's grammar."""
 import struct
 
-from tickets import A, B, I, J, CASE_1, by, change, exchange, pack, plus, reverse, section, skew, ticket, total
+from tickets import A, B, I, J, CASE_1, by, change, circulation, exchange, pack, plus, reverse, section, skew, ticket, total
 
 
 def torn():
@@ -42,7 +42,7 @@ def refused():
 
 # Two loops, the inner one with two lower limits; two arrays; a sum and a copy; one step of each kind.
 WHOLE = ticket([(0, 3), ([I, by(2, -1, 1)], 5)], [(9,), (4, 6)], [(1, 7, (A, I), (B, I, J)), (3, 0, (A, plus(J, 2)), (A, plus(J, 1)))],
-               [reverse(1), skew(1, 2), exchange(1), section(2, 8)])
+               [reverse(1), skew(1, 2), exchange(1), section(2, 8), circulation(3, 1)])
 
 
 def every_word():
@@ -68,6 +68,14 @@ def edges():
     for steps in [twice, twice + [section(1, 2)], twice + [section(1, 1)], twice + [section(0, 2)], [exchange(4)], [skew(4, 4)], [skew(2, 1)],
                   [skew(1, 4, -1)], [skew(1, 4, 0)], [section(4, 257)]]:
         yield ticket(*four, steps)
+    # circulations: to its own place, off the nest, c not 0, a word missing; kind 6
+    for steps in [[circulation(2, 2)], [circulation(1, 5)], [circulation(1, 0)], [circulation(5, 1)], [circulation(0, 1)], [circulation(1, -1)],
+                  [circulation(1, -32768)], [(5, 1, 4, 1)], [(5, 1, 4, -32768)], [(5, 1, 1, 1)], [(6, 1, 4, 0)], twice + [circulation(1, 6)],
+                  twice + [circulation(1, 7)], [circulation(1, 4)] * 8]:
+        yield ticket(*four, steps)
+    for step in circulation(1, 4), circulation(1, 1):
+        for missing in 1, 2:
+            yield ticket(*four, [step])[:-2 * missing]
     # 16,384 elements, in one array and in two, and more; a word is missing where the access has one subscript for two dimensions
     for arrays in [(4096, 4)], [(4096, 5)], [(4096, 4), (1,)], [(4096, 3), (4096,)]:
         yield ticket(one[0], arrays, one[2])

@@ -117,7 +117,8 @@ def access_numbers():
 
 def own_cases():
     from_nests = nest_cases.wolfe, nest_cases.writes_that_meet, nest_cases.coupled, nest_cases.one_iteration, nest_cases.spaces
-    from_steps = step_cases.worked, step_cases.chains, step_cases.out_of_order, step_cases.limits_full, step_cases.big_numbers, step_cases.sprawling
+    from_steps = (step_cases.worked, step_cases.chains, step_cases.circulations, step_cases.out_of_order, step_cases.limits_full,
+                  step_cases.big_numbers, step_cases.sprawling)
     yield from map(case, WORKED)
     for tickets in from_nests + from_steps:
         yield from map(case, tickets())

@@ -1,7 +1,7 @@
 """Nests with steps: what becomes of them, and refusals 10 to 13 on both sides of their edges."""
 import itertools
 
-from tickets import A, B, I, J, K, CASE_1, WORKED, by, exchange, plus, reverse, section, skew, ticket
+from tickets import A, B, I, J, K, CASE_1, WORKED, by, circulation, exchange, pack, plus, reverse, section, skew, ticket
 
 
 # ---- document 01's worked cases, with each rule and all steps that it gives
@@ -65,6 +65,45 @@ def chains():
         yield ticket([(1, 5)], [(6,), (6,)], four, steps)
     # sums that pass 2^32
     yield ticket([(0, 3), (0, 2)], [(4,), (4, 3)], [(1, 32767, (A, I), (A, I), (B, I, J), (B, I, J), (B, I, J))], [section(2, 2)])
+
+
+# ---- circulations
+
+# 10 before the 12 that the first exchange alone would be; 11 after the first exchange, and no longer after the last
+TEN_FIRST = "3 1 1 -1 1 1 0 2 1 0 0 1 -32767 1 1 1 0 0 1 1 0 0 0 1 1 1 0 0 1 1 1 1 1 0 1 0 0 0 0 0 1 5 1 3 0"
+FULL_ON_THE_WAY = (
+    "4 1 1 0 1 1 0 3 1 0 1 1 0 2 1 0 3 1 1 0 0 2 1 0 0 0 1 0 3 0 1 1 0 0 0 4 1 0 -12 1 1 1 0 -6 1 1 1 0 0 1 1 1 0 6 1 1 1 1 0 0 0 0 "
+    "1 1 1 1 1 0 1 0 0 0 0 0 0 1 5 4 1 0")
+
+
+def circulations():
+    every = [circulation(a, b) for a, b in itertools.permutations((1, 2, 3), 2)]
+    for nest in CUBE, TRIANGLE:
+        for step in every:
+            yield ticket(*nest, [step])
+    for pair in itertools.product([circulation(1, 2), circulation(2, 1)], OF_TWO):
+        yield ticket(*DIVIDED, pair)
+    # <=> alone, and <=> with ==<: each circulation, and after a reversal
+    for reads in [(A, plus(I, -1), J, plus(K, 1))], [(A, plus(I, -1), J, plus(K, 1)), (A, I, J, plus(K, -1))]:
+        body = [(1, 2), (0, 1), (1, 2)], [(3, 2, 4)], [(1, 1, (A, I, J, K), *reads)]
+        for step in every:
+            for before in [], [reverse(3)]:
+                yield ticket(*body, before + [step])
+    # six loops: five exchanges inwards and outwards, 15 in five steps and in eight
+    six = [section(1, 2), section(3, 2), section(5, 2)]
+    for steps in [circulation(1, 6)], [circulation(6, 1)], [circulation(1, n) for n in (6, 5, 4, 3, 2)]:
+        yield ticket(*CUBE, six + steps)
+    yield ticket(*TRIANGLE, [circulation(3, 1), circulation(1, 3)] * 4)
+    for words in TEN_FIRST, FULL_ON_THE_WAY:
+        yield pack([int(w) for w in words.split()])
+    # a number too big after the first exchange, and one that is not
+    for n in 32766, 32767:
+        yield ticket([(-1, 0), ([0, (-n, 1)], 0), (0, 0)], [(2,)], [(1, 1, (A, (1, 1)))], [circulation(1, 3)])
+    # an index too far, 65,536 partial points and one more, as in sprawling
+    yield ticket([(25000, 25000), (25001, 25001), (0, 0)], [(1,)], [(1, 1, (A, 0))], [skew(1, 2)] * 3 + [circulation(3, 1)])
+    for most in 0, 1:
+        loops = [(-1, most), (-528, [529, (529, -1057)]), ((0, 0, 31), (0, 0, 31))]
+        yield ticket(loops, [(1058,)], [(1, 1, (A, (528, 0, 1)), (A, (528, 0, 1)))], [circulation(3, 2)])
 
 
 # ---- refusals 10 to 13 on both sides of their edges

@@ -78,6 +78,10 @@ def section(a, width):
     return (4, a, width, 0)
 
 
+def circulation(a, b):
+    return (5, a, b, 0)
+
+
 # ---- document 01's worked cases
 
 CASE_1 = pack([int(w) for w in "2 1 1 0 1 1 1 1 1 0 0 1 1 2 0 2 1 4 2 2 3 1 3 0 1 0 1 1 1 2 0 1 0 0 0 1 1 1 1 2 0".split()])

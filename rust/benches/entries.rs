@@ -6,6 +6,8 @@
 
 #[path = "entries/calls.rs"]
 mod calls;
+#[path = "entries/circulations.rs"]
+mod circulations;
 #[path = "entries/kernels.rs"]
 mod kernels;
 #[path = "entries/timing.rs"]
@@ -27,7 +29,7 @@ Usage: cargo bench [-- [--quick] [NAME ...]]
 
   --quick          fewer and shorter runs
   NAME             only rows whose entry or kernel has all these names in it, such as 'judge' or 'matrix';
-                   'worked' is the table of worked cases
+                   'worked' is the table of worked cases, 'circulation' that of circulations
   --write FOLDER   time nothing: write every worked case, and every kernel at every size, to FOLDER as a binary ticket
 
 Columns: iterations of the nest; conflicts, the pairs of accesses that name one element (at least one writes); time of the proved entry and of
@@ -173,6 +175,7 @@ fn bench(wanted: &Wanted) -> Result<(), String> {
             bench_table(entry.name, rows, effort);
         }
     }
+    circulations::bench(effort, |row| wanted.has(row));
     Ok(())
 }
 

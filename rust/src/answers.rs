@@ -57,14 +57,20 @@ const REFUSALS: [(&str, &str); 16] = [
     ("overfull", "the arrays so far have more than 16,384 elements"),
     (
         "off the nest",
-        "a loop that the step names is not there, or not where the step needs it, or a seventh loop would arise",
+        "a loop or place that the step names is not there, or not where the step needs it, or a seventh loop would arise",
     ),
     ("far index", "an index of the loop goes beyond ±32767"),
     ("crowded", "the loop and those outside it have more than 4096 partial points"),
     ("off the array", "a subscript leaves its extent in some iteration"),
     ("out of order", "a direction points backwards after the step"),
-    ("limits full", "a side of a loop has more than 16 limits after the step"),
-    ("big number", "a number of the nest is beyond ±32767 after the step"),
+    (
+        "limits full",
+        "a side of a loop has more than 16 limits after the step, or after one of a circulation's exchanges",
+    ),
+    (
+        "big number",
+        "a number of the nest is beyond ±32767 after the step, or after one of a circulation's exchanges",
+    ),
     (
         "sprawl",
         "in the new nest an index goes beyond ±100,000, or a depth has more than 65,536 partial points",

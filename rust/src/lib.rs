@@ -1,5 +1,5 @@
 //! Hurkeztor judges reorderings of loop nests. A [`Ticket`] describes a nest (limits, array subscripts, statements) and proposed steps:
-//! exchange, reversal, skew, section. Hurkeztor accepts the new order, or refuses it with a number and a place.
+//! exchange, reversal, skew, section, circulation. Hurkeztor accepts the new order, or refuses it with a number and a place.
 //!
 //! Every answer comes from one of five proved entries; this crate is thin around them and judges nothing itself.
 //!

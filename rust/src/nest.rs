@@ -142,6 +142,13 @@ pub enum Step {
         /// The sections' width, 2 to 256.
         width: i16,
     },
+    /// Moves a loop to another place; those between close up. It is judged as the neighbouring exchanges that bring it there would be.
+    Move {
+        /// The loop.
+        from: i16,
+        /// Its new place, another one.
+        to: i16,
+    },
 }
 
 impl Nest {
@@ -189,6 +196,7 @@ impl fmt::Display for Step {
             Step::Reverse { at } => write!(f, "reverse {at}"),
             Step::Skew { outer, inner, by } => write!(f, "skew {outer} {inner} by {by}"),
             Step::Section { at, width } => write!(f, "section {at} by {width}"),
+            Step::Move { from, to } => write!(f, "move {from} to {to}"),
         }
     }
 }

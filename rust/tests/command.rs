@@ -17,6 +17,9 @@ for i = 0 to 1
 exchange 1 2
 ";
 const CASE_1_WORDS: &str = "2 1 1 0 1 1 1 1 1 0 0 1 1 2 0 2 1 4 2 2 3 1 3 0 1 0 1 1 1 2 0 1 0 0 0 1 1 1 1 2 0\n";
+/// One statement in three loops, the outermost moved inwards.
+const MOVED: &str =
+    "array A(2, 3, 4)\n\nfor row = 0 to 1\n  for col = row to 2\n    for bin = 0 to 3\n      A(row, col, bin) = 1\n\nmove 1 to 3\n";
 const CASE_2: &str = "array A(3, 4)\nfor row = 0 to 2\n  for col = 1 to 3\n    A(row, col) = A(row, col-1)\nexchange 1 2\n";
 
 struct Ended {
@@ -223,6 +226,43 @@ accepted: 9 iterations
 }
 
 #[test]
+fn a_moved_loop_keeps_its_name() {
+    let shown = "\
+accepted: 20 iterations
+
+  ticket                      |  new nest
+                              |
+  array A(2, 3, 4)            |  array A(2, 3, 4)
+                              |
+  for row = 0 to 1            |  for col = 0 to 2
+    for col = row to 2        |    for bin = 0 to 3
+      for bin = 0 to 3        |      for row = 0 to min(1, col)
+        A(row, col, bin) = 1  |        A(row, col, bin) = 1
+                              |
+  move 1 to 3                 |
+";
+    check(&["show"], MOVED, 0, shown);
+    let exchanged = MOVED.replace("move 1 to 3", "exchange 1 2\nexchange 2 3");
+    assert_eq!(hurkeztor(&["write"], MOVED).out, hurkeztor(&["write"], &exchanged).out);
+    let packed = hurkeztor(&["pack"], MOVED).out;
+    assert_eq!(packed[packed.len() - 8..], [5, 0, 1, 0, 3, 0, 0, 0]);
+    check(
+        &["unpack"],
+        &packed,
+        0,
+        &MOVED.replace("row", "i").replace("col", "j").replace("bin", "k"),
+    );
+    let meaning = "a loop or place that the step names is not there, or not where the step needs it, or a seventh loop would arise";
+    check(
+        &["judge"],
+        MOVED.replace("1 to 3", "3 to 3"),
+        1,
+        &format!("refused 6 at step 1, off the nest\n<standard input>:8:1: {meaning}\n  move 3 to 3\n  ^^^^^^^^^^^\n"),
+    );
+    assert!(hurkeztor(&["draw"], MOVED).text().contains("After step 1, move 1 to 3"));
+}
+
+#[test]
 fn list_explains() {
     let sentence = "statement 1 writes an element, and the same statement writes it again later: at a greater i and a smaller j";
     check(
@@ -305,6 +345,7 @@ fn bad_usage_ends_with_2() {
 fn help_for_each_verb() {
     let general = hurkeztor(&["--help"], "");
     assert_eq!(general.status, 0);
+    assert!(general.text().contains("  move 1 to 3  "));
     for verb in ["judge", "write", "list", "quick", "run", "show", "pack", "unpack", "draw"] {
         assert!(general.text().contains(&format!("  hurkeztor {verb} ")));
         let help = hurkeztor(&[verb, "--help"], "");

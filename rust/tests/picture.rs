@@ -15,9 +15,11 @@ fn svg(text: &str) -> String {
 }
 
 fn outside_tickets() -> Vec<Ticket> {
-    let path = concat!(env!("CARGO_MANIFEST_DIR"), "/../tests/base.txt");
-    let text = std::fs::read_to_string(path).expect("tests/base.txt");
-    let lines = text.lines().filter_map(|line| line.strip_prefix("ticket "));
+    let read = |path: &str| std::fs::read_to_string(path).expect(path);
+    let base = read(concat!(env!("CARGO_MANIFEST_DIR"), "/../tests/base.txt"));
+    let circulations = read(concat!(env!("CARGO_MANIFEST_DIR"), "/../tests/L1.txt"));
+    let base = base.lines().filter_map(|line| line.strip_prefix("ticket "));
+    let lines = base.chain(circulations.lines().filter_map(|line| line.split(' ').nth(1)));
     let byte = |two: &[u8]| u8::from_str_radix(std::str::from_utf8(two).expect("ASCII"), 16).expect("hexadecimal digits");
     lines
         .map(|hex| Ticket::from_bytes(hex.trim_matches('-').as_bytes().chunks_exact(2).map(byte).collect::<Vec<u8>>()))
@@ -91,4 +93,30 @@ fn captions_say_what_is_drawn() {
     assert!(deep.contains("Only the two outermost loops are drawn"));
     let wide = svg("array A(4095)\nfor i = 1 to 4094\n  A(i) = A(i-1)\nreverse 1");
     assert!(wide.contains("Drawn before and after: 8 of 4094 points, 7 of 4093 pairs."));
+}
+
+#[test]
+fn a_moved_loop_is_drawn_at_its_place() {
+    let nest = "array A(2, 3, 4)\nfor i = 0 to 1\n for j = 0 to 2\n  for k = 0 to 3\n   A(i, j, k) = 1\n";
+    for (moved, exchanged) in [
+        ("move 1 to 3", "exchange 1 2\nexchange 2 3"),
+        ("move 3 to 1", "exchange 2 3\nexchange 1 2"),
+    ] {
+        // The panel after the steps, without its title.
+        let panel = |steps: &str| {
+            let picture = svg(&format!("{nest}{steps}"));
+            let (_, after) = picture.split_once("After step").expect("a panel after the steps");
+            let (_, after) = after.split_once('\n').expect("lines");
+            after
+                .split("<text")
+                .take_while(|shape| !shape.contains("accepted"))
+                .collect::<String>()
+        };
+        assert_eq!(panel(moved), panel(exchanged), "{moved}");
+    }
+    let red = "marker-end=\"url(#traded)\"";
+    let inwards = "array A(3, 2, 3)\nfor i = 1 to 2\n for j = 0 to 1\n  for k = 0 to 1\n   A(i, j, k) = A(i-1, j, k+1) + 1\nmove 1 to 3";
+    let refused = svg(inwards);
+    assert!(refused.contains("refused 10 at step 1, out of order") && refused.contains(red));
+    assert!(refused.contains("2 of 2 conflicting pairs of iterations trade places."));
 }

@@ -1,17 +1,16 @@
 //! The text form and typed words: what is printed reads back as the same words, places stand where they should, errors say what to do.
 
 use hurkeztor::text::{self, Names, Span};
-use hurkeztor::{Nest, Place, Ticket, judge, write};
+use hurkeztor::{Nest, Place, Step, Ticket, judge, write};
 
-/// The outside tickets.
+/// The outside tickets, those with circulations among them.
 fn tickets() -> Vec<Ticket> {
-    let path = concat!(env!("CARGO_MANIFEST_DIR"), "/../tests/base.txt");
-    let text = std::fs::read_to_string(path).expect("tests/base.txt");
-    let digits = text
-        .lines()
-        .filter_map(|line| line.strip_prefix("ticket "))
-        .map(|hex| hex.trim_matches('-'));
-    digits.map(|hex| Ticket::from_bytes(bytes(hex))).collect()
+    let read = |path: &str| std::fs::read_to_string(path).expect(path);
+    let base = read(concat!(env!("CARGO_MANIFEST_DIR"), "/../tests/base.txt"));
+    let circulations = read(concat!(env!("CARGO_MANIFEST_DIR"), "/../tests/L1.txt"));
+    let base = base.lines().filter_map(|line| line.strip_prefix("ticket "));
+    let digits = base.chain(circulations.lines().filter_map(|line| line.split(' ').nth(1)));
+    digits.map(|hex| Ticket::from_bytes(bytes(hex.trim_matches('-')))).collect()
 }
 
 fn bytes(hex: &str) -> Vec<u8> {
@@ -38,18 +37,22 @@ fn round_trip(ticket: &Ticket, nest: &Nest) {
 
 #[test]
 fn tickets_and_new_nests_read_back() {
-    let (mut tried, mut written) = (0, 0);
+    let (mut tried, mut moving, mut written) = (0, 0, 0);
     for ticket in tickets() {
         if let Ok(nest) = ticket.nest() {
             round_trip(&ticket, &nest);
             tried += 1;
+            moving += usize::from(nest.steps.iter().any(|step| matches!(step, Step::Move { .. })));
         }
         if let Ok(new) = write(&ticket) {
             round_trip(&new, &new.nest().expect("a written nest is one"));
             written += 1;
         }
     }
-    assert!(tried > 150 && written > 50, "{tried} tickets and {written} new nests");
+    assert!(
+        tried > 400 && moving > 200 && written > 150,
+        "{tried} tickets, {moving} that move loops, {written} new nests"
+    );
 }
 
 #[test]
@@ -83,6 +86,7 @@ for i = max() to -32768/-3
 exchange -1 32767
 skew 0 9 by 7
 section -32768 by 1
+move 9 to -1
 ";
     let nest: Nest = source.parse().expect("all of it is lenient");
     assert_eq!(nest.to_string(), source);
@@ -130,6 +134,30 @@ fn a_refusal_stands_in_the_text() {
             4,
             Place::Word(24),
             (4, 14, 3),
+        ),
+        (
+            "array A(4)\nfor i = 0 to 3\n  A(i) = 1\nreverse 1\n move 1 to 1 # where it is\n",
+            6,
+            Place::Step(2),
+            (5, 2, 11),
+        ),
+        (
+            "array A(4)\nfor i = 0 to 3\n  A(i) = 1\nmove 2 to 1\n",
+            6,
+            Place::Step(1),
+            (4, 1, 11),
+        ),
+        (
+            "array A(4)\nfor i = 0 to 3\n  A(i) = 1\nmove 1 to -32768\n",
+            4,
+            Place::Word(21),
+            (4, 11, 6),
+        ),
+        (
+            "array A(4)\nfor i = 0 to 1\n for j = 0 to 2\n  A(i+j) = 1\nsection 2 by 2\nmove 3 to 1\nreverse 1\n",
+            10,
+            Place::Step(2),
+            (6, 1, 11),
         ),
     ];
     for (source, number, place, (line, column, length)) in cases {
@@ -190,8 +218,17 @@ fn errors_say_where_and_what() {
         ("skew 1 2", "1:9: expected 'by', found the end of the line"),
         (
             "while true",
-            "1:1: expected 'array', 'for', a statement such as 'A(i) = B(i)', 'exchange', 'reverse', 'skew' or 'section', found 'while'",
+            "1:1: expected 'array', 'for', a statement such as 'A(i) = B(i)', 'exchange', 'reverse', 'skew', 'section' or 'move', found 'while'",
         ),
+        ("move", "1:5: expected a loop's number, found the end of the line"),
+        ("move 1 3", "1:8: expected 'to', found '3'"),
+        ("move 1 to", "1:10: expected the loop's new place, found the end of the line"),
+        ("move 1 to 3 0", "1:13: expected the end of the line, found '0'"),
+        (
+            "array move(4)",
+            "1:7: 'move' is a word of the text form and cannot be an array's name",
+        ),
+        ("for move = 0 to 3", "1:5: 'move' is a word of the text form and cannot be an index"),
         (
             "array A(4)\nfor i = 0 to 3\n A(i) = 1 - A(i)",
             "3:13: a read cannot be taken away: rules are the sum, max( ), first( ) and opaque( )",
@@ -246,8 +283,8 @@ fn mangled_words_read_back_where_they_are_a_nest() {
 
 #[test]
 fn mangled_texts_end_in_a_nest_or_a_message() {
-    let source =
-        "array A(4, 4) # bins\nfor i = max(0, 1/2) to 3\n for j = -i to min((2*i+1)/3, 3)\n  A(i, j) = max(A(i-1, 0), 5)\nskew 1 2 by -1\n";
+    let source = "array A(4, 4) # bins\nfor i = max(0, 1/2) to 3\n for j = -i to min((2*i+1)/3, 3)\n  A(i, j) = max(A(i-1, 0), 5)\n\
+                  skew 1 2 by -1\nmove 2 to 1\n";
     let pieces = [
         "(", ")", "/", "*", "-", "+", ",", "=", "for", "to", "array", " ", "\n", "#", "j", "A", "7", "99999", "max", "é", "−", "by",
     ];
@@ -264,5 +301,24 @@ fn mangled_texts_end_in_a_nest_or_a_message() {
             Ok(parsed) => assert_eq!(parsed.nest.to_words().expect("words").len(), parsed.places.words.len(), "{text}"),
             Err(error) => assert!(error.span.line >= 1 && !text::excerpt(&text, error.span).is_empty()),
         }
+    }
+}
+
+#[test]
+fn names_go_with_their_loops() {
+    let nest: Nest = "array A(1)\nfor i = 0 to 1\nfor j = 0 to 1\nfor k = 0 to 1\nfor l = 0 to 1\nA(0) = 1"
+        .parse()
+        .expect("a nest");
+    let after = |steps: &str| {
+        let steps = format!("array A(1)\n{steps}").parse::<Nest>().expect("steps").steps;
+        Names::of(&nest).after(&steps).indices.join(" ")
+    };
+    assert_eq!(after("move 1 to 3"), "j k i l");
+    assert_eq!(after("move 4 to 2"), "i l j k");
+    assert_eq!(after("move 2 to 3"), after("exchange 2 3"));
+    assert_eq!(after("move 1 to 3"), after("exchange 1 2\nexchange 2 3"));
+    assert_eq!(after("section 1 by 2\nmove 1 to 5"), "E j k l S");
+    for off in ["move 1 to 5", "move 0 to 1", "move 5 to 1", "move -1 to 2"] {
+        assert_eq!(after(off), "i j k l", "{off}");
     }
 }

@@ -12,6 +12,7 @@ use Rattle.lists.proofs.FlatMapLaws.{length-flatMap-even}
 use Rattle.lists.proofs.PartLaws.{row-fits}
 use Rattle.model.specs.Directions.{Kind, flow, kinds, Line, upFrom, signVectors, allLines, kindCount, vectorCount}
 use Rattle.model.specs.Grammar.{mostStatements}
+use Rattle.model.proofs.Steps.ChainLaws.{up-length, up-getD}
 use Rattle.dependence_vectors.specs.Numbers.{digit, numberAfter, number, kindNumber, place, marksFor}
 use Rattle.dependence_vectors.specs.Candidates.{stride, middle}
 use Rattle.dependence_vectors.proofs.NumberLaws.{stride-positive, stride-half, number-lt, number-splits}
@@ -29,17 +30,6 @@ flatMap-getD f w (x ∷ l) zero r c e h a b = let i = h x (List·Memᴰ·head re
 flatMap-getD f w (x ∷ l) (suc j) r c e h a b = let i = h x (List·Memᴰ·head refl) in
     ap (λ k. getD (f x ++ flatMap f l) k e) (let s = suc-mul j w in let z : suc j * w + r ≡ length (f x) + (j * w + r) = omega arith in z)
     ∙ getD-append-add (f x) (flatMap f l) (j * w + r) e ∙ flatMap-getD f w l j r c e (λ y m. h y (List·Memᴰ·tail m)) (omega arith) b
-
-upFrom-length : (k n : ℕ) → length (upFrom k n) ≡ n
-unfolding upFrom
-upFrom-length k zero = refl
-upFrom-length k (suc n) = ap suc (upFrom-length (suc k) n)
-
-upFrom-getD : (k n i : ℕ) → i < n → getD (upFrom k n) i 0 ≡ k + i
-unfolding upFrom
-upFrom-getD k zero i h = absurd (omega arith)
-upFrom-getD k (suc n) zero h = omega arith
-upFrom-getD k (suc n) (suc i) h = upFrom-getD (suc k) n i (omega arith) ∙ (let z : suc k + i ≡ k + suc i = omega arith in z)
 
 map-getD : {A B : Type 0} (f : A → B) (l : List A) (i : ℕ) (a : A) (b : B) → i < length l → getD (map f l) i b ≡ f (getD l i a)
 map-getD f [] i a b h = absurd (omega arith)
@@ -132,12 +122,12 @@ module _ (n d : ℕ) where
 
   source-length : (s : ℕ) → length (ofSource s) ≡ n * (kindCount * stride d)
   source-length s = length-flatMap-even (ofSink s) (kindCount * stride d) (upFrom 0 n) (λ t m. sink-length s t)
-      ∙ ap (_* (kindCount * stride d)) (upFrom-length 0 n)
+      ∙ ap (_* (kindCount * stride d)) (up-length 0 n)
 
   pub lines-length : length (allLines n d) ≡ lineCount n d
   unfolding allLines
   lines-length = length-flatMap-even ofSource (n * (kindCount * stride d)) (upFrom 0 n) (λ s m. source-length s)
-      ∙ ap (_* (n * (kindCount * stride d))) (upFrom-length 0 n)
+      ∙ ap (_* (n * (kindCount * stride d))) (up-length 0 n)
       ∙ sym (rw (mul-assoc (n * n) kindCount (stride d), mul-assoc n n (kindCount * stride d)))
 
   -- the place of a line among all
@@ -167,11 +157,11 @@ module _ (n d : ℕ) where
       let f = row-fits (stride d) k kindCount c in let g = row-fits (kindCount * stride d) t n b in
       rw (nested s t k w)
       (flatMap-getD ofSource (n * (kindCount * stride d)) (upFrom 0 n) s (t * (kindCount * stride d) + (k * stride d + w)) 0 none
-      (λ s m. source-length s) (let l = upFrom-length 0 n in omega arith) (omega arith)
-      ∙ ap (λ s. getD (ofSource s) (t * (kindCount * stride d) + (k * stride d + w)) none) (upFrom-getD 0 n s a ∙ zero-add s)
+      (λ s m. source-length s) (let l = up-length 0 n in omega arith) (omega arith)
+      ∙ ap (λ s. getD (ofSource s) (t * (kindCount * stride d) + (k * stride d + w)) none) (up-getD 0 n s a ∙ zero-add s)
       ∙ flatMap-getD (ofSink s) (kindCount * stride d) (upFrom 0 n) t (k * stride d + w) 0 none (λ t m. sink-length s t)
-      (let l = upFrom-length 0 n in omega arith) (omega arith)
-      ∙ ap (λ t. getD (ofSink s t) (k * stride d + w) none) (upFrom-getD 0 n t b ∙ zero-add t)
+      (let l = up-length 0 n in omega arith) (omega arith)
+      ∙ ap (λ t. getD (ofSink s t) (k * stride d + w) none) (up-getD 0 n t b ∙ zero-add t)
       ∙ flatMap-getD (ofKind s t) (stride d) kinds k w flow none (λ k m. kind-length s t k) c e
       ∙ map-getD (λ v. record { kind = getD kinds k flow; source = s; sink = t; vector = v }) (signVectors d) w [] none
       (let l = signVectors-length d in omega arith))

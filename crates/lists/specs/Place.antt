@@ -1,7 +1,8 @@
 -- Changes of a list at a place, counted from 0: what stands before the place stays.
 -- A list that ends before the place stays as it is.
-use mathlib.Core.List.{List, [], _∷_, map}
+use mathlib.Core.List.{List, [], _∷_, _++_, map}
 use Prim.Native.Nat.{ℕ, zero, suc}
+use lib.ListN.{take, drop}
 
 -- a change that begins at place n
 unfoldable pub under {ℓ} : {A : Type ℓ} → ℕ → (List A → List A) → List A → List A
@@ -24,3 +25,17 @@ unfoldable pub swapped {ℓ} : {A : Type ℓ} → List A → List A
 swapped [] = []
 swapped (x ∷ []) = x ∷ []
 swapped (x ∷ y ∷ l) = y ∷ x ∷ l
+
+-- neighbours exchanged at each of these places, one after another
+unfoldable pub swapAll {ℓ} : {A : Type ℓ} → List ℕ → List A → List A
+swapAll [] l = l
+swapAll (k ∷ ks) l = swapAll ks (under k swapped l)
+
+-- and back, the last first
+unfoldable pub swapBack {ℓ} : {A : Type ℓ} → List ℕ → List A → List A
+swapBack [] l = l
+swapBack (k ∷ ks) l = under k swapped (swapBack ks l)
+
+-- the item at place a goes to place b, and those between close up
+unfoldable pub movedTo {ℓ} : {A : Type ℓ} → ℕ → ℕ → List A → List A
+movedTo a b l = under b (λ t. take 1 (drop a l) ++ t) (under a (drop 1) l)

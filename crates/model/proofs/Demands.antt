@@ -16,6 +16,7 @@ use lib.ListN.{length, take}
 use Rattle.integers.specs.Sign.{Sign}
 use Rattle.lists.specs.Membership.{Mem, All, Distinct, SameMembers}
 use Rattle.lists.specs.Order.{Ordered, Precedes}
+use Rattle.lists.specs.Place.{swapAll, movedTo}
 use Rattle.model.specs.Answer.{accepted, refused}
 use Rattle.model.specs.Words.{bytesOf}
 use Rattle.model.specs.Ticket.{Loop, Access, Step, Nest, Ticket}
@@ -23,8 +24,8 @@ use Rattle.model.specs.Grammar.{decode, decodeNest}
 use Rattle.model.specs.Points.{partialPoints, iterations}
 use Rattle.model.specs.Machine.{Instance, Accesses, State, Rules, perform, run}
 use Rattle.model.specs.Directions.{signs, backwards, earlier, conflict, Line}
-use Rattle.model.specs.Steps.{forward, vectors, vectorsAfter, vectorsAfterAll, somePointsBack}
-use Rattle.model.specs.Judge.{Judged, judged, admit, judgeSteps, directionsOf}
+use Rattle.model.specs.Steps.{chain, forward, undoAll, vectors, vectorsAfter, vectorsAfterAll, somePointsBack}
+use Rattle.model.specs.Judge.{Judged, judged, admit, judgeSteps, judgeTicket, expanded, expandedTicket, directionsOf}
 use Rattle.model.specs.Encode.{encode, ticketWords}
 use Rattle.model.specs.Listing.{linesOf, listing}
 use Rattle.model.specs.Quick.{apart}
@@ -49,6 +50,7 @@ use Rattle.model.proofs.Points.EarlierLaws as EarlierLaws
 use Rattle.model.proofs.Steps.StepLaws as StepLaws
 use Rattle.model.proofs.Steps.VectorLaws as VectorLaws
 use Rattle.model.proofs.Steps.AttainLaws as AttainLaws
+use Rattle.model.proofs.Steps.ChainLaws as ChainLaws
 use Rattle.model.proofs.Quick.QuickRuleLaws as QuickRuleLaws
 use Rattle.model.proofs.Machine.CommuteLaws as CommuteLaws
 use Rattle.model.proofs.Store.PlaceLaws as PlaceLaws
@@ -56,7 +58,9 @@ use Rattle.model.proofs.Listing.ListingLaws as ListingLaws
 use Rattle.model.proofs.Verdict.EntryLaws as EntryLaws
 use Rattle.model.proofs.Verdict.RunLaws as RunLaws
 use Rattle.model.proofs.Verdict.JudgeLaws as JudgeLaws
+use Rattle.model.proofs.Verdict.StageLaws as StageLaws
 use Rattle.model.proofs.Promise.TradeLaws as TradeLaws
+use Rattle.model.proofs.Promise.CirculationLaws as CirculationLaws
 use Rattle.model.proofs.Promise.EntryStepLaws as EntryStepLaws
 use Rattle.model.proofs.Promise.ReasonLaws as ReasonLaws
 use Rattle.model.proofs.Promise.PromiseLaws as PromiseLaws
@@ -105,12 +109,33 @@ signs-after = VectorLaws.step-signs
 pub signs-attained : (m : ℕ) (t : Step) → StepThere m t → (v w : List Sign) → Mem w (vectors t v) → Attained t v w
 signs-attained = AttainLaws.table-attained
 
--- for exchange and reversal exactly that one
+-- for exchange, reversal and circulation exactly that one
 pub turns-exact : (t : Step) → Turns t → (p q : List ℤ) → length p ≡ length q → vectors t (signs p q) ≡ signs (forward t p) (forward t q) ∷ []
 turns-exact = TradeLaws.turns-signs
 
 pub backwards-means : (p q : List ℤ) → backwards (signs p q) ≡ earlier q p
 backwards-means = EarlierLaws.backwards-earlier
+
+-- ---- circulations (document 02, L1)
+
+-- the loop at place a comes to place b, and those between close up
+pub circulation-places : {A : Type 0} (a b : ℕ) (l : List A) → a < length l → b < length l → swapAll (chain a b) l ≡ movedTo a b l
+circulation-places = ChainLaws.chain-moves
+
+-- a ticket is accepted exactly when the one with every circulation written out as its exchanges is, the number of steps aside, with the same new nest
+pub circulation-chain : (K : Ticket) (M : Nest)
+    → (judgeTicket K ≡ accepted (record { ticket = K; new = M }))
+    ↔ (judgeTicket (expandedTicket K) ≡ accepted (record { ticket = expandedTicket K; new = M }))
+circulation-chain = CirculationLaws.circulation-chain
+
+-- and the same undoing
+pub circulation-undone : (ts : List Step) (p : List ℤ) → undoAll (expanded ts) p ≡ undoAll ts p
+circulation-undone = StageLaws.expanded-undo
+
+-- in bytes, where the longer list of steps still is a ticket's
+pub circulation-bytes : (b : List ℕ) {K : Ticket} → decode b ≡ accepted K → length (expanded (K .steps)) ≤ 8
+    → (c : ℕ) → (judge b ≡ accepted c) ↔ (judge (bytesOf (ticketWords (expandedTicket K))) ≡ accepted c)
+circulation-bytes = CirculationLaws.circulation-bytes
 
 -- ---- demand 2
 

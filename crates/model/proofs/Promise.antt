@@ -1,5 +1,6 @@
 -- What is promised of accepted tickets.
 pub mod TradeLaws
+pub mod CirculationLaws
 pub mod EntryStepLaws
 pub mod KeptLaws
 pub mod WrittenLaws

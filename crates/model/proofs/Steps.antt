@@ -10,6 +10,8 @@ pub mod CombineLaws
 pub mod ExchangeLaws
 pub mod SkewLaws
 pub mod SectionLaws
+pub mod ChainLaws
+pub mod ChainSignLaws
 pub mod UndoLaws
 pub mod ShapeLaws
 pub mod RunsLaws

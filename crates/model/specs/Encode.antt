@@ -3,7 +3,7 @@ use mathlib.Core.List.{List, [], _∷_, _++_, flatMap}
 use Prim.Native.Nat.{ℕ, suc, _+_}
 use lib.IntN.{ℤ, pos}
 use lib.ListN.{length}
-use Rattle.model.specs.Ticket.{Limit, Loop, Subscript, Access, Statement, Step, exchange, reversal, skew, section, Nest, Ticket}
+use Rattle.model.specs.Ticket.{Limit, Loop, Subscript, Access, Statement, Step, exchange, reversal, skew, section, circulation, Nest, Ticket}
 use Rattle.model.specs.Words.{bytesOf}
 
 -- each after its count
@@ -36,12 +36,14 @@ kindOf (exchange a) = 1
 kindOf (reversal a) = 2
 kindOf (skew a d c) = 3
 kindOf (section a w) = 4
+kindOf (circulation a b) = 5
 
 abbrev pub arguments : Step → List ℤ
 arguments (exchange a) = pos (suc a) ∷ pos (suc (suc a)) ∷ pos 0 ∷ []
 arguments (reversal a) = pos (suc a) ∷ pos 0 ∷ pos 0 ∷ []
 arguments (skew a d c) = pos (suc a) ∷ pos (suc (suc (a + d))) ∷ c ∷ []
 arguments (section a w) = pos (suc a) ∷ pos w ∷ pos 0 ∷ []
+arguments (circulation a b) = pos (suc a) ∷ pos (suc b) ∷ pos 0 ∷ []
 
 abbrev pub stepWords : Step → List ℤ
 stepWords t = pos (kindOf t) ∷ arguments t

@@ -10,7 +10,7 @@ use Rattle.integers.specs.Sign.{eqZ}
 use Rattle.model.specs.Answer as Answer
 use Rattle.model.specs.Answer.{Answer, accepted, require}
 use Rattle.model.specs.Words.{wordAt}
-use Rattle.model.specs.Ticket.{Limit, Loop, Subscript, Access, Statement, Step, exchange, reversal, skew, section, Nest, Ticket}
+use Rattle.model.specs.Ticket.{Limit, Loop, Subscript, Access, Statement, Step, exchange, reversal, skew, section, circulation, Nest, Ticket}
 
 -- ---- sizes: the most that a nest has, and its words on flat slices. The code has the same names, in src
 
@@ -301,11 +301,24 @@ sectionStep k m = do
   c ← natural 0 0
   done (section (a - 1) w)
 
+-- the place b, where the loop is not yet
+unfoldable pub circulationStep : ℕ → ℕ → Reader Step
+circulationStep k m = do
+  a ← loopNumber k (between (pos 1) (pos m))
+  b ← loopNumber k (λ w. between (pos 1) (pos m) w && not (eqZ w (pos a)))
+  c ← natural 0 0
+  done (circulation (a - 1) (b - 1))
+
+-- the kinds of steps, from 1
+abbrev pub stepKinds : ℕ
+stepKinds = 5
+
 unfoldable pub stepOf : ℕ → ℕ → ℕ → Reader Step
 stepOf kind k m =
     cond (eqb kind 1) (exchangeStep k m)
     (cond (eqb kind 2) (reversalStep k m)
-    (cond (eqb kind 3) (skewStep k m) (sectionStep k m)))
+    (cond (eqb kind 3) (skewStep k m)
+    (cond (eqb kind 4) (sectionStep k m) (circulationStep k m))))
 
 -- the number of loops after a step
 unfoldable pub depthAfter : Step → ℕ → ℕ
@@ -313,11 +326,12 @@ depthAfter (exchange a) m = m
 depthAfter (reversal a) m = m
 depthAfter (skew a d c) m = m
 depthAfter (section a w) m = suc m
+depthAfter (circulation a b) m = m
 
 unfoldable pub stepsFrom : ℕ → ℕ → ℕ → Reader (List Step)
 stepsFrom k m zero = done []
 stepsFrom k m (suc n) = do
-  kind ← natural 1 4
+  kind ← natural 1 stepKinds
   t ← stepOf kind k m
   rest ← stepsFrom (suc k) (depthAfter t m) n
   done (t ∷ rest)

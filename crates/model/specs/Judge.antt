@@ -1,6 +1,6 @@
 -- The judgement: steps one by one with 10, 11 and 12, then 13 on the new nest.
 use mathlib.Core.Bool.{Bool, not, _&&_}
-use mathlib.Core.List.{List, [], _∷_}
+use mathlib.Core.List.{List, [], _∷_, map, flatMap}
 use Prim.Native.Nat.{ℕ, suc}
 use lib.Dec.{leb}
 use lib.IntN.{ℤ, natAbs}
@@ -8,12 +8,12 @@ use lib.ListN.{length}
 use Rattle.integers.specs.Sign.{Sign}
 use Rattle.lists.specs.Tests.{all}
 use Rattle.model.specs.Answer.{Answer, accepted, require, _>>=_, _>>_}
-use Rattle.model.specs.Ticket.{Limit, Loop, Access, Step, Nest, Ticket}
+use Rattle.model.specs.Ticket.{Limit, Loop, Access, Step, exchange, reversal, skew, section, circulation, Nest, Ticket}
 use Rattle.model.specs.Grammar.{decode}
 use Rattle.model.specs.Bounds.{admitted, newSpace, accessesOf}
 use Rattle.model.specs.Machine.{accesses, order}
 use Rattle.model.specs.Directions.{directions}
-use Rattle.model.specs.Steps.{vectorsAfter, somePointsBack}
+use Rattle.model.specs.Steps.{vectorsAfter, somePointsBack, chain}
 use Rattle.model.specs.Limits.{nestAfter}
 
 -- at most 16 limits a side
@@ -36,9 +36,13 @@ smallAccess a = all (λ s. small (s .constant) && all small (s .coefficients)) (
 unfoldable pub smallNumbers : Nest → Bool
 smallNumbers N = all smallLoop (N .loops) && all (λ s. all smallAccess (accessesOf s)) (N .statements)
 
--- the stages in which a step is taken on the nest: each step of document 01 is its own only one
+-- the stages in which a step is taken on the nest: a circulation goes exchange by exchange, any other step at once
 unfoldable pub stages : Step → List Step
-stages t = t ∷ []
+stages (exchange a) = exchange a ∷ []
+stages (reversal a) = reversal a ∷ []
+stages (skew a d c) = skew a d c ∷ []
+stages (section a w) = section a w ∷ []
+stages (circulation a b) = map exchange (chain a b)
 
 -- 11, then 12, after each stage of step k
 unfoldable pub judgeStages : ℕ → List Step → Nest → Answer (Unit {0})
@@ -55,6 +59,13 @@ judgeSteps k (t ∷ ts) vs N =
     require (not (somePointsBack (vectorsAfter t vs))) 10 k
     >> judgeStages k (stages t) N
     >> judgeSteps (suc k) ts (vectorsAfter t vs) (nestAfter t N)
+
+-- every circulation written out as the exchanges of its chain
+unfoldable pub expanded : List Step → List Step
+expanded ts = flatMap stages ts
+
+unfoldable pub expandedTicket : Ticket → Ticket
+expandedTicket T = record { nest = T .nest; steps = expanded (T .steps) }
 
 -- the directions of a nest
 unfoldable pub directionsOf : Nest → List (List Sign)

@@ -6,9 +6,10 @@ use lib.Dec.{eqb}
 use lib.IntN.{ℤ, pos, negsuc, negℤ, _+ℤ_, _-ℤ_, _*ℤ_}
 use lib.ListN.{getD, take, replicate}
 use Rattle.integers.specs.Sign.{eqZ}
-use Rattle.lists.specs.Place.{under, onHead, swapped}
+use Rattle.lists.specs.Place.{under, onHead, swapped, swapAll}
 use Rattle.lists.specs.Tests.{sameBy, unique}
-use Rattle.model.specs.Ticket.{Limit, Loop, Subscript, Access, Statement, Step, exchange, reversal, skew, section, Nest}
+use Rattle.model.specs.Ticket.{Limit, Loop, Subscript, Access, Statement, Step, exchange, reversal, skew, section, circulation, Nest}
+use Rattle.model.specs.Steps.{chain}
 
 -- deeper loops change their coefficients alone
 unfoldable pub onCoefficients : (List ℤ → List ℤ) → Limit → Limit
@@ -167,6 +168,12 @@ exchangeAt a [] = []
 exchangeAt a (I ∷ []) = I ∷ []
 exchangeAt a (I ∷ J ∷ N) = deduplicated (newOuter a I J) ∷ deduplicated (newInner a I J) ∷ deeper (under a swapped) N
 
+-- ---- circulation: neighbours exchanged at each of these places, one after another
+
+unfoldable pub exchangeAll : List ℕ → List Loop → List Loop
+exchangeAll [] N = N
+exchangeAll (k ∷ ks) N = exchangeAll ks (under k (exchangeAt k) N)
+
 -- ---- any step
 
 unfoldable pub loopsAfter : Step → List Loop → List Loop
@@ -174,12 +181,14 @@ loopsAfter (exchange a) N = under a (exchangeAt a) N
 loopsAfter (reversal a) N = under a (reverseAt a) N
 loopsAfter (skew a d c) N = under a (skewAt a d c) N
 loopsAfter (section a w) N = under a (sectionAt a w) N
+loopsAfter (circulation a b) N = exchangeAll (chain a b) N
 
 unfoldable pub coefficientsAfter : Step → List ℤ → List ℤ
 coefficientsAfter (exchange a) cs = under a swapped cs
 coefficientsAfter (reversal a) cs = under a (onHead negℤ) cs
 coefficientsAfter (skew a d c) cs = under a (skewCoefficients d c) cs
 coefficientsAfter (section a w) cs = under a (splitCoefficients w) cs
+coefficientsAfter (circulation a b) cs = swapAll (chain a b) cs
 
 unfoldable pub subscriptAfter : Step → Subscript → Subscript
 subscriptAfter t s = record { constant = s .constant; coefficients = coefficientsAfter t (s .coefficients) }

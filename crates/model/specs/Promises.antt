@@ -12,7 +12,7 @@ use Rattle.integers.specs.Sign.{Sign, less, equal, greater}
 use Rattle.lists.specs.Membership.{Mem, All, Distinct, SameMembers}
 use Rattle.lists.specs.Order.{Precedes}
 use Rattle.model.specs.Answer.{Answer, accepted, refused}
-use Rattle.model.specs.Ticket.{Loop, Subscript, Access, Statement, Step, exchange, reversal, skew, section, Nest, Ticket}
+use Rattle.model.specs.Ticket.{Loop, Subscript, Access, Statement, Step, exchange, reversal, skew, section, circulation, Nest, Ticket}
 use Rattle.model.specs.Grammar.{total, extents, decodeNest}
 use Rattle.model.specs.Points.{iterations}
 use Rattle.model.specs.Machine.{Element, element, Instance, State, Rules, bodyAt, accesses, order, exec, originally}
@@ -92,12 +92,13 @@ pub record KeepsPoints (t : Step) (N : List Loop) : Type 0 where
   pub onto : (p : List ℤ) → Mem p (iterations N) → Mem (forward t p) (iterations (loopsAfter t N)) × (undo t (forward t p) ≡ p)
   pub back : (q : List ℤ) → Mem q (iterations (loopsAfter t N)) → Mem (undo t q) (iterations N) × (forward t (undo t q) ≡ q)
 
--- exchanges and reversals: their tables give one vector
+-- exchanges, reversals and circulations: their tables give one vector
 abbrev pub Turns : Step → Type 0
 Turns (exchange a) = Unit {0}
 Turns (reversal a) = Unit {0}
 Turns (skew a d c) = ⊥
 Turns (section a w) = ⊥
+Turns (circulation a b) = Unit {0}
 
 -- two points have the signs v, and the signs w after the step
 pub record Attained (t : Step) (v w : List Sign) : Type 0 where

@@ -7,7 +7,7 @@ use lib.Dec.{T}
 use lib.IntN.{ℤ, natAbs}
 use lib.ListN.{length}
 use Rattle.lists.specs.Membership.{All}
-use Rattle.model.specs.Ticket.{Limit, Loop, Subscript, Access, Statement, Step, exchange, reversal, skew, section, Nest, Ticket}
+use Rattle.model.specs.Ticket.{Limit, Loop, Subscript, Access, Statement, Step, exchange, reversal, skew, section, circulation, Nest, Ticket}
 use Rattle.model.specs.Grammar.{total, depthAfter, mostStatements, mostFactor}
 use Rattle.model.specs.Grammar.{mostReads, mostArrays, mostDimensions, mostExtent, mostElements, ticketLoops, mostLoops, ticketLimits}
 
@@ -72,6 +72,7 @@ StepThere m (exchange a) = suc a < m
 StepThere m (reversal a) = a < m
 StepThere m (skew a d c) = (suc (a + d) < m) × InRange 1 mostFactor (natAbs c)
 StepThere m (section a w) = (a < m) × (m < mostLoops) × InRange 2 256 w
+StepThere m (circulation a b) = (a < m) × (b < m) × (a ≡ b → ⊥)
 
 abbrev pub StepsThere : ℕ → List Step → Type 0
 StepsThere m [] = Unit {0}

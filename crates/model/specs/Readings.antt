@@ -14,6 +14,10 @@ plain = ticket "1 1 1 0 1 1 2 1 1 3 1 1 1 1 0 1 0"
 abbrev three : List ℕ
 three = ticket "1 1 1 0 1 1 3 3 1 4 1 4 1 4 2 3 0 1 0 1 1 2 0 1 3 0 3 0 1 1 1 0 1 0"
 
+-- i 0..1, j 0..2, k 0..3, A(i,j,k) = A(i,j,k)
+abbrev box : List ℕ
+box = ticket "3 1 1 0 1 1 1 1 1 0 0 1 1 2 0 1 1 0 0 0 1 1 3 0 0 1 3 2 3 4 1 3 0 1 0 1 0 0 0 0 1 0 0 0 0 1 1 1 0 1 0 0 0 0 1 0 0 0 0 1"
+
 -- ---- close readings
 
 unfoldable pub readings : List Case
@@ -48,6 +52,25 @@ readings =
     }
     -- reversing twice is refused if once is
     ∷ record { bytes = nest2 ++ ticket "2 2 2 0 0 2 2 0 0"; question = judges (refused 10 1) }
+    -- a circulation to its own place is 6 at the word b, though c is missing
+    ∷ record { bytes = ticket "1 1 1 0 1 1 0 1 1 1 1 1 0 1 0 0 0 1 5 1 1"; question = judges (refused 6 1) }
+    -- of a circulation 10 comes first, though its first exchange alone is 12
+    ∷ record {
+      bytes = ticket "3 1 1 -1 1 1 0 2 1 0 0 1 -32767 1 1 1 0 0 1 1 0 0 0 1 1 1 0 0 1 1 1 1 1 0 1 0 0 0 0 0 1 5 1 3 0";
+      question = judges (refused 10 1);
+    }
+    -- a side of more than 16 limits in the midst of a circulation is 11, though at its end none has more
+    ∷ record {
+      bytes = ticket "4 1 1 0 1 1 0 3 1 0 1 1 0 2 1 0 3 1 1 0 0 2 1 0 0 0 1 0 3 0 1 1 0 0 0 4 1 0 -12 1 1 1 0 -6 1 1 1 0 0 1 1 1 0 6 1 1"
+          ++ ticket "1 1 0 0 0 0 1 1 1 1 1 0 1 0 0 0 0 0 0 1 5 4 1 0";
+      question = judges (refused 11 1);
+    }
+    -- the innermost loop moved out: those between close up
+    ∷ record {
+      bytes = box ++ ticket "1 5 3 1 0";
+      question = writes (words "3 1 1 0 1 1 3 1 1 0 0 1 1 1 0 1 1 0 0 0 1 1 2 0 0 1 3 2 3 4 1 3 0 1 0 0 1 0 0 0 0 1 0 1 0 0"
+          ++ words "1 1 0 0 1 0 0 0 0 1 0 1 0 0 0");
+    }
     -- the empty ticket is torn at word 1
     ∷ record { bytes = []; question = judges (refused 1 1) }
     -- run gives 15 before 16

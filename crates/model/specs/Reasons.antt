@@ -149,7 +149,7 @@ pub record SomeLarge (N : Nest) : Type 0 where
   pub there : Mem value (nestNumbers N)
   pub large : 32767 < natAbs value
 
--- ---- 10, 11 and 12, step by step. A step is taken in stages; each step of document 01 is its own only one
+-- ---- 10, 11 and 12, step by step. A step is taken in stages: a circulation exchange by exchange, any other at once
 
 -- after the stage no side has more than 16 limits and every number is within ±32767
 abbrev pub StagePasses : Step → Nest → Type 0

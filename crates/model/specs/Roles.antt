@@ -14,8 +14,8 @@ use Rattle.lists.specs.Membership.{All}
 use Rattle.model.specs.Encode.{kindOf}
 use Rattle.model.specs.Answer.{Answer, accepted, refused, require, _>>_}
 use Rattle.model.specs.Words.{wordAt}
-use Rattle.model.specs.Ticket.{Limit, Loop, Subscript, Access, Statement, Step, exchange, reversal, skew, section, Nest, Ticket}
-use Rattle.model.specs.Grammar.{between, elements, extents, depthAfter, mostFactor}
+use Rattle.model.specs.Ticket.{Limit, Loop, Subscript, Access, Statement, Step, exchange, reversal, skew, section, circulation, Nest, Ticket}
+use Rattle.model.specs.Grammar.{between, elements, extents, depthAfter, mostFactor, stepKinds}
 use Rattle.model.specs.Grammar.{mostStatements, mostReads, mostArrays, mostDimensions, mostExtent, mostElements}
 use Rattle.model.specs.Grammar.{ticketLoops, ticketLimits, mostLoops}
 use Rattle.model.specs.Bounds.{accessesOf}
@@ -119,11 +119,14 @@ argumentSlots k m (skew a d c) =
 argumentSlots k m (section a w) =
     slot (loopWord k (λ v. between (pos 1) (pos m) v && ltb m mostLoops)) (pos (suc a))
     ∷ slot (wordFrom (pos 2) (pos 256)) (pos w) ∷ slot unused (pos 0) ∷ []
+argumentSlots k m (circulation a b) =
+    slot (loopWord k (between (pos 1) (pos m))) (pos (suc a))
+    ∷ slot (loopWord k (λ w. between (pos 1) (pos m) w && not (eqZ w (pos (suc a))))) (pos (suc b)) ∷ slot unused (pos 0) ∷ []
 
 -- steps from number k on, in a nest of m loops
 unfoldable pub stepsSlots : ℕ → ℕ → List Step → List Slot
 stepsSlots k m [] = []
-stepsSlots k m (t ∷ ts) = (slot (wordFrom (pos 1) (pos 4)) (pos (kindOf t)) ∷ argumentSlots k m t) ++ stepsSlots (suc k) (depthAfter t m) ts
+stepsSlots k m (t ∷ ts) = (slot (wordFrom (pos 1) (pos stepKinds)) (pos (kindOf t)) ∷ argumentSlots k m t) ++ stepsSlots (suc k) (depthAfter t m) ts
 
 -- loops, arrays and statements, 1 to 4 of each
 unfoldable pub nestSlots : Nest → List Slot

@@ -4,7 +4,7 @@ use mathlib.Core.List.{List, [], _∷_}
 use Prim.Native.Nat.{ℕ, suc, _<_}
 use lib.ListN.{length}
 use Rattle.lists.specs.Membership.{All}
-use Rattle.model.specs.Ticket.{Limit, Loop, Subscript, Access, Statement, Step, exchange, reversal, skew, section, Nest}
+use Rattle.model.specs.Ticket.{Limit, Loop, Subscript, Access, Statement, Step, exchange, reversal, skew, section, circulation, Nest}
 use Rattle.model.specs.Grammar.{extents}
 
 -- every limit has a coefficient for each of the n loops outside
@@ -38,6 +38,7 @@ Proper (exchange a) = Unit {0}
 Proper (reversal a) = Unit {0}
 Proper (skew a d c) = Unit {0}
 Proper (section a w) = 0 < w
+Proper (circulation a b) = Unit {0}
 
 pub record WellFormed (N : Nest) : Type 0 where
   pub shaped : Shaped 0 (N .loops)

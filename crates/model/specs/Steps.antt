@@ -1,14 +1,14 @@
 -- The steps: what each makes of a point, how it is undone, and what it makes of a vector of signs (Wolfe's tables).
 use mathlib.Core.Bool.{Bool}
 use mathlib.Core.List.{List, [], _∷_, _++_, map, flatMap}
-use Prim.Native.Nat.{ℕ}
+use Prim.Native.Nat.{ℕ, zero, suc, _+_, _-_}
 use lib.IntN.{ℤ, pos, negℤ, _+ℤ_, _-ℤ_, _*ℤ_}
 use Rattle.integers.specs.Division.{floorDiv}
 use Rattle.integers.specs.Sign.{Sign, less, equal, greater, sign, turned}
-use Rattle.lists.specs.Place.{under, underEach, onHead, swapped}
+use Rattle.lists.specs.Place.{under, underEach, onHead, swapped, swapAll, swapBack}
 use Rattle.lists.specs.Tests.{any}
-use Rattle.model.specs.Ticket.{Step, exchange, reversal, skew, section}
-use Rattle.model.specs.Directions.{bySign, backwards}
+use Rattle.model.specs.Ticket.{Step, exchange, reversal, skew, section, circulation}
+use Rattle.model.specs.Directions.{bySign, backwards, upFrom}
 
 -- ---- points
 
@@ -31,17 +31,28 @@ unsectioned w [] = []
 unsectioned w (s ∷ []) = s ∷ []
 unsectioned w (s ∷ e ∷ p) = (pos w *ℤ s +ℤ e) ∷ p
 
+-- k + n − 1, .., k
+unfoldable pub downTo : ℕ → ℕ → List ℕ
+downTo k zero = []
+downTo k (suc n) = (k + n) ∷ downTo k n
+
+-- the neighbouring exchanges that bring loop a to place b, each by the place of its outer loop
+unfoldable pub chain : ℕ → ℕ → List ℕ
+chain a b = upFrom a (b - a) ++ downTo b (a - b)
+
 unfoldable pub forward : Step → List ℤ → List ℤ
 forward (exchange a) = under a swapped
 forward (reversal a) = under a (onHead negℤ)
 forward (skew a d c) = under a (skewed d c)
 forward (section a w) = under a (sectioned w)
+forward (circulation a b) = swapAll (chain a b)
 
 unfoldable pub undo : Step → List ℤ → List ℤ
 undo (exchange a) = under a swapped
 undo (reversal a) = under a (onHead negℤ)
 undo (skew a d c) = under a (unskewed d c)
 undo (section a w) = under a (unsectioned w)
+undo (circulation a b) = swapBack (chain a b)
 
 unfoldable pub forwardAll : List Step → List ℤ → List ℤ
 forwardAll [] p = p
@@ -94,6 +105,7 @@ vectors (exchange a) v = under a swapped v ∷ []
 vectors (reversal a) v = under a (onHead turned) v ∷ []
 vectors (skew a d c) v = underEach a (skewSigns d c) v
 vectors (section a w) v = underEach a splitSigns v
+vectors (circulation a b) v = swapAll (chain a b) v ∷ []
 
 -- the set of vectors after a step
 unfoldable pub vectorsAfter : Step → List (List Sign) → List (List Sign)

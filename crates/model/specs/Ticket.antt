@@ -37,6 +37,8 @@ pub data Step : Type 0 where
   skew : ℕ → ℕ → ℤ → Step
   -- loop a by width w
   section : ℕ → ℕ → Step
+  -- loop a goes to place b, and those between close up
+  circulation : ℕ → ℕ → Step
 
 -- an array is the list of its extents
 pub record Nest : Type 0 where

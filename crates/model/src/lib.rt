@@ -48,6 +48,9 @@ pub const NEST_LIMITS: usize = SIDES * LIMITS;
 // points
 pub const POINTS: usize = 4096;
 
+// kinds of steps
+pub const STEP_KINDS: usize = 5;
+
 // ---- the words of a nest that is laid out flat
 
 // of a limit or a subscript: a coefficient for each loop, and two more

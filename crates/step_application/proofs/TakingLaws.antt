@@ -7,11 +7,9 @@ use lib.IntN.{ℤ}
 use lib.ListN.{length}
 use Rattle.lists.specs.Tests.{all}
 use Rattle.model.specs.Ranges.{StepThere}
-use Rattle.model.specs.Limits.{loopsAfter}
-use Rattle.model.specs.Judge.{smallLoop, smallAccess}
-use Rattle.nest_flat.specs.Flat.{loopsFrom}
-use Rattle.step_kinds.specs.Kinds.{stepOf}
-use Rattle.step_kinds.specs.declared.Step.{Step}
+use Rattle.model.specs.Judge.{smallAccess}
+use Rattle.step_kinds.specs.Kinds.{stageOf}
+use Rattle.step_kinds.specs.declared.Stage.{Stage}
 use Rattle.step_loops.specs.After.{After}
 use Rattle.step_loops.specs.declared.Stepped.{Stepped}
 use Rattle.step_subscripts.specs.After.{accessesAfter, AccessesIn, AccessesAfter}
@@ -19,22 +17,22 @@ use Rattle.step_application.specs.Taking.{LoopsIn, TakingIn, Takes}
 
 -- ---- the step that a match found
 
-module _ (s : List ℤ) (c : List ℕ) (depth : ℕ) (t d : Step) (e : t ≡ d) where
-  pub there : LoopsIn s c depth t → StepThere depth (stepOf d)
-  there i = subst (λ (x : Step). StepThere depth (stepOf x)) e (i .there)
+module _ (s : List ℤ) (c : List ℕ) (depth : ℕ) (t d : Stage) (e : t ≡ d) where
+  pub there : LoopsIn s c depth t → StepThere depth (stageOf d)
+  there i = subst (λ (x : Stage). StepThere depth (stageOf x)) e (i .there)
 
-  pub loops-are : (r : Stepped) (s′ : List ℤ) (c′ : List ℕ) → After (stepOf d) s c depth r s′ c′ → After (stepOf t) s c depth r s′ c′
-  loops-are r s′ c′ a = subst (λ (x : Step). After (stepOf x) s c depth r s′ c′) (sym e) a
+  pub loops-are : (r : Stepped) (s′ : List ℤ) (c′ : List ℕ) → After (stageOf d) s c depth r s′ c′ → After (stageOf t) s c depth r s′ c′
+  loops-are r s′ c′ a = subst (λ (x : Stage). After (stageOf x) s c depth r s′ c′) (sym e) a
 
 -- ---- both
 
-module _ (s : List ℤ) (c : List ℕ) (w : List ℤ) (o a : List ℕ) (depth : ℕ) (t : Step) (i : TakingIn s c w o a depth t) where
+module _ (s : List ℤ) (c : List ℕ) (w : List ℤ) (o a : List ℕ) (depth : ℕ) (t : Stage) (i : TakingIn s c w o a depth t) where
   pub accesses-in : AccessesIn w o a depth t
   accesses-in = record { step = record { few = i .loops .nest .shallow; there = i .loops .there }; held = i .accesses }
 
-  module _ (r : Stepped) (s′ : List ℤ) (c′ : List ℕ) (g : After (stepOf t) s c depth r s′ c′) where
+  module _ (r : Stepped) (s′ : List ℤ) (c′ : List ℕ) (g : After (stageOf t) s c depth r s′ c′) where
     -- no room, whatever the subscripts
-    pub takes-full : r .full ≡ true → Takes (stepOf t) s c w o a depth r s′ c′ w
+    pub takes-full : r .full ≡ true → Takes (stageOf t) s c w o a depth r s′ c′ w
     takes-full e = record {
       limits-room = g .words;
       counts-room = g .counts;
@@ -48,13 +46,13 @@ module _ (s : List ℤ) (c : List ℕ) (w : List ℤ) (o a : List ℕ) (depth : 
 
     module _ (f : r .full ≡ false) where
       -- a large number in a limit
-      pub takes-large : not (r .small) ≡ true → Takes (stepOf t) s c w o a depth r s′ c′ w
+      pub takes-large : not (r .small) ≡ true → Takes (stageOf t) s c w o a depth r s′ c′ w
       takes-large e = record {
         limits-room = g .words;
         counts-room = g .counts;
         words-room = refl;
         full = g .full;
-        small = λ _. large ∙ sym (ap (_&& all smallAccess (accessesAfter (stepOf t) w o a depth (length o))) (sym (g .small f) ∙ large));
+        small = λ _. large ∙ sym (ap (_&& all smallAccess (accessesAfter (stageOf t) w o a depth (length o))) (sym (g .small f) ∙ large));
         loops = λ _ x. absurd (true≢false (sym x ∙ large));
         nest = λ _ x. absurd (true≢false (sym x ∙ large));
         accesses = λ _ x. absurd (true≢false (sym x ∙ large));
@@ -67,17 +65,17 @@ module _ (s : List ℤ) (c : List ℕ) (w : List ℤ) (o a : List ℕ) (depth : 
           large : r .small ≡ false
           large = by (r .small) e
 
-      pub takes-both : not (r .small) ≡ false → (b : Bool) (w′ : List ℤ) → AccessesAfter (stepOf t) w o a depth w′ b
-          → Takes (stepOf t) s c w o a depth (record { full = false; small = b }) s′ c′ w′
+      pub takes-both : not (r .small) ≡ false → (b : Bool) (w′ : List ℤ) → AccessesAfter (stageOf t) w o a depth w′ b
+          → Takes (stageOf t) s c w o a depth (record { full = false; small = b }) s′ c′ w′
       takes-both e b w′ h = record {
         limits-room = g .words;
         counts-room = g .counts;
         words-room = h .room;
         full = sym f ∙ g .full;
-        small = λ _. h .test ∙ sym (ap (_&& all smallAccess (accessesAfter (stepOf t) w o a depth (length o))) (sym (g .small f) ∙ fits));
+        small = λ _. h .test ∙ sym (ap (_&& all smallAccess (accessesAfter (stageOf t) w o a depth (length o))) (sym (g .small f) ∙ fits));
         loops = λ _ _. g .whole f fits;
         nest = λ _ _. g .nest f fits;
-        accesses = λ _ x. subst (AccessesAfter (stepOf t) w o a depth w′) x h;
+        accesses = λ _ x. subst (AccessesAfter (stageOf t) w o a depth w′) x h;
       }
         where
           by : (b : Bool) → not b ≡ false → b ≡ true

@@ -13,17 +13,17 @@ use Rattle.model.specs.Limits.{loopsAfter}
 use Rattle.model.specs.Judge.{fewLimits, smallLoop, smallAccess}
 use Rattle.nest_flat.specs.Flat.{loopsFrom, NestOk}
 use Rattle.nest_flat.specs.Layout.{AccessesOk}
-use Rattle.step_kinds.specs.Kinds.{stepOf}
-use Rattle.step_kinds.specs.declared.Step.{Step}
+use Rattle.step_kinds.specs.Kinds.{stageOf}
+use Rattle.step_kinds.specs.declared.Stage.{Stage}
 use Rattle.step_loops.specs.declared.Stepped.{Stepped}
 use Rattle.step_subscripts.specs.After.{accessesAfter, AccessesAfter}
 
 -- of the loops alone
-pub record LoopsIn (s : List ℤ) (c : List ℕ) (depth : ℕ) (t : Step) : Type 0 where
+pub record LoopsIn (s : List ℤ) (c : List ℕ) (depth : ℕ) (t : Stage) : Type 0 where
   pub nest : NestOk s c depth
-  pub there : StepThere depth (stepOf t)
+  pub there : StepThere depth (stageOf t)
 
-pub record TakingIn (s : List ℤ) (c : List ℕ) (w : List ℤ) (o a : List ℕ) (depth : ℕ) (t : Step) : Type 0 where
+pub record TakingIn (s : List ℤ) (c : List ℕ) (w : List ℤ) (o a : List ℕ) (depth : ℕ) (t : Stage) : Type 0 where
   pub loops : LoopsIn s c depth t
   pub accesses : AccessesOk w o a depth
 

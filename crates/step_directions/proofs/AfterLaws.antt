@@ -7,7 +7,7 @@ use lib.IntN.{ℤ, pos, natAbs}
 use lib.ListN.{length}
 use Rattle.integers.specs.Sign.{Sign}
 use Rattle.lists.specs.Membership.{SameMembers}
-use Rattle.model.specs.Ticket.{Step, exchange, reversal, skew, section}
+use Rattle.model.specs.Ticket.{Step, exchange, reversal, skew, section, circulation}
 use Rattle.model.specs.Grammar.{depthAfter, mostLoops, mostFactor}
 use Rattle.model.specs.Ranges.{InRange, StepThere}
 use Rattle.model.specs.Steps.{vectorsAfter}
@@ -15,7 +15,7 @@ use Rattle.step_preimages.specs.Numbers.{marked}
 use Rattle.step_directions.specs.Sets.{vectorsIn, vectorsOf, After}
 use Rattle.step_directions.specs.Preimages.{loopsNamed, came}
 use Rattle.step_directions.specs.declared.DirectionSet.{DirectionSet}
-use Rattle.step_directions.proofs.StepLaws.{exchange-after, reversal-after, section-after}
+use Rattle.step_directions.proofs.StepLaws.{exchange-after, reversal-after, section-after, circulation-after}
 use Rattle.step_directions.proofs.SkewLaws.{skew-after}
 
 -- at most six loops stay at most six
@@ -25,6 +25,7 @@ few-after (exchange a) m h i = h
 few-after (reversal a) m h i = h
 few-after (skew a d c) m h i = h
 few-after (section a w) m h i = let k = i .1 in omega arith
+few-after (circulation a b) m h i = h
 
 -- the loops that a step names are among those after it
 pub named-after : (t : Step) (m : ℕ) → StepThere m t → loopsNamed t ≤ depthAfter t m
@@ -33,6 +34,7 @@ named-after (exchange a) m i = omega arith
 named-after (reversal a) m i = omega arith
 named-after (skew a d c) m i = let k = i .0 in omega arith
 named-after (section a w) m i = let k = i .0 in omega arith
+named-after (circulation a b) m i = let k = i .0 in let l = i .1 in omega arith
 
 not-zero : (c : ℤ) → InRange 1 mostFactor (natAbs c) → c ≡ pos 0 → ⊥
 not-zero c i e = let n = ap natAbs e in let l = i .low in omega arith
@@ -46,6 +48,7 @@ module _ (s r : DirectionSet) where
   vectors-after (reversal a) i e = reversal-after a (s .marks) (r .marks) (s .depth) e
   vectors-after (skew a d c) i e = skew-after a d c (not-zero c (i .1)) (s .marks) (r .marks) (s .depth) (i .0) e
   vectors-after (section a w) i e = section-after a w (s .marks) (r .marks) (s .depth) (i .0) e
+  vectors-after (circulation a b) i e = circulation-after a b (s .marks) (r .marks) (s .depth) e
 
   pub pulled-after : (t : Step) → StepThere (s .depth) t → r .depth ≡ depthAfter t (s .depth)
       → ((v : List Sign) → length v ≡ r .depth → marked (r .marks) v ≡ came (s .marks) t v) → After t s r

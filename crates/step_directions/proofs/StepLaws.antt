@@ -9,26 +9,34 @@ use lib.ListN.{length}
 use Rattle.integers.proofs.SignLaws.{turned-turned}
 use Rattle.integers.specs.Sign.{Sign, less, equal, greater, turned}
 use Rattle.lists.specs.Membership.{Mem, SameMembers}
-use Rattle.lists.specs.Place.{under, underEach, onHead, swapped}
+use Rattle.lists.specs.Place.{under, underEach, onHead, swapped, swapAll}
 use Rattle.lists.proofs.PlaceLaws.{under-length, under-inverse, swapped-swapped, length-swapped, onHead-inverse, length-onHead}
-use Rattle.model.specs.Ticket.{Step, exchange, reversal, section}
+use Rattle.lists.proofs.SwapLaws.{swapAll-length, back-swapAll, swapAll-back}
+use Rattle.model.specs.Ticket.{Step, exchange, reversal, section, circulation}
 use Rattle.model.specs.Directions.{bySign}
-use Rattle.model.specs.Steps.{anySign, splitSign, splitSigns, vectors, vectorsAfter}
+use Rattle.model.specs.Steps.{anySign, splitSign, splitSigns, chain, vectors, vectorsAfter}
+use Rattle.model.proofs.Steps.ChainLaws.{chain-back}
 use Rattle.step_preimages.specs.Numbers.{marked}
 use Rattle.step_directions.specs.Sets.{vectorsIn}
 use Rattle.step_preimages.specs.Sources.{joined}
 use Rattle.step_directions.proofs.VectorLaws.{every-sign}
 use Rattle.step_directions.proofs.SetLaws.{after-source}
 
--- ---- exchange and reversal: one vector, changed again
+-- ---- exchange, reversal and circulation: one vector, changed back
+
+inverse : (t : Step) (f g : List Sign → List Sign) → ((u : List Sign) → vectors t u ≡ f u ∷ []) → ((u : List Sign) → f (g u) ≡ u)
+    → ((u : List Sign) → g (f u) ≡ u) → ((u : List Sign) → length (f u) ≡ length u) → ((u : List Sign) → length (g u) ≡ length u)
+    → (old new : List Bool) (d : ℕ) → ((v : List Sign) → length v ≡ d → marked new v ≡ marked old (g v))
+    → SameMembers (vectorsIn new d) (vectorsAfter t (vectorsIn old d))
+inverse t f g e i j l m old new d h = after-source t old new d d g h
+    (λ v k. (m v ∙ k, rw (e (g v)) (List·Memᴰ·head (sym (i v)))))
+    (λ u v k n. let q : v ≡ f u = List·Memᴰ·eq-of-singleton (rw (e u) at n) in (ap length q ∙ l u ∙ k, sym (ap g q ∙ j u)))
 
 involution : (t : Step) (f : List Sign → List Sign) → ((u : List Sign) → vectors t u ≡ f u ∷ []) → ((u : List Sign) → f (f u) ≡ u)
     → ((u : List Sign) → length (f u) ≡ length u)
     → (old new : List Bool) (d : ℕ) → ((v : List Sign) → length v ≡ d → marked new v ≡ marked old (f v))
     → SameMembers (vectorsIn new d) (vectorsAfter t (vectorsIn old d))
-involution t f e i l old new d h = after-source t old new d d f h
-    (λ v k. (l v ∙ k, rw (e (f v)) (List·Memᴰ·head (sym (i v)))))
-    (λ u v k m. let q : v ≡ f u = List·Memᴰ·eq-of-singleton (rw (e u) at m) in (ap length q ∙ l u ∙ k, sym (ap f q ∙ i u)))
+involution t f e i l = inverse t f f e i i l l
 
 module _ (a : ℕ) (old new : List Bool) (d : ℕ) where
   pub exchange-after : ((v : List Sign) → length v ≡ d → marked new v ≡ marked old (under a swapped v))
@@ -43,6 +51,15 @@ module _ (a : ℕ) (old new : List Bool) (d : ℕ) where
   reversal-after = involution (reversal a) (under a (onHead turned)) (λ u. refl)
       (under-inverse (onHead turned) (onHead turned) (onHead-inverse turned turned turned-turned) a)
       (under-length (onHead turned) (length-onHead turned) a) old new d
+
+pub circulation-after : (a b : ℕ) (old new : List Bool) (d : ℕ)
+    → ((v : List Sign) → length v ≡ d → marked new v ≡ marked old (swapAll (chain b a) v))
+    → SameMembers (vectorsIn new d) (vectorsAfter (circulation a b) (vectorsIn old d))
+unfolding vectors
+circulation-after a b = inverse (circulation a b) (swapAll (chain a b)) (swapAll (chain b a)) (λ u. refl)
+    (λ u. ap (swapAll (chain a b)) (sym (chain-back a b u)) ∙ swapAll-back (chain a b) u)
+    (λ u. sym (chain-back a b (swapAll (chain a b) u)) ∙ back-swapAll (chain a b) u)
+    (swapAll-length (chain a b)) (swapAll-length (chain b a))
 
 -- ---- section: the two signs come from one
 

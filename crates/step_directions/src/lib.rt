@@ -88,6 +88,7 @@ fn has_preimage(old: &[bool; VECTORS], n: usize, step: Step) -> bool
             step_preimages::skew_source(old, n, e.outer, b, 0 < e.factor)
         }
         Step::Section(e) => old[step_preimages::section_source(n, e.target)],
+        Step::Circulation(e) => old[step_preimages::circulation_source(n, e.from, e.to)],
     }
 }
 

@@ -1,5 +1,5 @@
--- One step judged: the vectors after it; its stage on the slices of a flat nest, with the tests of 11 and 12; the step as the model judges it.
--- What the steps before it left is in `LoopLaws`.
+-- One step judged: the vectors after it; a stage of it on the slices of a flat nest, with the tests of 11 and 12; the step as the model judges it.
+-- Its stages one after another are in `StageLaws`, what the steps before it left is in `LoopLaws`.
 use mathlib.Core.Path.{_≡_, refl, sym, _∙_, ap, subst}
 use mathlib.Core.Bool.{Bool, true, false, not, _&&_}
 use mathlib.Core.List.{List, [], _∷_, _++_, map}
@@ -12,7 +12,7 @@ use Rattle.integers.specs.Sign.{Sign}
 use Rattle.lists.specs.Tests.{all}
 use Rattle.model.specs.Answer.{Answer, refused, require, _>>=_, _>>_}
 use Rattle.model.specs.Ticket as Model
-use Rattle.model.specs.Ticket.{exchange, reversal, skew, section}
+use Rattle.model.specs.Ticket.{exchange, reversal, skew, section, circulation}
 use Rattle.model.specs.Grammar.{depthAfter, accessRoom, mostWords}
 use Rattle.model.specs.Ranges.{StepThere}
 use Rattle.model.specs.Steps.{vectorsAfter, somePointsBack}
@@ -29,7 +29,8 @@ use Rattle.nest_flat.specs.Flat.{loopsFrom}
 use Rattle.nest_flat.specs.Layout.{accessesFrom}
 use Rattle.nest_flat.specs.FlatNests.{FlatNest, extentsIn, accessedIn, wordsIn, nestOf, FlatNestIn, moved}
 use Rattle.nest_flat.proofs.FlatNestLaws.{words-count, accessed-count}
-use Rattle.step_kinds.specs.Kinds.{stepOf}
+use Rattle.step_kinds.specs.Kinds.{stepOf, stageOf}
+use Rattle.step_kinds.specs.declared.Stage.{Stage}
 use Rattle.step_kinds.specs.declared.Step.{Step}
 use Rattle.step_directions.specs.Sets.{vectorsOf, DirectionIn, After}
 use Rattle.step_directions.specs.declared.DirectionSet.{DirectionSet}
@@ -70,13 +71,14 @@ some-after (exchange a) m h = h
 some-after (reversal a) m h = h
 some-after (skew a d c) m h = h
 some-after (section a w) m h = omega arith
+some-after (circulation a b) m h = h
 
-module _ (P : FlatNest) (t : Step) (i : TakeIn P t) where
+module _ (P : FlatNest) (t : Stage) (i : TakeIn P (stageOf t)) where
   abbrev h : FlatNestIn P
   h = i .flat-nest
 
-  module _ (k : ℕ) (z : Status) (l : List ℤ) (c : List ℕ) (w : List ℤ) (g : StageTaken t k (P .limits) (P .counts) (wordsIn P) (accessedIn P)
-      (extentsIn P) (P .depth) z l c w) where
+  module _ (k : ℕ) (z : Status) (l : List ℤ) (c : List ℕ) (w : List ℤ)
+      (g : StageTaken t k (P .limits) (P .counts) (wordsIn P) (accessedIn P) (extentsIn P) (P .depth) z l c w) where
     abbrev r : Stepped
     r = g .stepped
 
@@ -87,37 +89,37 @@ module _ (P : FlatNest) (t : Step) (i : TakeIn P t) where
     part : take (P .accesses * accessRoom) words ≡ w
     part = ap (λ n. take n words) (sym (g .takes .words-room ∙ words-count P h)) ∙ take-append-seam w (drop (P .accesses * accessRoom) (P .words))
 
-    room : length words ≡ mostWords
-    room = let a = length-append w (drop (P .accesses * accessRoom) (P .words)) in let d = length-drop (P .accesses * accessRoom) (P .words)
+    pub stage-words : length words ≡ mostWords
+    stage-words = let a = length-append w (drop (P .accesses * accessRoom) (P .words)) in let d = length-drop (P .accesses * accessRoom) (P .words)
         in let q = g .takes .words-room in let v = words-count P h in let f = h .few-accesses in let y = h .words-length in omega arith
 
     abbrev Q : FlatNest
-    Q = moved P (depthAfter (stepOf t) (P .depth)) l c words
+    Q = moved P (depthAfter (stageOf t) (P .depth)) l c words
 
-    few-are : fewLimits (nestAfter (stepOf t) (nestOf P) .loops) ≡ not (r .full)
+    few-are : fewLimits (nestAfter (stageOf t) (nestOf P) .loops) ≡ not (r .full)
     unfolding nestAfter nestOf
-    few-are = not-is (fewLimits (nestAfter (stepOf t) (nestOf P) .loops)) (r .full) (g .takes .full)
+    few-are = not-is (fewLimits (nestAfter (stageOf t) (nestOf P) .loops)) (r .full) (g .takes .full)
 
-    small-are : r .full ≡ false → smallNumbers (nestAfter (stepOf t) (nestOf P)) ≡ r .small
-    small-are f = small-nest P h (stepOf t)
-        ∙ ap (λ n. all smallLoop (loopsAfter (stepOf t) (loopsFrom (P .limits) (P .counts) 0 (P .depth))) && all smallAccess
-        (map (accessAfter (stepOf t)) (accessesFrom (wordsIn P) (accessedIn P) (extentsIn P) (P .depth) 0 n))) (sym (accessed-count P h))
+    small-are : r .full ≡ false → smallNumbers (nestAfter (stageOf t) (nestOf P)) ≡ r .small
+    small-are f = small-nest P h (stageOf t)
+        ∙ ap (λ n. all smallLoop (loopsAfter (stageOf t) (loopsFrom (P .limits) (P .counts) 0 (P .depth))) && all smallAccess
+        (map (accessAfter (stageOf t)) (accessesFrom (wordsIn P) (accessedIn P) (extentsIn P) (P .depth) 0 n))) (sym (accessed-count P h))
         ∙ sym (g .takes .small f)
 
     module _ (f : r .full ≡ false) (n : r .small ≡ true) where
-      accesses : AccessesAfter (stepOf t) (wordsIn P) (accessedIn P) (extentsIn P) (P .depth) (wordsIn Q) true
-      accesses = subst (λ v. AccessesAfter (stepOf t) (wordsIn P) (accessedIn P) (extentsIn P) (P .depth) v true) (sym part) (g .takes .accesses f n)
+      accesses : AccessesAfter (stageOf t) (wordsIn P) (accessedIn P) (extentsIn P) (P .depth) (wordsIn Q) true
+      accesses = subst (λ v. AccessesAfter (stageOf t) (wordsIn P) (accessedIn P) (extentsIn P) (P .depth) v true) (sym part) (g .takes .accesses f n)
 
-      whole : nestOf Q ≡ nestAfter (stepOf t) (nestOf P)
-      whole = nest-after P Q (relaid P (Q .depth) l c words) (stepOf t) (accesses-moved P h Q (stepOf t) refl accesses) h (g .takes .loops f n)
+      whole : nestOf Q ≡ nestAfter (stageOf t) (nestOf P)
+      whole = nest-after P Q (relaid P (Q .depth) l c words) (stageOf t) (accesses-moved P h Q (stageOf t) refl accesses) h (g .takes .loops f n)
 
       flat-nest-is : FlatNestIn Q
-      flat-nest-is = flat-nest-after P Q h (relaid P (Q .depth) l c words) (g .takes .nest f n) (some-after (stepOf t) (P .depth) (h .some))
-          (accesses-held P h Q (stepOf t) refl accesses) room
+      flat-nest-is = flat-nest-after P Q h (relaid P (Q .depth) l c words) (g .takes .nest f n) (some-after (stageOf t) (P .depth) (h .some))
+          (accesses-held P h Q (stageOf t) refl accesses) stage-words
 
     -- what the model answers, by the two tests
-    by : (f n : Bool) → r .full ≡ f → r .small ≡ n → judgedAs (stageStatus f n k) tt ≡ judgeStages k (stages (stepOf t)) (nestOf P)
-    unfolding stages judgeStages require _>>_ _>>=_
+    by : (f n : Bool) → r .full ≡ f → r .small ≡ n → judgedAs (stageStatus f n k) tt ≡ judgeStages k (stageOf t ∷ []) (nestOf P)
+    unfolding judgeStages require _>>_ _>>=_
     by true n ef en = rw (few-are ∙ ap not ef)
     by false false ef en = rw (few-are ∙ ap not ef, small-are ef ∙ en)
     by false true ef en = rw (few-are ∙ ap not ef, small-are ef ∙ en)
@@ -131,11 +133,11 @@ module _ (P : FlatNest) (t : Step) (i : TakeIn P t) where
         go false false ef en x = not-fine (Refused (NumberOutOfRange k)) refl x
         go false true ef en x = (ef, en)
 
-    -- a step is its own only stage
-    pub only-stage : Taken (stages (stepOf t)) (depthAfter (stepOf t) (P .depth)) k P z l c words
-    only-stage = record {
+    pub stage-taken : Taken (stageOf t ∷ []) (depthAfter (stageOf t) (P .depth)) k P z l c words
+    unfolding nestAfterAll
+    stage-taken = record {
       same = ap (λ (x : Status). judgedAs x tt) (g .status) ∙ by (r .full) (r .small) refl refl;
-      nest = λ y. whole (passes y .0) (passes y .1) ∙ after-stages (stepOf t) (nestOf P);
+      nest = λ y. whole (passes y .0) (passes y .1);
       flat-nest = λ y. flat-nest-is (passes y .0) (passes y .1);
     }
 

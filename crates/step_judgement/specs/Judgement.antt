@@ -17,14 +17,14 @@ use Rattle.ticket_refusals.specs.Refusals.{refusal}
 use Rattle.ticket_refusals.specs.declared.Refusal.the-variants.{TooManyLimits, NumberOutOfRange}
 use Rattle.ticket_refusals.specs.declared.Status.{Status}
 use Rattle.ticket_refusals.specs.declared.Status.the-variants.{Fine, Refused}
-use Rattle.step_kinds.specs.Kinds.{stepOf}
 use Rattle.ticket_steps.specs.Steps.{stepsOf, StepsIn}
-use Rattle.step_kinds.specs.declared.Step.{Step}
 use Rattle.ticket_steps.specs.declared.Steps.{Steps}
 use Rattle.step_directions.specs.Sets.{vectorsOf}
 use Rattle.step_directions.specs.declared.DirectionSet.{DirectionSet}
 use Rattle.nest_flat.specs.declared.Header.{Header}
 use Rattle.nest_flat.specs.FlatNests.{FlatNest, flatNest, moved, nestOf, FlatNestIn}
+use Rattle.step_kinds.specs.Kinds.{stageOf}
+use Rattle.step_kinds.specs.declared.Stage.{Stage}
 use Rattle.step_loops.specs.declared.Stepped.{Stepped}
 use Rattle.step_application.specs.Taking.{Takes}
 use Rattle.ticket_decoding.specs.Ticket.{ticketOn}
@@ -47,19 +47,20 @@ abbrev pub stageStatus : Bool → Bool → ℕ → Status
 stageStatus full small k = cond full (Refused (TooManyLimits k)) (cond small Fine (Refused (NumberOutOfRange k)))
 
 -- a stage of step k was taken on these slices, and answered so
-pub record StageTaken (t : Step) (k : ℕ) (s : List ℤ) (c : List ℕ) (w : List ℤ) (o a : List ℕ) (depth : ℕ) (r : Status) (s′ : List ℤ) (c′ : List ℕ)
+pub record StageTaken (t : Stage) (k : ℕ) (s : List ℤ) (c : List ℕ) (w : List ℤ) (o a : List ℕ) (depth : ℕ) (r : Status) (s′ : List ℤ) (c′ : List ℕ)
     (w′ : List ℤ) : Type 0 where
   pub stepped : Stepped
-  pub takes : Takes (stepOf t) s c w o a depth stepped s′ c′ w′
+  pub takes : Takes (stageOf t) s c w o a depth stepped s′ c′ w′
   pub status : r ≡ stageStatus (stepped .full) (stepped .small) k
 
 -- a header whose loops have become others
 abbrev pub flatNestAt : Header → ℕ → List ℤ → List ℕ → List ℤ → FlatNest
 flatNestAt O d l c w = moved (flatNest O l w) d l c w
 
-pub record TakeIn (P : FlatNest) (t : Step) : Type 0 where
+-- the loops that a step or a stage names are there
+pub record TakeIn (P : FlatNest) (t : Model.Step) : Type 0 where
   pub flat-nest : FlatNestIn P
-  pub there : StepThere (P .depth) (stepOf t)
+  pub there : StepThere (P .depth) t
 
 -- step k was taken on P by the stages ts; where none was refused, the nest after them stands on these slices, with m loops
 pub record Taken (ts : List Model.Step) (m k : ℕ) (P : FlatNest) (r : Status) (l : List ℤ) (c : List ℕ) (w : List ℤ) : Type 0 where

@@ -15,6 +15,7 @@ use model::ARRAY_ROOM;
 use nest_flat::Header;
 use nest_points::SpaceCheck;
 use step_directions::DirectionSet;
+use step_kinds::Stage;
 use step_kinds::Step;
 use ticket_refusals::Refusal;
 use ticket_refusals::Status;
@@ -71,18 +72,26 @@ fn take_stage(
     accessed: &[usize],
     extents: &[usize],
     depth: usize,
-    stage: Step,
+    stage: Stage,
     number: usize,
 ) -> Status
     requires { ⌜ TakingIn (now limits) (now counts) (now words) (now accessed) (now extents) depth stage ⌝ }
     ensures { λ r. ⌜ StageTaken stage number (now (limits .entry)) (now (counts .entry)) (now (words .entry)) (now (accessed .entry))
         (now (extents .entry)) depth r (now (limits .exit)) (now (counts .exit)) (now (words .exit)) ⌝ }
 {
-    let taken = step_application::take_step(limits, counts, words, accessed, extents, depth, stage);
+    let taken = step_application::apply_stage(
+        limits,
+        counts,
+        words,
+        accessed,
+        extents,
+        depth,
+        stage,
+    );
     stage_status(taken.full, taken.small, number)
 }
 
-// Takes step `number`, whose only stage is itself, on a flat nest that has by now these loops: the header tells the parts in use.
+// Takes step `number` stage by stage on a flat nest that has by now these loops: the header tells the parts in use.
 fn take(
     header: Header,
     limits: &mut [i16],
@@ -92,25 +101,38 @@ fn take(
     step: Step,
     number: usize,
 ) -> Status
-    requires { ⌜ TakeIn (flatNestAt header depth (now limits) (now counts) (now words)) step ⌝ }
+    requires { ⌜ TakeIn (flatNestAt header depth (now limits) (now counts) (now words)) (stepOf step) ⌝ }
     ensures { λ r. ⌜ Taken (stages (stepOf step)) (depthAfter (stepOf step) depth) number
         (flatNestAt header depth (now (limits .entry)) (now (counts .entry)) (now (words .entry))) r (now (limits .exit)) (now (counts .exit))
         (now (words .exit)) ⌝ }
 {
     let accessed = header.accessed;
     let extents = header.extents;
-    let accesses = header.accesses;
-    let arrays = header.arrays;
-    take_stage(
-        limits,
-        counts,
-        &mut words[..accesses * ACCESS_ROOM],
-        &accessed[..accesses],
-        &extents[..arrays * ARRAY_ROOM],
-        depth,
-        step,
-        number,
-    )
+    let count = step_kinds::stage_count(step);
+    let mut loops = depth;
+    let mut j = 0;
+    while j < count {
+        let accesses = header.accesses;
+        let arrays = header.arrays;
+        let stage = step_kinds::stage_at(step, j);
+        let status = take_stage(
+            limits,
+            counts,
+            &mut words[..accesses * ACCESS_ROOM],
+            &accessed[..accesses],
+            &extents[..arrays * ARRAY_ROOM],
+            loops,
+            stage,
+            number,
+        );
+        match status {
+            Status::Fine => {}
+            Status::Refused(r) => return Status::Refused(r),
+        }
+        loops = step_kinds::depth_after_stage(stage, loops);
+        j += 1;
+    }
+    Status::Fine
 }
 
 // ---- all steps

@@ -2,4 +2,5 @@
 pub mod NumberLaws
 pub mod DigitLaws
 pub mod SourceLaws
+pub mod ChainLaws
 pub mod WeightLaws

@@ -3,8 +3,9 @@ ghost use mathlib.Core.Path.{_≡_};
 ghost use mathlib.Core.Bool.{false};
 ghost use Prim.Native.Nat.{ℕ, _+_, _-_, _^_, _≤_, _<_};
 ghost use Rattle.integers.specs.Sign.{turned};
-ghost use Rattle.lists.specs.Place.{«under», onHead, swapped};
+ghost use Rattle.lists.specs.Place.{«under», onHead, swapped, swapAll};
 ghost use Rattle.model.specs.Directions.{vectorCount};
+ghost use Rattle.model.specs.Steps.{chain};
 ghost use Rattle.dependence_vectors.specs.Numbers.{base3};
 ghost use Rattle.step_preimages.specs.Numbers.{digitsOf, Digits};
 ghost use Rattle.step_preimages.specs.Weights.{ChangeIn};
@@ -54,6 +55,24 @@ pub fn exchange_source(n: usize, a: usize) -> usize
         3 => exchange_digits(n, 3),
         _ => exchange_digits(n, 1),
     }
+}
+
+// ---- circulation
+
+// The number of the vector that the circulation of loop a to place b turns into the one with number n: that of the way back, from b to a.
+pub fn circulation_source(n: usize, a: usize, b: usize) -> usize
+    requires { ⌜ SourceIn n (a + (b - a) + 1) ⌝ }
+    ensures { λ r. ⌜ Source (swapAll (chain b a)) (a + (b - a) + 1) n r ⌝ }
+{
+    let count = step_kinds::chain_length(b, a);
+    let mut m = n;
+    let mut j = 0;
+    while j < count {
+        let k = step_kinds::exchange_at(b, a, j);
+        m = exchange_source(m, k);
+        j += 1;
+    }
+    m
 }
 
 // ---- reversal

@@ -17,8 +17,8 @@ use Rattle.model.specs.Judge.{smallAccess}
 use Rattle.nest_flat.specs.Layout.{formsFrom, accessAt, accessesFrom, AccessesOk}
 use Rattle.nest_elements.proofs.LayoutLaws.{array-in, array-ends}
 use Rattle.nest_flat.proofs.FlatNestLaws.{accesses-append}
-use Rattle.step_kinds.specs.Kinds.{stepOf}
-use Rattle.step_kinds.specs.declared.Step.{Step}
+use Rattle.step_kinds.specs.Kinds.{stageOf}
+use Rattle.step_kinds.specs.declared.Stage.{Stage}
 use Rattle.step_subscripts.specs.After.{smallSubscript, subscriptsAfter, accessesAfter, ChangeIn, Changed, Changes, AccessesIn, AccessesAfter}
 use Rattle.step_subscripts.proofs.FormLaws.{rest-more, forms-front, forms-rest}
 use Rattle.step_subscripts.proofs.ChangeLaws.{depth-few, no}
@@ -53,9 +53,9 @@ pub record Passed (t : Model.Step) (w : List ℤ) (o a : List ℕ) (n : ℕ) (v 
   pub made : accessesFrom v o a (depthAfter t n) 0 k ≡ accessesAfter t w o a n k
   pub behind : drop (k * accessRoom) v ≡ drop (k * accessRoom) w
 
-module _ (w : List ℤ) (o a : List ℕ) (n : ℕ) (t : Step) (p : AccessesIn w o a n t) where
+module _ (w : List ℤ) (o a : List ℕ) (n : ℕ) (t : Stage) (p : AccessesIn w o a n t) where
   abbrev T′ : Model.Step
-  T′ = stepOf t
+  T′ = stageOf t
 
   abbrev held : AccessesOk w o a n
   held = p .held

@@ -22,9 +22,9 @@ use Rattle.model.specs.Grammar.{depthAfter}
 use Rattle.model.specs.Limits.{coefficientsAfter, subscriptAfter}
 use Rattle.model.specs.Judge.{small}
 use Rattle.nest_flat.specs.Layout.{formAt, formsFrom}
-use Rattle.step_kinds.specs.Kinds.{stepOf}
-use Rattle.step_kinds.specs.declared.Step.{Step}
-use Rattle.step_kinds.specs.declared.Step.the-variants.{Exchange, Reversal, Skew, Section}
+use Rattle.step_kinds.specs.Kinds.{stageOf}
+use Rattle.step_kinds.specs.declared.Stage.{Stage}
+use Rattle.step_kinds.specs.declared.Stage.the-variants.{Exchange, Reversal, Skew, Section}
 use Rattle.nest_index_range.proofs.LimitLaws.{within-drop}
 use Rattle.ticket_loops.proofs.PutLaws.{within-put}
 use Rattle.nest_rows.specs.Rows.{RowIs, Tried}
@@ -32,14 +32,14 @@ use Rattle.nest_rows.proofs.SmallLaws.{row-small}
 use Rattle.step_subscripts.specs.After.{smallSubscript, StepFits, ChangeIn, subscriptsAfter, Changed, Changes}
 use Rattle.step_subscripts.proofs.FormLaws.{front-less, rest-more, forms-front, forms-rest, forms-join, form-put}
 
-pub depth-few : (n : ℕ) (t : Step) → StepFits n t → depthAfter (stepOf t) n ≤ 6
+pub depth-few : (n : ℕ) (t : Stage) → StepFits n t → depthAfter (stageOf t) n ≤ 6
 unfolding depthAfter
 depth-few n (Exchange e) f = f .few
 depth-few n (Reversal e) f = f .few
 depth-few n (Skew e) f = f .few
 depth-few n (Section e) f = let h = f .there .1 in omega arith
 
-pub change-shallow : (w : List ℤ) (first count n m : ℕ) (t : Step) → ChangeIn w first count n m t → m ≤ 6
+pub change-shallow : (w : List ℤ) (first count n m : ℕ) (t : Stage) → ChangeIn w first count n m t → m ≤ 6
 change-shallow w first count n m t p = let s = depth-few n t (p .step) in let d = p .depth in omega arith
 
 -- ---- none, and two ranges
@@ -107,30 +107,30 @@ rowAt w n j = take n (drop (j * 8 + 1) w)
 pub row-in : (w : List ℤ) (j n : ℕ) → Within 32767 w → (cs : List ℤ) → RowIs n cs (rowAt w n j) → Within 32767 (take n cs)
 row-in w j n h cs e = subst (Within 32767) (sym (e .is)) (within-take 32767 (drop (j * 8 + 1) w) n (within-drop 32767 w (j * 8 + 1) h))
 
-module _ (w : List ℤ) (j n m : ℕ) (t : Step) (p : ChangeIn w j 1 n m t) (cs ds : List ℤ) (e : RowIs n cs (rowAt w n j))
-    (f : RowIs (depthAfter (stepOf t) n) ds (coefficientsAfter (stepOf t) (take n cs))) where
+module _ (w : List ℤ) (j n m : ℕ) (t : Stage) (p : ChangeIn w j 1 n m t) (cs ds : List ℤ) (e : RowIs n cs (rowAt w n j))
+    (f : RowIs (depthAfter (stageOf t) n) ds (coefficientsAfter (stageOf t) (take n cs))) where
   shallow : m ≤ 6
   shallow = change-shallow w j 1 n m t p
 
   abbrev row : List ℤ
-  row = coefficientsAfter (stepOf t) (rowAt w n j)
+  row = coefficientsAfter (stageOf t) (rowAt w n j)
 
   row-made : take m ds ≡ row
-  row-made = ap (λ i. take i ds) (p .depth) ∙ f .is ∙ ap (coefficientsAfter (stepOf t)) (e .is)
+  row-made = ap (λ i. take i ds) (p .depth) ∙ f .is ∙ ap (coefficientsAfter (stageOf t)) (e .is)
 
   row-length : length row ≡ m
   row-length = ap length (sym row-made) ∙ length-take-le m ds (let h = f .room in let s = shallow in omega arith)
 
-  one-test : all smallSubscript (subscriptsAfter (stepOf t) w n j 1) ≡ all small row
+  one-test : all smallSubscript (subscriptsAfter (stageOf t) w n j 1) ≡ all small row
   unfolding all formsFrom formAt subscriptAfter
   one-test = and-true _ ∙ ap (_&& all small row) (small-at w (j * 8) (p .small))
 
   module _ (v : List ℤ) (g : v ≡ put w (j * 8 + 1) row) (s : all small row ≡ true) where
-    one-made : formsFrom v (depthAfter (stepOf t) n) j 1 ≡ subscriptsAfter (stepOf t) w n j 1
+    one-made : formsFrom v (depthAfter (stageOf t) n) j 1 ≡ subscriptsAfter (stageOf t) w n j 1
     unfolding formsFrom formAt subscriptAfter
     one-made = ap (_∷ []) (ap₂ (λ x i. formAt x i j) g (sym (p .depth)) ∙ form-put w j row m row-length (let h = p .inside in omega arith))
 
-    one-changed : Changed (stepOf t) w n j 1 v
+    one-changed : Changed (stageOf t) w n j 1 v
     one-changed =
         let h = p .inside in
         let l = row-length in
@@ -144,7 +144,7 @@ module _ (w : List ℤ) (j n m : ℕ) (t : Step) (p : ChangeIn w j 1 n m t) (cs 
           behind = ap (drop ((j + 1) * 8)) g ∙ drop-put w (j * 8 + 1) row ((j + 1) * 8) (omega arith) (omega arith);
         }
 
-  pub change-tried : (v : List ℤ) (r : Bool) → Tried (all small (take m ds)) w (j * 8 + 1) (take m ds) r v → Changes (stepOf t) w n j 1 v r
+  pub change-tried : (v : List ℤ) (r : Bool) → Tried (all small (take m ds)) w (j * 8 + 1) (take m ds) r v → Changes (stageOf t) w n j 1 v r
   change-tried v r q =
       let a : r ≡ all small row = q .passed ∙ ap (all small) row-made in
       record { room = q .room; test = a ∙ sym one-test; changed = λ b. one-changed v (q .made b ∙ ap (put w (j * 8 + 1)) row-made) (sym a ∙ b) }
@@ -154,27 +154,27 @@ module _ (w : List ℤ) (j n m : ℕ) (t : Step) (p : ChangeIn w j 1 n m t) (cs 
 pub no : false ≡ true → ⊥
 no e = false-not-T true (sym e) tt
 
-module _ (w : List ℤ) (first count n m : ℕ) (t : Step) (p : ChangeIn w first count n m t) (v : List ℤ) (d : ℕ)
-    (c : Changed (stepOf t) w n first d v) where
+module _ (w : List ℤ) (first count n m : ℕ) (t : Stage) (p : ChangeIn w first count n m t) (v : List ℤ) (d : ℕ)
+    (c : Changed (stageOf t) w n first d v) where
   module _ (h : d < count) where
     pub next-in : ChangeIn v (first + d) 1 n m t
     next-in = let i = p .inside in let r = c .room in record { step = p .step; depth = p .depth; inside = omega arith; small = c .small }
 
-    module _ (u : List ℤ) (r : Bool) (g : Changes (stepOf t) v n (first + d) 1 u r) where
-      pub next-fails : r ≡ false → Changes (stepOf t) w n first count u false
+    module _ (u : List ℤ) (r : Bool) (g : Changes (stageOf t) v n (first + d) 1 u r) where
+      pub next-fails : r ≡ false → Changes (stageOf t) w n first count u false
       next-fails e = record {
         room = g .room ∙ c .room;
-        test = sym (changed-broken (stepOf t) n w first d v c count h (sym (g .test) ∙ e));
+        test = sym (changed-broken (stageOf t) n w first d v c count h (sym (g .test) ∙ e));
         changed = λ b. absurd (no b);
       }
 
-      pub next-passes : r ≡ true → Changed (stepOf t) w n first (d + 1) u
-      next-passes e = changed-join (stepOf t) n w first d v c (depth-few n t (p .step)) 1 u (g .changed e)
+      pub next-passes : r ≡ true → Changed (stageOf t) w n first (d + 1) u
+      next-passes e = changed-join (stageOf t) n w first d v c (depth-few n t (p .step)) 1 u (g .changed e)
 
-  pub all-pass : d ≤ count → count ≤ d → Changes (stepOf t) w n first count v true
+  pub all-pass : d ≤ count → count ≤ d → Changes (stageOf t) w n first count v true
   all-pass h k = let q : d ≡ count = omega arith in
       record {
         room = c .room;
-        test = sym (subst (λ i. all smallSubscript (subscriptsAfter (stepOf t) w n first i) ≡ true) q (c .passed));
-        changed = λ _. subst (λ i. Changed (stepOf t) w n first i v) q c;
+        test = sym (subst (λ i. all smallSubscript (subscriptsAfter (stageOf t) w n first i) ≡ true) q (c .passed));
+        changed = λ _. subst (λ i. Changed (stageOf t) w n first i v) q c;
       }

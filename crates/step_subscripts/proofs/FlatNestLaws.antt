@@ -24,8 +24,8 @@ use Rattle.nest_flat.specs.Flat.{loopsFrom, NestOk}
 use Rattle.nest_flat.specs.Layout.{arraysOf, accessAt, accessesFrom, AccessesOk}
 use Rattle.nest_flat.specs.FlatNests.{FlatNest, extentsIn, sizesIn, accessedIn, wordsIn, statementsFrom, nestOf, FlatNestIn, noAccess}
 use Rattle.nest_flat.proofs.FlatNestLaws.{access-at, all-accesses, accessed-count}
-use Rattle.step_kinds.specs.Kinds.{stepOf}
-use Rattle.step_kinds.specs.declared.Step.{Step}
+use Rattle.step_kinds.specs.Kinds.{stageOf}
+use Rattle.step_kinds.specs.declared.Stage.{Stage}
 use Rattle.step_subscripts.specs.After.{accessesAfter, AccessesIn, AccessesAfter}
 use Rattle.step_subscripts.specs.Relaid.{Relaid, AccessesMoved}
 
@@ -149,7 +149,7 @@ flat-nest-after P Q h r n d a l =
 
 module _ (P : FlatNest) (h : FlatNestIn P) where
   -- a flat nest's accesses can be lent to it
-  pub accesses-in : (t : Step) → StepThere (P .depth) (stepOf t) → AccessesIn (wordsIn P) (accessedIn P) (extentsIn P) (P .depth) t
+  pub accesses-in : (t : Stage) → StepThere (P .depth) (stageOf t) → AccessesIn (wordsIn P) (accessedIn P) (extentsIn P) (P .depth) t
   accesses-in t g = record { step = record { few = h .accesses-ok .shallow; there = g }; held = h .accesses-ok }
 
   module _ (t : Model.Step) (v : List ℤ) where

@@ -9,17 +9,17 @@ use Rattle.model.specs.Grammar.{depthAfter}
 use Rattle.model.specs.Ranges.{StepThere}
 use Rattle.model.specs.Limits.{coefficientsAfter}
 use Rattle.nest_rows.specs.Rows.{RowIs}
-use Rattle.step_kinds.specs.Kinds.{stepOf}
-use Rattle.step_kinds.specs.declared.Step.{Step}
+use Rattle.step_kinds.specs.Kinds.{stageOf}
+use Rattle.step_kinds.specs.declared.Stage.{Stage}
 use Rattle.step_subscripts.specs.After.{StepFits}
 
-module _ (t d : Step) (n : ℕ) (e : t ≡ d) where
-  pub there : StepFits n t → StepThere n (stepOf d)
-  there f = subst (λ (x : Step). StepThere n (stepOf x)) e (f .there)
+module _ (t d : Stage) (n : ℕ) (e : t ≡ d) where
+  pub there : StepFits n t → StepThere n (stageOf d)
+  there f = subst (λ (x : Stage). StepThere n (stageOf x)) e (f .there)
 
-  pub row-is : (cs r : List ℤ) → take (depthAfter (stepOf d) n) r ≡ coefficientsAfter (stepOf d) (take n cs) → length r ≡ 6
-      → RowIs (depthAfter (stepOf t) n) r (coefficientsAfter (stepOf t) (take n cs))
-  row-is cs r f l = subst (λ (x : Step). RowIs (depthAfter (stepOf x) n) r (coefficientsAfter (stepOf x) (take n cs))) (sym e)
+  pub row-is : (cs r : List ℤ) → take (depthAfter (stageOf d) n) r ≡ coefficientsAfter (stageOf d) (take n cs) → length r ≡ 6
+      → RowIs (depthAfter (stageOf t) n) r (coefficientsAfter (stageOf t) (take n cs))
+  row-is cs r f l = subst (λ (x : Stage). RowIs (depthAfter (stageOf x) n) r (coefficientsAfter (stageOf x) (take n cs))) (sym e)
       (record { is = f; room = l })
 
 -- one coefficient more

@@ -14,8 +14,8 @@ use Rattle.model.specs.Ranges.{StepThere}
 use Rattle.model.specs.Limits.{subscriptAfter, accessAfter}
 use Rattle.model.specs.Judge.{small, smallAccess}
 use Rattle.nest_flat.specs.Layout.{formsFrom, accessesFrom, AccessesOk}
-use Rattle.step_kinds.specs.Kinds.{stepOf}
-use Rattle.step_kinds.specs.declared.Step.{Step}
+use Rattle.step_kinds.specs.Kinds.{stageOf}
+use Rattle.step_kinds.specs.declared.Stage.{Stage}
 
 -- every number within ±32767, as `smallAccess` tests it
 abbrev pub smallSubscript : Model.Subscript → Bool
@@ -24,18 +24,18 @@ smallSubscript s = small (s .constant) && all small (s .coefficients)
 -- ---- what a step asks
 
 -- the loops that it names are there
-pub record StepFits (n : ℕ) (t : Step) : Type 0 where
+pub record StepFits (n : ℕ) (t : Stage) : Type 0 where
   pub few : n ≤ mostLoops
-  pub there : StepThere n (stepOf t)
+  pub there : StepThere n (stageOf t)
 
 -- of `count` subscripts from number `first` on; m is the number of loops after the step
-pub record ChangeIn (w : List ℤ) (first count n m : ℕ) (t : Step) : Type 0 where
+pub record ChangeIn (w : List ℤ) (first count n m : ℕ) (t : Stage) : Type 0 where
   pub step : StepFits n t
-  pub depth : m ≡ depthAfter (stepOf t) n
+  pub depth : m ≡ depthAfter (stageOf t) n
   pub inside : (first + count) * 8 ≤ length w
   pub small : Within 32767 w
 
-pub record AccessesIn (w : List ℤ) (o a : List ℕ) (n : ℕ) (t : Step) : Type 0 where
+pub record AccessesIn (w : List ℤ) (o a : List ℕ) (n : ℕ) (t : Stage) : Type 0 where
   pub step : StepFits n t
   pub held : AccessesOk w o a n
 

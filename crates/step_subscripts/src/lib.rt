@@ -1,36 +1,36 @@
-// What a step makes of the subscripts of all accesses, on the slice where they are laid out (`nest_flat`, specs/Layout), with the test of
-// refusal 12. n is the number of loops before the step, m that after it.
+// What a stage of a step makes of the subscripts of all accesses, on the slice where they are laid out (`nest_flat`, specs/Layout), with the test of
+// refusal 12. n is the number of loops before the stage, m that after it.
 ghost use lib.ListN.{take};
 ghost use Rattle.integers.specs.Affine.{Within};
 ghost use Rattle.model.specs.Grammar.{depthAfter};
 ghost use Rattle.model.specs.Limits.{coefficientsAfter};
 ghost use Rattle.nest_rows.specs.Rows.{RowIs};
-ghost use Rattle.step_kinds.specs.Kinds.{stepOf};
+ghost use Rattle.step_kinds.specs.Kinds.{stageOf};
 ghost use Rattle.step_subscripts.specs.After.{StepFits, ChangeIn, Changes, AccessesIn, AccessesAfter};
 use model::ARRAY_ROOM;
 use model::LOOPS;
-use step_kinds::Step;
+use step_kinds::Stage;
 
-fn row_after(cs: [i32; LOOPS], n: usize, step: Step) -> [i32; LOOPS]
-    requires { ⌜ StepFits n step × Within 32767 (take n cs) ⌝ }
-    ensures { λ r. ⌜ RowIs (depthAfter (stepOf step) n) r (coefficientsAfter (stepOf step) (take n cs)) ⌝ }
+fn row_after(cs: [i32; LOOPS], n: usize, stage: Stage) -> [i32; LOOPS]
+    requires { ⌜ StepFits n stage × Within 32767 (take n cs) ⌝ }
+    ensures { λ r. ⌜ RowIs (depthAfter (stageOf stage) n) r (coefficientsAfter (stageOf stage) (take n cs)) ⌝ }
 {
-    match step {
-        Step::Exchange(e) => {
+    match stage {
+        Stage::Exchange(e) => {
             let a = e.outer;
             step_limits::exchange_row(cs, n, a)
         }
-        Step::Reversal(e) => {
+        Stage::Reversal(e) => {
             let a = e.target;
             step_limits::reverse_row(cs, n, a)
         }
-        Step::Skew(e) => {
+        Stage::Skew(e) => {
             let a = e.outer;
             let d = e.distance;
             let factor = e.factor;
             step_limits::skew_row(cs, n, a, d, factor)
         }
-        Step::Section(e) => {
+        Stage::Section(e) => {
             let a = e.target;
             let w = e.width as u32;
             step_limits::section_row(cs, n, a, w)
@@ -39,13 +39,13 @@ fn row_after(cs: [i32; LOOPS], n: usize, step: Step) -> [i32; LOOPS]
 }
 
 // Subscript j of all; its constant stands.
-fn change_subscript(words: &mut [i16], j: usize, n: usize, m: usize, step: Step) -> bool
-    requires { ⌜ ChangeIn (now words) j 1 n m step ⌝ }
-    ensures { λ r. ⌜ Changes (stepOf step) (now (words .entry)) n j 1 (now (words .exit)) r ⌝ }
+fn change_subscript(words: &mut [i16], j: usize, n: usize, m: usize, stage: Stage) -> bool
+    requires { ⌜ ChangeIn (now words) j 1 n m stage ⌝ }
+    ensures { λ r. ⌜ Changes (stageOf stage) (now (words .entry)) n j 1 (now (words .exit)) r ⌝ }
 {
     let at = j * 8 + 1;
     let cs = nest_rows::row_at(words, at);
-    let ds = row_after(cs, n, step);
+    let ds = row_after(cs, n, stage);
     nest_rows::put_row(words, at, m, ds)
 }
 
@@ -56,14 +56,14 @@ fn change_subscripts(
     count: usize,
     n: usize,
     m: usize,
-    step: Step,
+    stage: Stage,
 ) -> bool
-    requires { ⌜ ChangeIn (now words) first count n m step ⌝ }
-    ensures { λ r. ⌜ Changes (stepOf step) (now (words .entry)) n first count (now (words .exit)) r ⌝ }
+    requires { ⌜ ChangeIn (now words) first count n m stage ⌝ }
+    ensures { λ r. ⌜ Changes (stageOf stage) (now (words .entry)) n first count (now (words .exit)) r ⌝ }
 {
     let mut d = 0;
     while d < count {
-        if !change_subscript(words, first + d, n, m, step) {
+        if !change_subscript(words, first + d, n, m, stage) {
             return false;
         }
         d += 1;
@@ -77,17 +77,17 @@ pub fn change_accesses(
     accessed: &[usize],
     extents: &[usize],
     depth: usize,
-    step: Step,
+    stage: Stage,
 ) -> bool
-    requires { ⌜ AccessesIn (now words) (now accessed) (now extents) depth step ⌝ }
-    ensures { λ r. ⌜ AccessesAfter (stepOf step) (now (words .entry)) (now (accessed .entry)) (now (extents .entry)) depth (now (words .exit)) r ⌝ }
+    requires { ⌜ AccessesIn (now words) (now accessed) (now extents) depth stage ⌝ }
+    ensures { λ r. ⌜ AccessesAfter (stageOf stage) (now (words .entry)) (now (accessed .entry)) (now (extents .entry)) depth (now (words .exit)) r ⌝ }
 {
-    let m = step_kinds::depth_after(step, depth);
+    let m = step_kinds::depth_after_stage(stage, depth);
     let mut k = 0;
     while k < accessed.len() {
         let at = accessed[k] * ARRAY_ROOM;
         let count = extents[at];
-        if !change_subscripts(words, k * 3, count, depth, m, step) {
+        if !change_subscripts(words, k * 3, count, depth, m, stage) {
             return false;
         }
         k += 1;

@@ -17,7 +17,8 @@ use Rattle.integers.specs.Sign.{eqZ}
 use Rattle.model.specs.Answer as Answer
 use Rattle.model.specs.Answer.{Answer, accepted, refused, require}
 use Rattle.model.specs.Ticket as Model
-use Rattle.model.specs.Grammar.{Read, Reader, _>>=_, _>>_, done, must, mustAt, between, within, natural, number, loopNumber, mostFactor, skewStep, stepOf, depthAfter, stepsFrom}
+use Rattle.model.specs.Grammar.{Read, Reader, _>>=_, _>>_, done, must, mustAt, between, within, natural, number, loopNumber, mostFactor, skewStep}
+use Rattle.model.specs.Grammar.{stepKinds, stepOf, depthAfter, stepsFrom}
 use Rattle.ticket_words.proofs.ReaderLaws.{after-value, after-refusal, regrouped, before, before-none, before-one}
 use Rattle.ticket_steps.specs.Steps.{nextLoop, sectionable, factor, oneStep, NumberedFrom}
 use Rattle.ticket_steps.specs.declared.Numbered.{Numbered}
@@ -207,7 +208,7 @@ numbered-next l i x h e n =
 one-step : (k m n : ℕ) (b : List ℕ) (j : ℕ) → stepsFrom k m (suc n) b j ≡ (oneStep k m >>=
     (λ t. stepsFrom (suc k) (depthAfter t m) n >>= (λ rest. done (t ∷ rest)))) b j
 unfolding stepsFrom oneStep
-one-step k m n b j = regrouped (natural 1 4) (λ kind. stepOf kind k m) _ b j
+one-step k m n b j = regrouped (natural 1 stepKinds) (λ kind. stepOf kind k m) _ b j
 
 module _ (b : List ℕ) (n i m j : ℕ) (vs : List Model.Step) where
   left : i < n → n - i ≡ suc (n - (i + 1))

@@ -15,6 +15,8 @@ use Rattle.model.specs.Ranges.{InRange}
 use Rattle.ticket_refusals.specs.Refusals.{refusal}
 use Rattle.ticket_words.specs.Reads.{Reached, Reads}
 use Rattle.ticket_words.specs.Words.{numberAnswer}
+use Rattle.ticket_words.specs.declared.Natural.{Natural}
+use Rattle.ticket_words.specs.declared.Natural.the-variants as Natural
 use Rattle.ticket_words.specs.declared.Number.{Number}
 use Rattle.ticket_words.specs.declared.Number.the-variants as Number
 use Rattle.step_kinds.specs.Kinds.{stepOf}
@@ -53,6 +55,14 @@ nextLoop a m = cond (ltb a m) (a + 1) a
 abbrev pub sectionable : ℕ → ℕ
 sectionable m = cond (ltb m mostLoops) m 0
 
+-- a loop other than loop a, as a circulation's b
+abbrev pub otherLoop : ℕ → ℕ → ℤ → Bool
+otherLoop m a w = Grammar.between (pos 1) (pos m) w && not (eqZ w (pos a))
+
+abbrev pub OnOther : ℕ → Natural → Type 0
+OnOther a (Natural.Value v) = v ≡ a → ⊥
+OnOther a (Natural.Refused r) = Unit {0}
+
 -- the word c of a skew: its factor
 unfoldable pub isFactor : ℤ → Bool
 isFactor c = Grammar.between (negℤ (pos Grammar.mostFactor)) (pos Grammar.mostFactor) c && not (eqZ c (pos 0))
@@ -78,7 +88,7 @@ pub record ReadsFactor (b : List ℕ) (k : ℕ) (r : Number) : Type 0 where
 -- the kind and what follows it
 unfoldable pub oneStep : ℕ → ℕ → Reader Model.Step
 oneStep k m = do
-  kind ← Grammar.natural 1 4
+  kind ← Grammar.natural 1 Grammar.stepKinds
   Grammar.stepOf kind k m
 
 -- ---- the section

@@ -5,10 +5,14 @@ ghost use Rattle.model.specs.Words.{signed};
 ghost use Rattle.model.specs.Grammar as Grammar;
 ghost use Rattle.model.specs.Grammar.{mostLoops};
 ghost use Rattle.ticket_words.specs.Reads.{Reached};
+ghost use Rattle.ticket_words.specs.Words.{ReadNatural};
 ghost use Rattle.ticket_steps.specs.Steps.{ReadsStep, isFactor, ReadsFactor, ReadsSteps, StepsIn, nextLoop, sectionable, oneStep};
+ghost use Rattle.ticket_steps.specs.Steps.{otherLoop, OnOther};
 ghost use Rattle.ticket_refusals.specs.declared.Status.the-variants.{Refused};
 ghost use lib.ListN.{length};
 use model::LOOPS;
+use model::STEP_KINDS;
+use step_kinds::Circulation;
 use step_kinds::Exchange;
 use step_kinds::Reversal;
 use step_kinds::Section;
@@ -164,11 +168,48 @@ pub fn read_section(s: &[u8], at: usize, number: usize, depth: usize) -> StepRea
     }
 }
 
+// The number of a loop other than loop a.
+fn read_other_loop(s: &[u8], at: usize, number: usize, depth: usize, a: usize) -> Natural
+    requires { ⌜ Reached (now s) at × (depth ≤ mostLoops) ⌝ }
+    ensures { λ r. ⌜ ReadNatural (Grammar.loopNumber number (otherLoop depth a) (now (s .entry)) at) 1 depth (now (s .entry)) at r × OnOther a r ⌝ }
+{
+    match ticket_words::read_loop_number(s, at, number, 1, depth) {
+        Natural::Value(v) => {
+            if v == a {
+                return Natural::Refused(Refusal::LoopOutOfNest(number));
+            }
+            Natural::Value(v)
+        }
+        Natural::Refused(r) => Natural::Refused(r),
+    }
+}
+
+pub fn read_circulation(s: &[u8], at: usize, number: usize, depth: usize) -> StepRead
+    requires { ⌜ Reached (now s) at × (depth ≤ mostLoops) ⌝ }
+    ensures { λ r. ⌜ ReadsStep (Grammar.circulationStep number depth (now (s .entry)) at) (now (s .entry)) at depth r ⌝ }
+{
+    let a = match ticket_words::read_loop_number(s, at, number, 1, depth) {
+        Natural::Value(v) => v,
+        Natural::Refused(r) => return StepRead::Refused(r),
+    };
+    let b = match read_other_loop(s, at + 1, number, depth, a) {
+        Natural::Value(v) => v,
+        Natural::Refused(r) => return StepRead::Refused(r),
+    };
+    match ticket_words::read_natural(s, at + 2, 0, 0) {
+        Natural::Value(_) => StepRead::Taken(Step::Circulation(Circulation {
+            from: a - 1,
+            to: b - 1,
+        })),
+        Natural::Refused(r) => StepRead::Refused(r),
+    }
+}
+
 pub fn read_step(s: &[u8], at: usize, number: usize, depth: usize) -> StepRead
     requires { ⌜ Reached (now s) at × (depth ≤ mostLoops) ⌝ }
     ensures { λ r. ⌜ ReadsStep (oneStep number depth (now (s .entry)) at) (now (s .entry)) (at + 1) depth r ⌝ }
 {
-    let kind = match ticket_words::read_natural(s, at, 1, 4) {
+    let kind = match ticket_words::read_natural(s, at, 1, STEP_KINDS) {
         Natural::Value(v) => v,
         Natural::Refused(r) => return StepRead::Refused(r),
     };
@@ -176,7 +217,8 @@ pub fn read_step(s: &[u8], at: usize, number: usize, depth: usize) -> StepRead
         1 => read_exchange(s, at + 1, number, depth),
         2 => read_reversal(s, at + 1, number, depth),
         3 => read_skew(s, at + 1, number, depth),
-        _ => read_section(s, at + 1, number, depth),
+        4 => read_section(s, at + 1, number, depth),
+        _ => read_circulation(s, at + 1, number, depth),
     }
 }
 

@@ -66,7 +66,9 @@ impl Subject {
             .map(|array| array.extents.iter().map(|e| *e as usize).product::<usize>());
         let store = vec![1; elements.sum()];
         let ticket = Ticket::from_nest(&nest).expect("a kernel's nest is a ticket");
-        let (iterations, conflicts) = twin::size(ticket.as_bytes()).expect("a kernel is admitted");
+        // The twin knows no circulations.
+        let plain = Ticket::from_nest(&nest.without_steps()).expect("a kernel's nest is a ticket");
+        let (iterations, conflicts) = twin::size(plain.as_bytes()).expect("a kernel is admitted");
         Subject {
             ticket,
             out: vec![0; 65_536],
@@ -82,6 +84,16 @@ impl Subject {
 
     pub fn call(&mut self, call: Call) {
         black_box(call(self));
+    }
+
+    /// Both tickets must be answered alike.
+    pub fn answers_as(&mut self, other: &mut Subject, entry: &Entry) {
+        assert_eq!((entry.proved)(self), (entry.proved)(other), "{} answers differently", entry.name);
+        assert!(
+            self.out == other.out && self.store == other.store,
+            "{} leaves other memory",
+            entry.name
+        );
     }
 
     /// Both sides must do the same: answers and memory.

@@ -8,8 +8,8 @@ use crate::calls::{Entry, Subject};
 pub struct Effort {
     pub passes: usize,
     /// For each side in a pass.
-    batches: usize,
-    batch: Duration,
+    pub batches: usize,
+    pub batch: Duration,
 }
 
 impl Effort {
@@ -44,7 +44,8 @@ impl Times {
     }
 }
 
-fn batch(calls: u32, mut call: impl FnMut()) -> f64 {
+/// Nanoseconds for each of so many calls.
+pub fn batch(calls: u32, mut call: impl FnMut()) -> f64 {
     let begun = Instant::now();
     for _ in 0..calls {
         call();
@@ -53,7 +54,7 @@ fn batch(calls: u32, mut call: impl FnMut()) -> f64 {
 }
 
 /// How many calls fill a batch; finding out is the warm-up.
-fn calls_for(length: Duration, mut call: impl FnMut()) -> u32 {
+pub fn calls_for(length: Duration, mut call: impl FnMut()) -> u32 {
     let mut calls = 1;
     while batch(calls, &mut call) * (calls as f64) < length.as_nanos() as f64 {
         calls *= 2;

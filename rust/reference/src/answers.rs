@@ -52,8 +52,7 @@ pub struct Admitted {
     pub lines: BTreeSet<Line>,
 }
 
-fn admitted(bytes: &[u8]) -> Result<Admitted, Refusal> {
-    let ticket = reading::read(bytes)?;
+fn admitted(ticket: Ticket) -> Result<Admitted, Refusal> {
     let points = admit(&ticket.nest)?;
     let lines = conflicts(&ticket.nest, &points);
     Ok(Admitted { ticket, points, lines })
@@ -71,16 +70,10 @@ fn stepped(admitted: &Admitted) -> Result<Nest, Refusal> {
     let mut set = vectors(&admitted.lines);
     for (number, step) in (1..).zip(&admitted.ticket.steps) {
         set = set.iter().flat_map(|vector| mapped(step, vector)).collect();
-        nest = limits::after(step, &nest);
         if set.iter().any(|vector| backwards(vector)) {
             return Err(Refusal::new(10, number));
         }
-        if limits::full(&nest) {
-            return Err(Refusal::new(11, number));
-        }
-        if limits::big(&nest) {
-            return Err(Refusal::new(12, number));
-        }
+        nest = limits::after(step, &nest).map_err(|refused| Refusal::new(refused, number))?;
     }
     Ok(nest)
 }
@@ -93,7 +86,12 @@ pub struct Answers {
 
 impl Answers {
     pub fn to(ticket: &[u8]) -> Answers {
-        let admitted = admitted(ticket);
+        Answers::of(reading::read(ticket))
+    }
+
+    /// The same of a ticket that is read, or refused as it is. It may have more steps than a ticket's bytes.
+    pub fn of(read: Result<Ticket, Refusal>) -> Answers {
+        let admitted = read.and_then(admitted);
         let judged = match &admitted {
             Ok(admitted) => stepped(admitted).and_then(|nest| {
                 let points = spread(&nest)?;

@@ -186,5 +186,10 @@ pub fn mapped(step: &Step, vector: &[Sign]) -> Vec<Vector> {
             let parts = parts(vector[a]).into_iter();
             parts.map(|pair| [outside, &pair, inside].concat()).collect()
         }
+        Step::Circulation { a, b } => {
+            let sign = new.remove(a);
+            new.insert(b, sign);
+            vec![new]
+        }
     }
 }

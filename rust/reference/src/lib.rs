@@ -1,6 +1,6 @@
-//! Document 01 the slow obvious way, for tests only.
+//! Document 01 the slow obvious way, with the circulations of document 02 (L1), for tests only.
 //!
-//! It was written from the document alone and shares no code with the library that it is compared with. Each module has the name of the
+//! It was written from the documents alone and shares no code with the library that it is compared with. Each module has the name of the
 //! document's section that it says: `ticket` (with `reading` and `writing` of its bytes), `answers`, `points` (partial points and the
 //! refusals that ask for them), `directions`, `limits` after a step, `quick` test, `run`, `plain_run` and `echo` (the listing's text).
 //! The five functions [`judge`], [`write`], [`list`], [`quick`] and [`run`] mean what the entries of that name mean.

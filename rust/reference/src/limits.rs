@@ -2,14 +2,25 @@
 
 use crate::ticket::{Affine, Limit, Loop, Nest, Step};
 
-/// The nest after a step, before 11 and 12 are asked.
-pub fn after(step: &Step, nest: &Nest) -> Nest {
-    match *step {
-        Step::Exchange { a } => exchanged(nest, a),
-        Step::Reversal { a } => reversed(nest, a),
-        Step::Skew { a, b, c } => skewed(nest, a, b, c),
-        Step::Section { a, width } => sectioned(nest, a, width),
+/// The nest after a step, or the number of its refusal: after each exchange of a circulation 11 is asked, then 12.
+pub fn after(step: &Step, nest: &Nest) -> Result<Nest, u8> {
+    let mut new = nest.clone();
+    for stage in step.stages() {
+        new = match stage {
+            Step::Exchange { a } => exchanged(&new, a),
+            Step::Reversal { a } => reversed(&new, a),
+            Step::Skew { a, b, c } => skewed(&new, a, b, c),
+            Step::Section { a, width } => sectioned(&new, a, width),
+            Step::Circulation { .. } => unreachable!("its stages are exchanges"),
+        };
+        if full(&new) {
+            return Err(11);
+        }
+        if big(&new) {
+            return Err(12);
+        }
     }
+    Ok(new)
 }
 
 /// Every limit of the loops deeper than loop a, and every subscript.
@@ -200,13 +211,13 @@ fn exchanged(nest: &Nest, a: usize) -> Nest {
 }
 
 /// 11: a side of a loop has more than 16 limits.
-pub fn full(nest: &Nest) -> bool {
+fn full(nest: &Nest) -> bool {
     let mut loops = nest.loops.iter();
     loops.any(|l| l.lower.len() > 16 || l.upper.len() > 16)
 }
 
 /// 12: a number of the nest is beyond ±32767.
-pub fn big(nest: &Nest) -> bool {
+fn big(nest: &Nest) -> bool {
     let beyond = |n: &i64| n.abs() > 32_767;
     let big = |e: &Affine| beyond(&e.constant) || e.coefficients.iter().any(beyond);
     let limits = |l: &Loop| {

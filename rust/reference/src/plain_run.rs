@@ -19,6 +19,7 @@ fn undone(step: &Step, point: &mut Point) {
             let within = point.remove(a + 1);
             point[a] = width * point[a] + within;
         }
+        Step::Circulation { .. } => step.stages().iter().rev().for_each(|exchange| undone(exchange, point)),
     }
 }
 

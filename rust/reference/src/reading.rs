@@ -9,6 +9,8 @@ struct Words<'a> {
     bytes: &'a [u8],
     /// Words read so far, so that the last one read has this number.
     read: usize,
+    /// The kinds of the steps read so far.
+    kinds: Vec<i64>,
 }
 
 impl Words<'_> {
@@ -130,12 +132,13 @@ impl Words<'_> {
     fn step(&mut self, step: usize, loops: usize) -> Result<Step, Refusal> {
         let loops = loops as i64;
         let there = |word: i64| 1 <= word && word <= loops;
-        let kind = self.within(1, 4)?;
+        let kind = self.within(1, 5)?;
+        self.kinds.push(kind);
         let a = self.named(step, |a| there(a) && (kind != 4 || loops < 6))?;
-        let outer = a as i64 + 1;
+        let first = a as i64 + 1;
         match kind {
             1 => {
-                self.named(step, |b| there(b) && b == outer + 1)?;
+                self.named(step, |b| there(b) && b == first + 1)?;
                 self.within(0, 0)?;
                 Ok(Step::Exchange { a })
             }
@@ -145,17 +148,22 @@ impl Words<'_> {
                 Ok(Step::Reversal { a })
             }
             3 => {
-                let b = self.named(step, |b| there(b) && b > outer)?;
+                let b = self.named(step, |b| there(b) && b > first)?;
                 let c = self.within(-1, 1)?;
                 if c == 0 {
                     return Err(self.here(4));
                 }
                 Ok(Step::Skew { a, b, c })
             }
-            _ => {
+            4 => {
                 let width = self.within(2, 256)?;
                 self.within(0, 0)?;
                 Ok(Step::Section { a, width })
+            }
+            _ => {
+                let b = self.named(step, |b| there(b) && b != first)?;
+                self.within(0, 0)?;
+                Ok(Step::Circulation { a, b })
             }
         }
     }
@@ -174,15 +182,34 @@ impl Words<'_> {
     }
 }
 
-pub fn read(bytes: &[u8]) -> Result<Ticket, Refusal> {
-    let mut words = Words { bytes, read: 0 };
+fn ticket(words: &mut Words) -> Result<Ticket, Refusal> {
     let loops = words.loops()?;
     let arrays = words.arrays()?;
     let statements = words.statements(loops.len(), &arrays)?;
     let steps = words.steps(loops.len())?;
-    if bytes.len() > 2 * words.read {
+    if words.bytes.len() > 2 * words.read {
         return Err(Refusal::new(2, words.read + 1));
     }
     let nest = Nest { loops, arrays, statements };
     Ok(Ticket { nest, steps })
+}
+
+fn words(bytes: &[u8]) -> Words<'_> {
+    Words {
+        bytes,
+        read: 0,
+        kinds: vec![],
+    }
+}
+
+pub fn read(bytes: &[u8]) -> Result<Ticket, Refusal> {
+    ticket(&mut words(bytes))
+}
+
+/// The kinds of the steps, as far as a ticket can be read: those of an unreadable one end at the step with the first offending word.
+pub fn kinds(bytes: &[u8]) -> Vec<i64> {
+    let mut words = words(bytes);
+    // The kinds are asked for, whatever becomes of the rest.
+    let _ = ticket(&mut words);
+    words.kinds
 }

@@ -109,6 +109,22 @@ pub enum Step {
         a: usize,
         width: i64,
     },
+    /// Loop a goes to place b, and those between close up.
+    Circulation {
+        a: usize,
+        b: usize,
+    },
+}
+
+impl Step {
+    /// What is done one after another: the neighbouring exchanges that bring loop a to place b, or the step itself.
+    pub fn stages(&self) -> Vec<Step> {
+        match *self {
+            Step::Circulation { a, b } if a < b => (a..b).map(|a| Step::Exchange { a }).collect(),
+            Step::Circulation { a, b } => (b..a).rev().map(|a| Step::Exchange { a }).collect(),
+            step => vec![step],
+        }
+    }
 }
 
 #[derive(Clone, PartialEq, Eq, Debug)]

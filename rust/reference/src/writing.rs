@@ -29,6 +29,7 @@ fn step(words: &mut Vec<i64>, step: &Step) {
         Step::Reversal { a } => [2, from_1(a), 0, 0],
         Step::Skew { a, b, c } => [3, from_1(a), from_1(b), c],
         Step::Section { a, width } => [4, from_1(a), width, 0],
+        Step::Circulation { a, b } => [5, from_1(a), from_1(b), 0],
     });
 }
 

@@ -1,6 +1,7 @@
 //! The generator reaches every answer, and what the reference accepts keeps every array: demand 3 of document 01.
 
 use reference::plain_run::{Turn, order, plain_run};
+use reference::reading::kinds;
 use reference::ticket::{Nest, Ticket};
 use reference::tickets::{as_words, ticket};
 use reference::{Answers, judge};
@@ -54,4 +55,26 @@ fn accepted_orders_end_alike() {
         accepted += usize::from(!steps.is_empty() && !admitted.lines.is_empty());
     }
     assert!(accepted > 500, "{accepted} tickets with conflicts and steps were accepted");
+}
+
+#[test]
+fn circulations_get_every_answer_of_theirs() {
+    let (mut tickets, mut of_eight, mut seen) = (0, 0, [0; 17]);
+    for index in 0..TICKETS {
+        let bytes = ticket(SEED, index);
+        let circulations = kinds(&bytes).iter().filter(|kind| **kind == 5).count();
+        if circulations > 0 {
+            tickets += 1;
+            of_eight += usize::from(circulations == 8);
+            seen[judge(&bytes).number as usize] += 1;
+        }
+    }
+    println!("{tickets} tickets, {of_eight} of eight circulations, {seen:?}");
+    assert!(
+        tickets > TICKETS * 2 / 5 && of_eight >= 10,
+        "{tickets}, {of_eight} of eight circulations"
+    );
+    for number in [0, 1, 4, 6, 10, 11, 12, 13] {
+        assert!(seen[number] >= 5, "number {number} occurs {} times: {seen:?}", seen[number]);
+    }
 }

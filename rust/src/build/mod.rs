@@ -27,6 +27,25 @@ use std::fmt;
 /// # Ok::<(), Box<dyn std::error::Error>>(())
 /// ```
 ///
+/// One step moves a loop across several:
+///
+/// ```
+/// use hurkeztor::{NestBuilder, Ticket, write};
+///
+/// let mut nest = NestBuilder::new();
+/// let a = nest.array([2, 3, 4]);
+/// let i = nest.for_loop(0, 1);
+/// let j = nest.for_loop(0, 2);
+/// let k = nest.for_loop(0, 3);
+/// nest.sum(a.at([i, j, k]), [], 1);
+/// nest.move_loop(1, 3);
+///
+/// let new = write(&Ticket::from_nest(&nest.finish()?)?)?.nest()?;
+/// assert_eq!(new.loops[0].upper[0].constant, 2);
+/// assert_eq!(new.loops[2].upper[0].constant, 1);
+/// # Ok::<(), Box<dyn std::error::Error>>(())
+/// ```
+///
 /// Several limits stand in an array; `over` divides one, rounded up below and down above:
 ///
 /// ```
@@ -125,6 +144,11 @@ impl NestBuilder {
     /// Sections a loop.
     pub fn section(&mut self, at: i16, width: i16) {
         self.steps.push(Step::Section { at, width });
+    }
+
+    /// Moves loop `from` to place `to`; those between close up.
+    pub fn move_loop(&mut self, from: i16, to: i16) {
+        self.steps.push(Step::Move { from, to });
     }
 
     /// The nest.

@@ -36,6 +36,7 @@ three forms, which is found out ('--as binary', '--as words' and '--as text' tel
   Statements   A(i) = B(i)               A(i) = B(i) + C(i) + 5    A(i) = max(B(i), 5)
                A(i) = opaque(B(i))       A(i) = first(B(i), C(i))
   Steps        exchange 1 2    reverse 1    skew 1 2 by -1    section 1 by 4
+               move 1 to 3               loop 1 goes to place 3, and those between close up
 
 The answer is one plain line: 'accepted: 6 iterations', or 'refused 10 at step 1, out of order'
 with the place in the user's own text below it.

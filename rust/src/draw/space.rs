@@ -55,6 +55,10 @@ fn apply(step: Step, point: &mut Vec<i64>) {
             point[place(at)] = index.div_euclid(width);
             point.insert(place(at) + 1, index.rem_euclid(width));
         }
+        Step::Move { from, to } => {
+            let index = point.remove(place(from));
+            point.insert(place(to), index);
+        }
     }
 }
 

@@ -24,8 +24,9 @@
 //! | `A(i) = max(B(i), C(i), 5)` | the largest |
 //! | `A(i) = opaque(B(i), C(i))` | not told |
 //!
-//! - Steps are `exchange 1 2`, `reverse 1`, `skew 1 2 by 1` (the index of loop 1 is added to that of loop 2; `by -1` takes it away) and
-//!   `section 1 by 4`. Loops are numbered by their place when the step is reached.
+//! - Steps are `exchange 1 2`, `reverse 1`, `skew 1 2 by 1` (the index of loop 1 is added to that of loop 2; `by -1` takes it away),
+//!   `section 1 by 4` and `move 1 to 3` (loop 1 goes to place 3, and loops 2 and 3 close up). Loops are numbered by their place when the step is
+//!   reached.
 //!
 //! The parser refuses only what cannot be a ticket. A number out of its range makes a ticket that the entries refuse.
 

@@ -20,7 +20,8 @@ impl Names {
         }
     }
 
-    /// The names of the loops after steps: exchanged loops trade names, a section has S outside E. A step off the nest changes nothing.
+    /// The names of the loops after steps: exchanged loops trade names, a section has S outside E, a moved loop takes its name along. A step off the
+    /// nest changes nothing.
     pub fn after(&self, steps: &[Step]) -> Names {
         let mut names = self.clone();
         let place = |number: i16| usize::try_from(number).ok().and_then(|n| n.checked_sub(1));
@@ -37,6 +38,14 @@ impl Names {
                     if let Some(a) = place(at).filter(|&a| a < names.indices.len()) {
                         let (outer, inner) = names.section();
                         names.indices.splice(a..=a, [outer, inner]);
+                    }
+                }
+                Step::Move { from, to } => {
+                    if let (Some(a), Some(b)) = (place(from), place(to))
+                        && a.max(b) < names.indices.len()
+                    {
+                        let moved = names.indices.remove(a);
+                        names.indices.insert(b, moved);
                     }
                 }
                 Step::Reverse { .. } | Step::Skew { .. } => {}

@@ -81,9 +81,9 @@ impl Parser {
         match word.as_str() {
             "array" => self.array(line),
             "for" => self.for_loop(line),
-            "exchange" | "reverse" | "skew" | "section" => self.step(line, &word),
+            "exchange" | "reverse" | "skew" | "section" | "move" => self.step(line, &word),
             _ if line.peek_after() != Some(&Token::Symbol('(')) => {
-                line.expected("'array', 'for', a statement such as 'A(i) = B(i)', 'exchange', 'reverse', 'skew' or 'section'")
+                line.expected("'array', 'for', a statement such as 'A(i) = B(i)', 'exchange', 'reverse', 'skew', 'section' or 'move'")
             }
             _ => self.statement(line),
         }
@@ -172,10 +172,15 @@ impl Parser {
                 let (by, by_span) = line.word("1 or -1")?;
                 (Step::Skew { outer: a, inner, by }, span, by_span)
             }
-            _ => {
+            "section" => {
                 line.expect_word("by")?;
                 let (width, span) = line.word("a width")?;
                 (Step::Section { at: a, width }, span, start)
+            }
+            _ => {
+                line.expect_word("to")?;
+                let (to, span) = line.word("the loop's new place")?;
+                (Step::Move { from: a, to }, span, start)
             }
         };
         self.step_words.extend([start, a_span, b_span, c_span]);

@@ -10,8 +10,8 @@ pub enum Token {
 }
 
 /// The words that cannot name an index or an array.
-const RESERVED: [&str; 12] = [
-    "array", "for", "to", "max", "min", "first", "opaque", "exchange", "reverse", "skew", "section", "by",
+const RESERVED: [&str; 13] = [
+    "array", "for", "to", "max", "min", "first", "opaque", "exchange", "reverse", "skew", "section", "by", "move",
 ];
 
 /// One line's tokens, taken one by one.

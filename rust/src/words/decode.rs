@@ -129,7 +129,7 @@ impl Reader<'_> {
     }
 
     fn step(&mut self) -> Result<Step, WordsError> {
-        let kind = self.meant("a step's kind, 1 to 4", |word| (1..=4).contains(&word).then_some(word))?;
+        let kind = self.meant("a step's kind, 1 to 5", |word| (1..=5).contains(&word).then_some(word))?;
         let at = self.word("a loop's number")?;
         match kind {
             1 => Ok(Step::Exchange {
@@ -143,9 +143,14 @@ impl Reader<'_> {
                 inner: self.word("a loop's number")?,
                 by: self.word("1 or -1")?,
             }),
-            _ => Ok(Step::Section {
+            4 => Ok(Step::Section {
                 at,
                 width: self.word("a width")?,
+            })
+            .and_then(|step| self.unused(1, step)),
+            _ => Ok(Step::Move {
+                from: at,
+                to: self.word("a loop's new place")?,
             })
             .and_then(|step| self.unused(1, step)),
         }

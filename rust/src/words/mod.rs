@@ -156,6 +156,7 @@ impl Step {
             Step::Reverse { at } => [2, at, 0, 0],
             Step::Skew { outer, inner, by } => [3, outer, inner, by],
             Step::Section { at, width } => [4, at, width, 0],
+            Step::Move { from, to } => [5, from, to, 0],
         }
     }
 }

@@ -3,19 +3,47 @@
 use std::fmt;
 
 use hurkeztor::entries;
-use reference::Answers;
 use reference::tickets::{Random, as_words};
+use reference::{Answers, reading};
 
 /// Words or bytes on either side of what is lent, which no entry may touch.
 const GUARD: usize = 16;
 
-/// How often each number 0 to 16 was answered, for judge, write, list, quick and run.
-#[derive(Default)]
-pub struct Tally(pub [[u64; 17]; 5]);
+/// All answers of the library and all memory that it left, in their order, as one number (FNV-1a): the same for libraries that answer alike.
+struct Digest(u64);
+
+impl Digest {
+    fn add(&mut self, bytes: impl IntoIterator<Item = u8>) {
+        for byte in bytes {
+            self.0 = (self.0 ^ u64::from(byte)).wrapping_mul(0x0000_0100_0000_01b3);
+        }
+    }
+}
+
+/// What was compared.
+pub struct Tally {
+    /// How often each number 0 to 16 was answered, for judge, write, list, quick and run.
+    answers: [[u64; 17]; 5],
+    pub tickets: u64,
+    /// Those of the tickets that have a circulation among the steps that can be read.
+    pub circulating: u64,
+    digest: Digest,
+}
+
+impl Default for Tally {
+    fn default() -> Tally {
+        Tally {
+            answers: [[0; 17]; 5],
+            tickets: 0,
+            circulating: 0,
+            digest: Digest(0xcbf2_9ce4_8422_2325),
+        }
+    }
+}
 
 impl Tally {
     pub fn of_number(&self, number: usize) -> u64 {
-        self.0.iter().map(|entry| entry[number]).sum()
+        self.answers.iter().map(|entry| entry[number]).sum()
     }
 }
 
@@ -24,12 +52,17 @@ impl fmt::Display for Tally {
         writeln!(f, "number {:>9} {:>9} {:>9} {:>9} {:>9}", "judge", "write", "list", "quick", "run")?;
         for number in 0..17 {
             write!(f, "{number:>6}")?;
-            for entry in &self.0 {
+            for entry in &self.answers {
                 write!(f, " {:>9}", entry[number])?;
             }
             writeln!(f)?;
         }
-        Ok(())
+        let Digest(digest) = self.digest;
+        writeln!(
+            f,
+            "{} tickets, {} of them with circulations; digest {digest:016x}",
+            self.tickets, self.circulating
+        )
     }
 }
 
@@ -78,16 +111,37 @@ struct Apart {
 
 type Outcome = Result<(), Apart>;
 
+/// What memory is lent in: bytes, or the words of a store.
+trait Unit: PartialEq + fmt::Debug + Copy {
+    fn bytes(self) -> impl IntoIterator<Item = u8>;
+}
+
+impl Unit for u8 {
+    fn bytes(self) -> impl IntoIterator<Item = u8> {
+        [self]
+    }
+}
+
+impl Unit for u32 {
+    fn bytes(self) -> impl IntoIterator<Item = u8> {
+        self.to_le_bytes()
+    }
+}
+
 impl Comparison<'_> {
     /// Both answers and both memories, the guards with them.
-    fn equal<T: PartialEq + fmt::Debug>(
+    fn equal<T: Unit>(
         &mut self,
         entry: usize,
         call: String,
         library: (entries::Answer, &[T]),
         reference: (reference::Answer, &[T]),
     ) -> Outcome {
-        self.tally.0[entry][reference.0.number as usize] += 1;
+        self.tally.answers[entry][reference.0.number as usize] += 1;
+        let entries::Answer { number, place, count } = library.0;
+        let digest = &mut self.tally.digest;
+        digest.add([u32::from(number), place, count].into_iter().flat_map(u32::to_le_bytes));
+        digest.add(library.1.iter().flat_map(|unit| unit.bytes()));
         if as_reference(library.0) != reference.0 {
             return Err(Apart {
                 call,
@@ -198,8 +252,10 @@ impl Comparison<'_> {
 }
 
 /// All five entries on the ticket that is made of a seed and an index.
-pub fn compare(ticket: fn(u64, u64) -> Vec<u8>, seed: u64, index: u64, tally: &mut Tally) -> Result<(), Box<Difference>> {
+pub fn compare(ticket: impl Fn(u64, u64) -> Vec<u8>, seed: u64, index: u64, tally: &mut Tally) -> Result<(), Box<Difference>> {
     let bytes = ticket(seed, index);
+    tally.tickets += 1;
+    tally.circulating += u64::from(has_circulation(&bytes));
     let lent = bytes.clone();
     let mut comparison = Comparison {
         ticket: &lent,
@@ -232,4 +288,9 @@ pub fn compare(ticket: fn(u64, u64) -> Vec<u8>, seed: u64, index: u64, tally: &m
             ticket: bytes,
         })
     })
+}
+
+/// Whether kind 5 is among the steps that can be read.
+pub fn has_circulation(ticket: &[u8]) -> bool {
+    reading::kinds(ticket).contains(&5)
 }

@@ -13,8 +13,9 @@ use lib.ListN.{length}
 use Rattle.lists.specs.Membership.{All}
 use Rattle.model.specs.Encode.{kindOf}
 use Rattle.model.specs.Answer.{refused}
-use Rattle.model.specs.Ticket.{Limit, Loop, Subscript, Access, Statement, Step, exchange, reversal, skew, section, Nest, Ticket}
-use Rattle.model.specs.Grammar.{between, elements, extents, depthAfter, mostStatements, mostArrays, mostDimensions, ticketLoops, ticketLimits}
+use Rattle.model.specs.Ticket.{Limit, Loop, Subscript, Access, Statement, Step, exchange, reversal, skew, section, circulation, Nest, Ticket}
+use Rattle.model.specs.Grammar.{between, elements, extents, stepKinds, depthAfter, mostStatements, mostArrays, mostDimensions, ticketLoops}
+use Rattle.model.specs.Grammar.{ticketLimits}
 use Rattle.model.specs.Bounds.{accessesOf}
 use Rattle.model.specs.Shape.{Shaped}
 use Rattle.model.specs.Shape as Shape
@@ -137,7 +138,8 @@ brief-limit k l e = brief-more (omega arith) (brief-append (slot (wordFrom (pos 
 
 brief-loop : (k : ℕ) (L : Loop) → Shape.Sized k (L .lower) → Shape.Sized k (L .upper) → Brief (18 + 8 * k) (loopSlots L)
 unfolding loopSlots
-brief-loop k L s t = brief-more (omega arith) (brief-append (countedSlots 1 ticketLimits limitSlots (L .lower)) (countedSlots 1 ticketLimits limitSlots (L .upper))
+brief-loop k L s t = brief-more (omega arith)
+    (brief-append (countedSlots 1 ticketLimits limitSlots (L .lower)) (countedSlots 1 ticketLimits limitSlots (L .upper))
     (brief-counted 1 ticketLimits limitSlots (L .lower) (λ l i. brief-limit k l (s l i)))
     (brief-counted 1 ticketLimits limitSlots (L .upper) (λ l i. brief-limit k l (t l i))))
 
@@ -163,7 +165,8 @@ brief-loopsFrom k (L ∷ N) s = brief-append (loopSlots L) (flatMap loopSlots N)
 
 brief-loops : (N : List Loop) → Shaped 0 N → Brief 121 (countedSlots 1 ticketLoops loopSlots N)
 unfolding countedSlots
-brief-loops N s = brief-after (slot (countFrom 1 ticketLoops) (pos (length N)) ∷ []) (flatMap loopSlots N) (brief-slot (countFrom 1 ticketLoops) (pos (length N)) tt)
+brief-loops N s = brief-after (slot (countFrom 1 ticketLoops) (pos (length N)) ∷ []) (flatMap loopSlots N)
+    (brief-slot (countFrom 1 ticketLoops) (pos (length N)) tt)
     (λ b k h. brief-more (room-most (length N) (count-most 1 ticketLoops (length N) b k h)) (brief-loopsFrom 0 N s))
 
 -- ---- arrays
@@ -237,17 +240,19 @@ four q r s t a b c d w x y z = brief-append (slot q w ∷ []) (slot r x ∷ slot
     (brief-append (slot r x ∷ []) (slot s y ∷ slot t z ∷ []) (brief-slot r x b)
     (brief-append (slot s y ∷ []) (slot t z ∷ []) (brief-slot s y c) (brief-slot t z d)))
 
-brief-step : (k m : ℕ) (t : Step) → k ≤ 8 → Brief 4 (slot (wordFrom (pos 1) (pos 4)) (pos (kindOf t)) ∷ argumentSlots k m t)
+brief-step : (k m : ℕ) (t : Step) → k ≤ 8 → Brief 4 (slot (wordFrom (pos 1) (pos stepKinds)) (pos (kindOf t)) ∷ argumentSlots k m t)
 unfolding argumentSlots
 brief-step k m (exchange a) h = four (wordFrom _ _) (loopWord k _) (loopWord k _) unused tt h h tt _ _ _ _
 brief-step k m (reversal a) h = four (wordFrom _ _) (loopWord k _) unused unused tt h tt tt _ _ _ _
 brief-step k m (skew a d c) h = four (wordFrom _ _) (loopWord k _) (loopWord k _) factor tt h h tt _ _ _ _
 brief-step k m (section a w) h = four (wordFrom _ _) (loopWord k _) (wordFrom _ _) unused tt h tt tt _ _ _ _
+brief-step k m (circulation a b) h = four (wordFrom _ _) (loopWord k _) (loopWord k _) unused tt h h tt _ _ _ _
 
 brief-stepsFrom : (k m : ℕ) (ts : List Step) → k + length ts ≤ 9 → Brief (4 * length ts) (stepsSlots k m ts)
 unfolding stepsSlots
 brief-stepsFrom k m [] h = brief-more (omega arith) brief-nil
-brief-stepsFrom k m (t ∷ ts) h = brief-more (omega arith) (brief-append (slot (wordFrom (pos 1) (pos 4)) (pos (kindOf t)) ∷ argumentSlots k m t)
+brief-stepsFrom k m (t ∷ ts) h = brief-more (omega arith)
+    (brief-append (slot (wordFrom (pos 1) (pos stepKinds)) (pos (kindOf t)) ∷ argumentSlots k m t)
     (stepsSlots (suc k) (depthAfter t m) ts)
     (brief-step k m t (omega arith)) (brief-stepsFrom (suc k) (depthAfter t m) ts (omega arith)))
 

@@ -14,13 +14,13 @@ use Rattle.lists.proofs.MembershipLaws.{length-one}
 use Rattle.model.specs.Encode.{kindOf}
 use Rattle.model.specs.Answer as Answer
 use Rattle.model.specs.Answer.{Answer, accepted, refused, require}
-use Rattle.model.specs.Ticket.{Limit, Loop, Subscript, Access, Statement, Step, exchange, reversal, skew, section, Nest, Ticket}
+use Rattle.model.specs.Ticket.{Limit, Loop, Subscript, Access, Statement, Step, exchange, reversal, skew, section, circulation, Nest, Ticket}
 use Rattle.model.specs.Grammar.{Read, Reader, _>>=_, _>>_, done, word, must, mustAt, between, count, within, natural, number, times}
 use Rattle.model.specs.Grammar.{mostFactor}
 use Rattle.model.specs.Grammar.{limit, side, loop, loopsFrom, loops, elements, shape, array, arraysFrom, arrays, extents, ticketLimits}
 use Rattle.model.specs.Grammar.{ticketLoops}
 use Rattle.model.specs.Grammar.{subscript, access, statement, statements, loopNumber, exchangeStep, reversalStep, skewStep, sectionStep}
-use Rattle.model.specs.Grammar.{stepOf}
+use Rattle.model.specs.Grammar.{circulationStep, stepKinds, stepOf}
 use Rattle.model.specs.Grammar.{depthAfter, stepsFrom, steps, nest}
 use Rattle.model.specs.Grammar.{mostStatements, mostReads, mostArrays, mostExtent, mostElements}
 use Rattle.model.specs.Bounds.{accessesOf}
@@ -248,7 +248,7 @@ less-one : (a : ℕ) → suc a - 1 ≡ a
 less-one a = omega arith
 
 follows-step : (k m : ℕ) (t : Step) → Follows (stepOf (kindOf t) k m) t (argumentSlots k m t)
-unfolding stepOf exchangeStep reversalStep skewStep sectionStep argumentSlots
+unfolding stepOf exchangeStep reversalStep skewStep sectionStep circulationStep argumentSlots
 follows-step k m (exchange a) = follows-value (ap exchange (less-one a)) (follows-bind _ (follows-loopNumber k _ (pos (suc a)))
     (follows-bind _ (follows-loopNumber k _ (pos (suc (suc a)))) (follows-unused (exchange (suc a - 1)))))
 follows-step k m (reversal a) = follows-value (ap reversal (less-one a)) (follows-bind _ (follows-loopNumber k _ (pos (suc a)))
@@ -261,11 +261,13 @@ follows-step k m (skew a d c) = follows-value (ap₂ (λ i j. skew i j c) (less-
     inner a d = omega arith
 follows-step k m (section a w) = follows-value (ap (λ i. section i w) (less-one a)) (follows-bind _ (follows-loopNumber k _ (pos (suc a)))
     (follows-bind _ (follows-natural 2 256 w) (follows-unused (section (suc a - 1) w))))
+follows-step k m (circulation a b) = follows-value (ap₂ circulation (less-one a) (less-one b)) (follows-bind _ (follows-loopNumber k _ (pos (suc a)))
+    (follows-bind _ (follows-loopNumber k _ (pos (suc b))) (follows-unused (circulation (suc a - 1) (suc b - 1)))))
 
 follows-stepsFrom : (k m : ℕ) (ts : List Step) → Follows (stepsFrom k m (length ts)) ts (stepsSlots k m ts)
 unfolding stepsFrom stepsSlots
 follows-stepsFrom k m [] = follows-done []
-follows-stepsFrom k m (t ∷ ts) = follows-bind _ (follows-natural 1 4 (kindOf t)) (follows-bind _ (follows-step k m t)
+follows-stepsFrom k m (t ∷ ts) = follows-bind _ (follows-natural 1 stepKinds (kindOf t)) (follows-bind _ (follows-step k m t)
     (follows-last (t ∷_) (follows-stepsFrom (suc k) (depthAfter t m) ts)))
 
 follows-steps : (m : ℕ) (ts : List Step) → Follows (steps m) ts (slot (countFrom 0 8) (pos (length ts)) ∷ stepsSlots 1 m ts)

@@ -10,7 +10,7 @@ use lib.ListN.{length, length-append}
 use Rattle.lists.specs.Membership.{All}
 use Rattle.lists.proofs.MembershipLaws.{all-nil, all-cons}
 use Rattle.model.specs.Answer.{Answer, accepted}
-use Rattle.model.specs.Ticket.{Loop, Step, exchange, reversal, skew, section, Nest, Ticket}
+use Rattle.model.specs.Ticket.{Loop, Step, exchange, reversal, skew, section, circulation, Nest, Ticket}
 use Rattle.model.specs.Grammar.{Reader, _>>=_, _>>_, nest, end, ticket, decode}
 use Rattle.model.specs.Encode.{counted, loopWords, arrayWords, statementWords, stepWords, ticketWords}
 use Rattle.model.specs.Shape.{Runs, Proper, WellFormed}
@@ -63,6 +63,7 @@ there-proper (exchange a) m h = tt
 there-proper (reversal a) m h = tt
 there-proper (skew a d c) m h = tt
 there-proper (section a w) m h = let l = h .2 .low in omega arith
+there-proper (circulation a b) m h = tt
 
 pub steps-proper : (ts : List Step) (m : ℕ) → StepsThere m ts → All Proper ts
 steps-proper [] m h = all-nil Proper

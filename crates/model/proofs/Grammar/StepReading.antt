@@ -4,15 +4,16 @@ use mathlib.Core.Bool.{Bool, cond, not, _&&_}
 use mathlib.Core.List.{[], _∷_, _++_, flatMap, append-nil}
 use Prim.Native.Nat.{ℕ, zero, suc, _+_, _-_, _≤_}
 use native.Mathlib.Omega.{arith}
-use lib.Dec.{T, eqb, ltb, leb→le, ltb→lt, eqb→eq}
+use lib.Dec.{T, eqb, ltb, leb→le, ltb→lt, eqb-refl, eqb→eq, T-not}
 use lib.IntN.{ℤ, pos, negsuc, negℤ, natAbs}
 use lib.Signed.{leZ, ltZ}
 use borrow.Author.Tests.{eqb-true, eqb-false}
 use Rattle.lists.proofs.TestLaws.{and-both, cond-cases}
 use Rattle.integers.specs.Sign.{eqZ}
-use Rattle.model.specs.Ticket.{Step, exchange, reversal, skew, section}
-use Rattle.model.specs.Grammar.{Reader, between, natural, loopNumber, exchangeStep, reversalStep, skewStep, sectionStep, mostFactor, stepOf}
-use Rattle.model.specs.Grammar.{depthAfter, stepsFrom, steps}
+use Rattle.model.specs.Ticket.{Step, exchange, reversal, skew, section, circulation}
+use Rattle.model.specs.Grammar.{Reader, between, natural, loopNumber, exchangeStep, reversalStep, skewStep, sectionStep, circulationStep}
+use Rattle.model.specs.Grammar.{mostFactor}
+use Rattle.model.specs.Grammar.{stepKinds, stepOf, depthAfter, stepsFrom, steps}
 use Rattle.model.specs.Encode.{counted, kindOf, arguments, stepWords}
 use Rattle.model.specs.Ranges.{InRange, StepThere, StepsThere}
 use Rattle.model.proofs.Grammar.ReaderLaws.{Meets, As, Long, Few, bind, must-at, mustAt-at, done-at, done-meets, meets-map, alone, one}
@@ -106,22 +107,35 @@ module _ (k m : ℕ) where
             (λ x. pos x ∷ pos w ∷ pos 0 ∷ []) (omega arith);
       }))))
 
+  circulation-meets : Meets (circulationStep k m) (As (StepRead 5 m) arguments)
+  unfolding circulationStep
+  circulation-meets = bind outer-meets (λ a h. bind (ruled-meets (λ w. not (eqZ w (pos a)))) (λ n g. bind nought-meets (λ _ _.
+      let l = h .low in let u = h .high in let v = g .0 .low in let w = g .0 .high in
+      done-meets (circulation (a - 1) (n - 1)) (record {
+        holds = record {
+          there = (omega arith, omega arith, λ e. T-not (eqb n a) (g .1) (let f : n ≡ a = omega arith in subst (λ x. T (eqb n x)) f (eqb-refl n)));
+          kind = refl;
+        };
+        words = ap₂ (λ x y. pos x ∷ pos y ∷ pos 0 ∷ []) (omega arith) (omega arith);
+      }))))
+
   of-kind : {x : Reader Step} {i n : ℕ} → Meets x (As (StepRead i m) arguments) → n ≡ i → Meets x (As (StepRead n m) arguments)
   of-kind {x} h e = subst (λ j. Meets x (As (StepRead j m) arguments)) (sym e) h
 
-  step-meets : (n : ℕ) → InRange 1 4 n → Meets (stepOf n k m) (As (StepRead n m) arguments)
+  step-meets : (n : ℕ) → InRange 1 stepKinds n → Meets (stepOf n k m) (As (StepRead n m) arguments)
   unfolding stepOf
   step-meets n r =
       let Good : Reader Step → Type 0 = λ x. Meets x (As (StepRead n m) arguments) in
-      cond-cases Good (eqb n 1) (exchangeStep k m) (cond (eqb n 2) (reversalStep k m) (cond (eqb n 3) (skewStep k m) (sectionStep k m)))
-      (λ e. of-kind exchange-meets (eqb-true n 1 e)) (λ e.
-      cond-cases Good (eqb n 2) (reversalStep k m) (cond (eqb n 3) (skewStep k m) (sectionStep k m)) (λ f. of-kind reversal-meets (eqb-true n 2 f))
-      (λ f.
-      cond-cases Good (eqb n 3) (skewStep k m) (sectionStep k m) (λ g. of-kind skew-meets (eqb-true n 3 g)) (λ g.
-      of-kind section-meets (last (eqb-false n 1 e) (eqb-false n 2 f) (eqb-false n 3 g)))))
+      let from-4 : Reader Step = cond (eqb n 4) (sectionStep k m) (circulationStep k m) in
+      let from-3 : Reader Step = cond (eqb n 3) (skewStep k m) from-4 in
+      cond-cases Good (eqb n 1) (exchangeStep k m) (cond (eqb n 2) (reversalStep k m) from-3) (λ e. of-kind exchange-meets (eqb-true n 1 e)) (λ e.
+      cond-cases Good (eqb n 2) (reversalStep k m) from-3 (λ f. of-kind reversal-meets (eqb-true n 2 f)) (λ f.
+      cond-cases Good (eqb n 3) (skewStep k m) from-4 (λ g. of-kind skew-meets (eqb-true n 3 g)) (λ g.
+      cond-cases Good (eqb n 4) (sectionStep k m) (circulationStep k m) (λ h. of-kind section-meets (eqb-true n 4 h)) (λ h.
+      of-kind circulation-meets (last (eqb-false n 1 e) (eqb-false n 2 f) (eqb-false n 3 g) (eqb-false n 4 h))))))
     where
-      last : (n ≡ 1 → ⊥) → (n ≡ 2 → ⊥) → (n ≡ 3 → ⊥) → n ≡ 4
-      last e f g = let low = r .low in let high = r .high in omega arith
+      last : (n ≡ 1 → ⊥) → (n ≡ 2 → ⊥) → (n ≡ 3 → ⊥) → (n ≡ 4 → ⊥) → n ≡ 5
+      last e f g h = let low = r .low in let high = r .high in omega arith
 
 -- ---- all steps
 
@@ -132,11 +146,12 @@ depth-there (exchange a) m r h = r
 depth-there (reversal a) m r h = r
 depth-there (skew a d c) m r h = r
 depth-there (section a w) m r h = record { low = omega arith; high = omega arith }
+depth-there (circulation a b) m r h = r
 
 stepsFrom-meets : (k m n : ℕ) → 1 ≤ k → k + n ≤ 9 → InRange 1 6 m → Meets (stepsFrom k m n) (As (Long n (StepsThere m)) (flatMap stepWords))
 unfolding stepsFrom flatMap
 stepsFrom-meets k m zero l h d = done-meets [] (record { holds = record { number = refl; holds = tt }; words = refl })
-stepsFrom-meets k m (suc n) l h d = bind (natural-meets 1 4) (λ i r. bind (step-meets k m i r) (λ t s.
+stepsFrom-meets k m (suc n) l h d = bind (natural-meets 1 stepKinds) (λ i r. bind (step-meets k m i r) (λ t s.
     bind (stepsFrom-meets (suc k) (depthAfter t m) n (omega arith) (omega arith) (depth-there t m d (s .there)))
     (λ ts e. done-meets (t ∷ ts) (record {
       holds = record { number = ap suc (e .number); holds = (s .there, e .holds) };

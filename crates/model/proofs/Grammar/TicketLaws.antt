@@ -18,9 +18,10 @@ use Rattle.integers.specs.Sign.{eqZ}
 use Rattle.model.specs.Answer as Answer
 use Rattle.model.specs.Answer.{accepted}
 use Rattle.model.specs.Words.{bytesOf}
-use Rattle.model.specs.Ticket.{Step, exchange, reversal, skew, section, Ticket}
-use Rattle.model.specs.Grammar.{_>>=_, natural, between, loopNumber, exchangeStep, reversalStep, skewStep, sectionStep, mostFactor, stepOf}
-use Rattle.model.specs.Grammar.{depthAfter, stepsFrom, steps, nest, done, ticket, decode}
+use Rattle.model.specs.Ticket.{Step, exchange, reversal, skew, section, circulation, Ticket}
+use Rattle.model.specs.Grammar.{_>>=_, natural, between, loopNumber, exchangeStep, reversalStep, skewStep, sectionStep, circulationStep}
+use Rattle.model.specs.Grammar.{mostFactor}
+use Rattle.model.specs.Grammar.{stepKinds, stepOf, depthAfter, stepsFrom, steps, nest, done, ticket, decode}
 use Rattle.model.specs.Encode.{counted, kindOf, arguments, stepWords, ticketWords}
 use Rattle.model.specs.Shape.{WellFormed}
 use Rattle.model.specs.Ranges.{InRange, Small, StepThere, StepsThere, TicketRanges}
@@ -67,7 +68,7 @@ module _ (k m : ℕ) (few : m ≤ 6) where
       (natural-between 1 m (suc a) (record { low = omega arith; high = h }))
 
   pub yields-step : (t : Step) → StepThere m t → Yields (stepOf (kindOf t) k m) (arguments t) t
-  unfolding stepOf exchangeStep reversalStep skewStep sectionStep
+  unfolding stepOf exchangeStep reversalStep skewStep sectionStep circulationStep
   yields-step (exchange a) h = yields-value (ap exchange (less-one a)) (yields-bind _ (yields-outer a (omega arith))
       (yields-bind _ (yields-loop (λ w. eqZ w (pos (suc (suc a)))) (suc a) h (eqb-refl (suc (suc a)))) (yields-nought (exchange (suc a - 1)))))
   yields-step (reversal a) h = yields-value (ap reversal (less-one a))
@@ -84,12 +85,19 @@ module _ (k m : ℕ) (few : m ≤ 6) where
   yields-step (section a w) h = yields-value (ap (λ i. section i w) (less-one a))
       (yields-bind _ (yields-loop (λ _. ltb m 6) a (h .0) (lt→ltb m 6 (h .1)))
       (yields-bind _ (yields-natural (h .2)) (yields-nought (section (suc a - 1) w))))
+  yields-step (circulation a b) h = yields-value (ap₂ circulation (less-one a) (less-one b)) (yields-bind _ (yields-outer a (h .0))
+      (yields-bind _ (yields-loop (λ w. not (eqZ w (pos (suc a)))) b (h .1)
+      (not-T (eqb (suc b) (suc a)) (λ t. h .2 (apart a b (eqb→eq (suc b) (suc a) t))))) (yields-nought (circulation (suc a - 1) (suc b - 1)))))
+    where
+      apart : (a b : ℕ) → suc b ≡ suc a → a ≡ b
+      apart a b e = omega arith
 
-kind-range : (t : Step) → InRange 1 4 (kindOf t)
+kind-range : (t : Step) → InRange 1 stepKinds (kindOf t)
 kind-range (exchange a) = record { low = omega arith; high = omega arith }
 kind-range (reversal a) = record { low = omega arith; high = omega arith }
 kind-range (skew a d c) = record { low = omega arith; high = omega arith }
 kind-range (section a w) = record { low = omega arith; high = omega arith }
+kind-range (circulation a b) = record { low = omega arith; high = omega arith }
 
 yields-stepsFrom : (k m : ℕ) (ts : List Step) → InRange 1 6 m → StepsThere m ts → Yields (stepsFrom k m (length ts)) (flatMap stepWords ts) ts
 unfolding stepsFrom flatMap
@@ -108,6 +116,8 @@ arguments-small (reversal a) m l h = all-cons Small (omega arith) (all-cons Smal
 arguments-small (skew a d c) m l h = let z = h .0 in let f = h .1 .high in
     all-cons Small (omega arith) (all-cons Small (omega arith) (all-cons Small (omega arith) (all-nil Small)))
 arguments-small (section a w) m l h = let v = h .2 .high in all-cons Small (omega arith)
+    (all-cons Small (omega arith) (all-cons Small (omega arith) (all-nil Small)))
+arguments-small (circulation a b) m l h = let u = h .0 in let v = h .1 in all-cons Small (omega arith)
     (all-cons Small (omega arith) (all-cons Small (omega arith) (all-nil Small)))
 
 steps-small : (ts : List Step) (m : ℕ) → InRange 1 6 m → StepsThere m ts → All Small (flatMap stepWords ts)

@@ -1,6 +1,6 @@
 -- Any bytes can be walked along the slots of some ticket, with lists of the sizes that the words say: to its end, or to the first word that offends.
 use mathlib.Core.Path.{_≡_, refl, sym, ap, ap₂, _∙_, subst}
-use mathlib.Core.Bool.{Bool, cond, _&&_}
+use mathlib.Core.Bool.{Bool, cond, not, _&&_}
 use mathlib.Core.List.{List, [], _∷_, _++_, flatMap, append-nil}
 use Prim.Native.Nat.{ℕ, zero, suc, _+_, _*_, _-_, _≤_}
 use native.Mathlib.Omega.{arith}
@@ -15,8 +15,8 @@ use Rattle.lists.proofs.MembershipLaws.{all-cons}
 use Rattle.lists.proofs.TestLaws.{and-both}
 use Rattle.model.specs.Encode.{kindOf}
 use Rattle.model.specs.Answer.{accepted, require}
-use Rattle.model.specs.Ticket.{Limit, Loop, Subscript, exchange, reversal, skew, section, Nest}
-use Rattle.model.specs.Grammar.{between, elements, extents, depthAfter, mostLoops}
+use Rattle.model.specs.Ticket.{Limit, Loop, Subscript, exchange, reversal, skew, section, circulation, Nest}
+use Rattle.model.specs.Grammar.{between, elements, extents, stepKinds, depthAfter, mostLoops}
 use Rattle.model.specs.Grammar.{mostStatements, mostArrays, mostExtent, ticketLoops, ticketLimits}
 use Rattle.model.specs.Bounds.{accessesOf}
 use Rattle.model.specs.Shape.{Shaped}
@@ -182,23 +182,25 @@ walk-statements n as′ = walk-items (statementSlots (length as′)) 1 mostState
 -- ---- steps
 
 data StepKind : Type 0 where
-  exchanging reversing skewing sectioning : StepKind
+  exchanging reversing skewing sectioning circulating : StepKind
 
 abbrev kindNumber : StepKind → ℕ
 kindNumber exchanging = 1
 kindNumber reversing = 2
 kindNumber skewing = 3
 kindNumber sectioning = 4
+kindNumber circulating = 5
 
-kind-taken : (k : ℕ) (w : ℤ) → wordCheck (wordFrom (pos 1) (pos 4)) k w ≡ accepted tt → (a : StepKind) × (w ≡ pos (kindNumber a))
-kind-taken k w e = let r = natural-taken 1 4 k w e in let q = of-number (natAbs w) (r .0) in (q .0, r .1 ∙ ap pos (q .1))
+kind-taken : (k : ℕ) (w : ℤ) → wordCheck (wordFrom (pos 1) (pos stepKinds)) k w ≡ accepted tt → (a : StepKind) × (w ≡ pos (kindNumber a))
+kind-taken k w e = let r = natural-taken 1 stepKinds k w e in let q = of-number (natAbs w) (r .0) in (q .0, r .1 ∙ ap pos (q .1))
   where
-    of-number : (n : ℕ) → InRange 1 4 n → (a : StepKind) × (n ≡ kindNumber a)
+    of-number : (n : ℕ) → InRange 1 stepKinds n → (a : StepKind) × (n ≡ kindNumber a)
     of-number zero r = absurd (let l = r .low in omega arith)
     of-number (suc zero) r = (exchanging, omega arith)
     of-number (suc (suc zero)) r = (reversing, omega arith)
     of-number (suc (suc (suc zero))) r = (skewing, omega arith)
-    of-number (suc (suc (suc (suc n)))) r = (sectioning, let h = r .high in omega arith)
+    of-number (suc (suc (suc (suc zero)))) r = (sectioning, omega arith)
+    of-number (suc (suc (suc (suc (suc n))))) r = (circulating, let h = r .high in omega arith)
 
 module _ (k m : ℕ) where
   -- a loop of the nest, by its number from 1, with a rule besides
@@ -230,8 +232,14 @@ module _ (k m : ℕ) where
         let l = ltb→lt (suc a) (natAbs w) (subst (λ z. T (ltZ (pos (suc a)) z)) (r .1) (t .1)) in
         (natAbs w - suc (suc a), r .1 ∙ ap pos (omega arith)))
 
-  arguments : (a : StepKind) → Walk (λ t vs. Of Any (λ t. slot (wordFrom (pos 1) (pos 4)) (pos (kindOf t)) ∷ argumentSlots k m t) t
-      (slot (wordFrom (pos 1) (pos 4)) (pos (kindNumber a)) ∷ vs))
+    abbrev other : ℤ → Bool
+    other w = between (pos 1) (pos m) w && not (eqZ w (pos (suc a)))
+
+    walk-other : Walk (Of Any (λ b. slot (loopWord k other) (pos (suc b)) ∷ []))
+    walk-other = walk-ruled other (λ w h. and-both (between (pos 1) (pos m) w) (not (eqZ w (pos (suc a)))) h .0)
+
+  arguments : (a : StepKind) → Walk (λ t vs. Of Any (λ t. slot (wordFrom (pos 1) (pos stepKinds)) (pos (kindOf t)) ∷ argumentSlots k m t) t
+      (slot (wordFrom (pos 1) (pos stepKinds)) (pos (kindNumber a)) ∷ vs))
   unfolding argumentSlots
   arguments exchanging = walk-bind walk-outer (λ a _. walk-bind (walk-next a) (λ _ _. walk-bind walk-unused (λ _ _.
       walk-done (exchange a) (record { holds = tt; slots = refl }))))
@@ -243,9 +251,11 @@ module _ (k m : ℕ) where
   arguments sectioning = walk-bind (walk-ruled (λ v. between (pos 1) (pos m) v && ltb m mostLoops)
       (λ w h. and-both (between (pos 1) (pos m) w) (ltb m mostLoops) h .0))
       (λ a _. walk-bind (walk-natural 2 256) (λ w _. walk-bind walk-unused (λ _ _. walk-done (section a w) (record { holds = tt; slots = refl }))))
+  arguments circulating = walk-bind walk-outer (λ a _. walk-bind (walk-other a) (λ b _. walk-bind walk-unused (λ _ _.
+      walk-done (circulation a b) (record { holds = tt; slots = refl }))))
 
-  walk-step : Walk (Of Any (λ t. slot (wordFrom (pos 1) (pos 4)) (pos (kindOf t)) ∷ argumentSlots k m t))
-  walk-step = walk-bind (walk-word (wordFrom (pos 1) (pos 4)) (λ a. pos (kindNumber a)) exchanging kind-taken) (λ a _. arguments a)
+  walk-step : Walk (Of Any (λ t. slot (wordFrom (pos 1) (pos stepKinds)) (pos (kindOf t)) ∷ argumentSlots k m t))
+  walk-step = walk-bind (walk-word (wordFrom (pos 1) (pos stepKinds)) (λ a. pos (kindNumber a)) exchanging kind-taken) (λ a _. arguments a)
 
 walk-stepsFrom : (k m n : ℕ) → Walk (Of (λ ts. length ts ≡ n) (stepsSlots k m))
 unfolding stepsSlots
@@ -253,7 +263,7 @@ walk-stepsFrom k m zero = walk-done [] (record { holds = refl; slots = refl })
 walk-stepsFrom k m (suc n) = walk-bind (walk-step k m) (λ t _. walk-bind (walk-stepsFrom (suc k) (depthAfter t m) n) (λ ts l.
     walk-done (t ∷ ts) (record {
       holds = ap suc l;
-      slots = ap ((slot (wordFrom (pos 1) (pos 4)) (pos (kindOf t)) ∷ argumentSlots k m t) ++_)
+      slots = ap ((slot (wordFrom (pos 1) (pos stepKinds)) (pos (kindOf t)) ∷ argumentSlots k m t) ++_)
           (append-nil (stepsSlots (suc k) (depthAfter t m) ts));
     })))
 

@@ -22,6 +22,7 @@ use Rattle.model.specs.Encode.{counted, limitWords, loopWords, arrayWord
 use Rattle.model.specs.Listing.{digits, decimal, lineText, headText, signChar, linesOf, listing}
 use Rattle.model.specs.Shape.{Shaped, Fits, WellFormed}
 use Rattle.model.specs.Ranges.{NestRanges}
+use Rattle.model.proofs.Steps.ChainLaws.{up-length}
 use Rattle.model.proofs.Grammar.RoundTripLaws.{encode-length}
 use Rattle.model.proofs.Listing.ListingLaws.{linesOf-exact}
 
@@ -143,11 +144,6 @@ most-signs (suc (suc (suc zero))) h = let d = more-signs 2 9 (more-signs 1 3 (mo
 most-signs (suc (suc (suc (suc zero)))) h = more-signs 3 27 (more-signs 2 9 (more-signs 1 3 (more-signs 0 1 no-signs)))
 most-signs (suc (suc (suc (suc (suc d))))) h = absurd (omega arith)
 
-length-upFrom : (k n : ℕ) → length (upFrom k n) ≡ n
-unfolding upFrom
-length-upFrom k zero = refl
-length-upFrom k (suc n) = ap suc (length-upFrom (suc k) n)
-
 abbrev lineOf : ℕ → ℕ → Kind → List Sign → Line
 lineOf s t k v = record { kind = k; source = s; sink = t; vector = v }
 
@@ -155,7 +151,7 @@ lineOf s t k v = record { kind = k; source = s; sink = t; vector = v }
 most-lines : (n d : ℕ) → n ≤ mostStatements → d ≤ ticketLoops → length (allLines n d) ≤ 3888
 unfolding allLines
 most-lines n d h g =
-    let z = length-upFrom 0 n in
+    let z = up-length 0 n in
     let a = length-flatMap-most (λ s. flatMap (λ t. flatMap (λ k. map (lineOf s t k) (signVectors d)) kinds) (upFrom 0 n)) 972 (upFrom 0 n)
     (λ s _. of-source s) in omega arith
   where
@@ -164,7 +160,7 @@ most-lines n d h g =
         (λ k _. let e = length-map (signVectors d) (lineOf s t k) in let q = most-signs d g in omega arith)
 
     of-source : (s : ℕ) → length (flatMap (λ t. flatMap (λ k. map (lineOf s t k) (signVectors d)) kinds) (upFrom 0 n)) ≤ 972
-    of-source s = let z = length-upFrom 0 n in
+    of-source s = let z = up-length 0 n in
         let a = length-flatMap-most (λ t. flatMap (λ k. map (lineOf s t k) (signVectors d)) kinds) 243 (upFrom 0 n) (λ t _. of-sink s t) in
         omega arith
 

@@ -14,7 +14,7 @@ use Rattle.lists.specs.Order.{Precedes}
 use Rattle.lists.proofs.FlatMapLaws.{flatMap-mem}
 use Rattle.lists.proofs.OrderLaws.{precedes-mem, ordered-precedes}
 use Rattle.model.specs.Answer.{refused}
-use Rattle.model.specs.Ticket.{Step, exchange, reversal, skew, section, Nest}
+use Rattle.model.specs.Ticket.{Step, exchange, reversal, skew, section, circulation, Nest}
 use Rattle.model.specs.Points.{iterations}
 use Rattle.model.specs.Machine.{Instance, accesses, order}
 use Rattle.model.specs.Directions.{signs, backwards, conflict}
@@ -31,7 +31,7 @@ use Rattle.model.proofs.Steps.LengthLaws.{step-length}
 use Rattle.model.proofs.Steps.UndoLaws.{undo-forwardAll}
 use Rattle.model.proofs.Steps.KeepLaws.{steps-length, steps-take-points}
 use Rattle.model.proofs.Promise.KeptLaws.{statements-kept}
-use Rattle.model.proofs.Steps.VectorLaws.{vectors-after, exchange-signs, reversal-signs}
+use Rattle.model.proofs.Steps.VectorLaws.{vectors-after, exchange-signs, reversal-signs, circulation-signs}
 use Rattle.model.proofs.Machine.InstanceLaws.{Before, whole, instances-mem, mem-instances, instances-ordered, before-comesFirst}
 use Rattle.model.proofs.Machine.InstanceLaws.{comesFirst-precedes}
 use Rattle.model.proofs.Machine.DirectionLaws.{directions-mem, mem-directions}
@@ -65,12 +65,14 @@ turns-proper (exchange a) h = tt
 turns-proper (reversal a) h = tt
 turns-proper (skew a d c) h = absurd h
 turns-proper (section a w) h = absurd h
+turns-proper (circulation a b) h = tt
 
 pub turns-signs : (t : Step) → Turns t → (p q : List ℤ) → length p ≡ length q → vectors t (signs p q) ≡ signs (forward t p) (forward t q) ∷ []
 turns-signs (exchange a) h p q e = exchange-signs a p q e
 turns-signs (reversal a) h p q e = reversal-signs a p q e
 turns-signs (skew a d c) h p q e = absurd h
 turns-signs (section a w) h p q e = absurd h
+turns-signs (circulation a b) h p q e = circulation-signs a b p q e
 
 -- a vector that some pair in R has after f
 record Had (R : List ℤ → List ℤ → Type 0) (f : List ℤ → List ℤ) (v : List Sign) : Type 0 where

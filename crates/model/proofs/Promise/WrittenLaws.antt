@@ -10,7 +10,7 @@ use Rattle.lists.specs.Membership.{All}
 use Rattle.lists.proofs.MembershipLaws.{map-all}
 use Rattle.lists.proofs.FlatMapLaws.{mem-flatMap}
 use Rattle.model.specs.Answer.{Answer, accepted}
-use Rattle.model.specs.Ticket.{Limit, Loop, Access, Statement, Step, exchange, reversal, skew, section, Nest, Ticket}
+use Rattle.model.specs.Ticket.{Limit, Loop, Access, Statement, Step, exchange, reversal, skew, section, circulation, Nest, Ticket}
 use Rattle.model.specs.Grammar.{total, mostStatements, decodeNest, mostReads}
 use Rattle.model.specs.Bounds.{accessesOf}
 use Rattle.model.specs.Limits.{accessAfter, statementAfter, nestAfter, nestAfterAll}
@@ -51,6 +51,7 @@ there (exchange a) m h = h
 there (reversal a) m h = h
 there (skew a d c) m h = h .0
 there (section a w) m h = h .0
+there (circulation a b) m h = tt
 
 statement-counts : (t : Step) (s : Statement) → StatementCounts s → StatementCounts (statementAfter t s)
 unfolding statementAfter
@@ -170,12 +171,13 @@ module _ (T : Ticket) (r : TicketRanges T) (w : WellFormed (T .nest)) where
   new-formed = well-formed-after-all (T .steps) (steps-proper (T .steps) _ (r .steps)) (T .nest) w
 
   pub new-ranges : (vs : List (List Sign)) → StepsPass (T .steps) vs (T .nest) → NestRanges 6 16 (nestAfterAll (T .steps) (T .nest))
-  new-ranges vs = from (T .steps) (counts-after-all (T .steps) (T .nest) (r .steps) (ranges-counts (omega arith) (r .nest))) new-formed
+  new-ranges vs = from (T .steps) (r .steps) (counts-after-all (T .steps) (T .nest) (r .steps) (ranges-counts (omega arith) (r .nest))) new-formed
     where
-      from : (ts : List Step) → NestCounts (nestAfterAll ts (T .nest)) → WellFormed (nestAfterAll ts (T .nest)) → StepsPass ts vs (T .nest)
-          → NestRanges 6 16 (nestAfterAll ts (T .nest))
-      from [] c f h = unfold nestAfterAll in ranges-wider (omega arith) (omega arith) (r .nest)
-      from (t ∷ ts) c f h = let q = passes-final t ts vs (T .nest) h in nest-ranges (nestAfterAll (t ∷ ts) (T .nest)) c f (q .0) (q .1)
+      from : (ts : List Step) → StepsThere (length (T .nest .loops)) ts → NestCounts (nestAfterAll ts (T .nest))
+          → WellFormed (nestAfterAll ts (T .nest)) → StepsPass ts vs (T .nest) → NestRanges 6 16 (nestAfterAll ts (T .nest))
+      from [] i c f h = unfold nestAfterAll in ranges-wider (omega arith) (omega arith) (r .nest)
+      from (t ∷ ts) i c f h = let q = passes-final t ts (length (T .nest .loops)) vs (T .nest) i h in
+          nest-ranges (nestAfterAll (t ∷ ts) (T .nest)) c f (q .0) (q .1)
 
   pub new-written : (vs : List (List Sign)) → StepsPass (T .steps) vs (T .nest)
       → decodeNest (encode (nestAfterAll (T .steps) (T .nest))) ≡ accepted (nestAfterAll (T .steps) (T .nest))

@@ -1,5 +1,5 @@
 -- The tables of the steps name no vector that no two points can have: for each vector of a table two points are shown that have the signs before the
--- step and those after it. In order: a change at a place; the sums of a skew, found by computation; the parts of a section; the four steps.
+-- step and those after it. In order: a change at a place; the sums of a skew, found by computation; the parts of a section; the steps.
 use mathlib.Core.Path.{_≡_, refl, sym, ap, ap₂, _∙_, subst}
 use mathlib.Core.Bool.{Bool, true, _&&_}
 use mathlib.Core.List.{List, [], _∷_, _++_, List·Memᴰ·head, List·Memᴰ·tail, List·Memᴰ·not-nil, List·Memᴰ·eq-of-singleton, Memᴰ·of-map}
@@ -17,14 +17,14 @@ use Rattle.lists.specs.Membership.{Mem}
 use Rattle.lists.specs.Place.{under, underEach, onHead}
 use Rattle.lists.specs.Tests.{all, any}
 use Rattle.lists.proofs.TestLaws.{and-both, true-T, all-holds, any-some}
-use Rattle.model.specs.Ticket.{Step, exchange, reversal, skew, section}
+use Rattle.model.specs.Ticket.{Step, exchange, reversal, skew, section, circulation}
 use Rattle.model.specs.Directions.{signs, sameSign}
 use Rattle.model.specs.Steps.{skewed, sectioned, forward, anySign, sumSigns, signedSign, headSum, skewSigns, splitSign, splitSigns, vectors}
 use Rattle.model.specs.Grammar.{mostFactor}
 use Rattle.model.specs.Ranges.{InRange, StepThere}
 use Rattle.model.specs.Promises.{Attained}
 use Rattle.model.proofs.Listing.LineLaws.{sign-decides}
-use Rattle.model.proofs.Steps.VectorLaws.{any-sign, exchange-signs, reversal-signs}
+use Rattle.model.proofs.Steps.VectorLaws.{any-sign, exchange-signs, reversal-signs, circulation-signs}
 
 -- the two points may be changed differently
 record Attains (f g : List ℤ → List ℤ) (v w : List Sign) : Type 0 where
@@ -253,3 +253,4 @@ table-attained m (skew a d c) h v w i = let r = under-attains (skewed d c) (skew
     record { first = r .first; second = r .second; size = r .size; had = r .had; has = r .has }
 table-attained m (section a k) h v w i = let r = under-attains (sectioned k) (sectioned k) splitSigns (section-attains k (h .2 .low)) a v w i in
     record { first = r .first; second = r .second; size = r .size; had = r .had; has = r .has }
+table-attained m (circulation a b) h v w i = turned-attained (circulation a b) (circulation-signs a b) v w i

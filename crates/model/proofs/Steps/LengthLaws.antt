@@ -8,10 +8,12 @@ use lib.IntN.{ℤ, negℤ, _+ℤ_, _*ℤ_}
 use lib.ListN.{length, length-map}
 use Rattle.lists.specs.Place.{under, onHead, swapped}
 use Rattle.lists.proofs.PlaceLaws.{under-length, under-lengths, under-longer, length-onHead, length-swapped}
-use Rattle.model.specs.Ticket.{Loop, Step, exchange, reversal, skew, section}
+use Rattle.lists.proofs.SwapLaws.{swapAll-length}
+use Rattle.model.specs.Ticket.{Loop, Step, exchange, reversal, skew, section, circulation}
 use Rattle.model.specs.Grammar.{depthAfter}
-use Rattle.model.specs.Steps.{skewed, sectioned, forward}
-use Rattle.model.specs.Limits.{onLimits, onCoefficients, deeper, reverseAt, skewCoefficients, skewInner, skewAt, splitCoefficients, sectionAt, exchangeAt, loopsAfter, coefficientsAfter}
+use Rattle.model.specs.Steps.{skewed, sectioned, chain, forward}
+use Rattle.model.specs.Limits.{onLimits, onCoefficients, deeper, reverseAt, skewCoefficients, skewInner, skewAt, splitCoefficients, sectionAt}
+use Rattle.model.specs.Limits.{exchangeAt, exchangeAll, loopsAfter, coefficientsAfter}
 
 -- ---- each change
 
@@ -34,6 +36,11 @@ unfolding exchangeAt
 length-exchangeAt a [] = refl
 length-exchangeAt a (I ∷ []) = refl
 length-exchangeAt a (I ∷ J ∷ N) = ap (λ n. suc (suc n)) (length-deeper (under a swapped) N)
+
+length-exchanges : (ks : List ℕ) (N : List Loop) → length (exchangeAll ks N) ≡ length N
+unfolding exchangeAll
+length-exchanges [] N = refl
+length-exchanges (k ∷ ks) N = length-exchanges ks (under k (exchangeAt k) N) ∙ under-length (exchangeAt k) (length-exchangeAt k) k N
 
 length-reverseAt : (a : ℕ) (N : List Loop) → length (reverseAt a N) ≡ length N
 unfolding reverseAt
@@ -78,6 +85,7 @@ coefficients-length (reversal a) cs p e = under-length (onHead negℤ) (length-o
 coefficients-length (skew a d c) cs p e = under-length (skewCoefficients d c) (length-skewCoefficients d c) a cs ∙ e
     ∙ sym (under-length (skewed d c) (length-skewed d c) a p)
 coefficients-length (section a w) cs p e = under-lengths (splitCoefficients w) (sectioned w) (split-lengths w) a cs p e
+coefficients-length (circulation a b) cs p e = swapAll-length (chain a b) cs ∙ e ∙ sym (swapAll-length (chain a b) p)
 
 pub loops-length : (t : Step) (N : List Loop) (p : List ℤ) → length N ≡ length p → length (loopsAfter t N) ≡ length (forward t p)
 unfolding loopsAfter forward
@@ -85,6 +93,7 @@ loops-length (exchange a) N p e = under-length (exchangeAt a) (length-exchangeAt
 loops-length (reversal a) N p e = under-length (reverseAt a) (length-reverseAt a) a N ∙ e ∙ sym (under-length (onHead negℤ) (length-onHead negℤ) a p)
 loops-length (skew a d c) N p e = under-length (skewAt a d c) (length-skewAt a d c) a N ∙ e ∙ sym (under-length (skewed d c) (length-skewed d c) a p)
 loops-length (section a w) N p e = under-lengths (sectionAt a w) (sectioned w) (section-lengths a w) a N p e
+loops-length (circulation a b) N p e = length-exchanges (chain a b) N ∙ e ∙ sym (swapAll-length (chain a b) p)
 
 pub step-length : (t : Step) (p q : List ℤ) → length p ≡ length q → length (forward t p) ≡ length (forward t q)
 step-length t p q e = sym (coefficients-length t q p (sym e)) ∙ coefficients-length t q q refl
@@ -96,6 +105,7 @@ There (exchange a) n = suc a < n
 There (reversal a) n = a < n
 There (skew a d c) n = suc (a + d) < n
 There (section a w) n = a < n
+There (circulation a b) n = Unit {0}
 
 pub depth-after : (t : Step) (N : List Loop) → There t (length N) → length (loopsAfter t N) ≡ depthAfter t (length N)
 unfolding loopsAfter depthAfter
@@ -103,3 +113,4 @@ depth-after (exchange a) N h = under-length (exchangeAt a) (length-exchangeAt a)
 depth-after (reversal a) N h = under-length (reverseAt a) (length-reverseAt a) a N
 depth-after (skew a d c) N h = under-length (skewAt a d c) (length-skewAt a d c) a N
 depth-after (section a w) N h = under-longer (sectionAt a w) (length-sectionAt a w) a N h
+depth-after (circulation a b) N h = length-exchanges (chain a b) N

@@ -10,8 +10,12 @@ use Rattle.lists.specs.Place.{under, onHead, swapped}
 use Rattle.lists.specs.Tests.{unique}
 use Rattle.lists.proofs.MembershipLaws.{all-nil, all-cons, all-append, map-all}
 use Rattle.lists.proofs.FlatMapLaws.{all-flatMap}
-use Rattle.model.specs.Ticket.{Limit, Loop, Step, exchange, reversal, skew, section}
-use Rattle.model.specs.Limits.{onCoefficients, onLimits, deeper, negated, reverseAt, outerCoefficient, kept, combined, outerPart, solvedPositive, solvedNegative, whenPositive, whenNegative, widened, newOuter, newInner, sameLimit, deduplicated, exchangeAt, skewCoefficients, skewLimit, skewInner, skewAt, sectionLower, sectionUpper, elementLimit, constantLimit, splitCoefficients, sectionAt, loopsAfter}
+use Rattle.model.specs.Ticket.{Limit, Loop, Step, exchange, reversal, skew, section, circulation}
+use Rattle.model.specs.Limits.{onCoefficients, onLimits, deeper, negated, reverseAt, outerCoefficient, kept, combined, outerPart}
+use Rattle.model.specs.Limits.{solvedPositive, solvedNegative, whenPositive, whenNegative, widened, newOuter, newInner, sameLimit, deduplicated}
+use Rattle.model.specs.Limits.{exchangeAt, skewCoefficients, skewLimit, skewInner, skewAt, sectionLower, sectionUpper, elementLimit}
+use Rattle.model.specs.Limits.{constantLimit, splitCoefficients, sectionAt, exchangeAll, loopsAfter}
+use Rattle.model.specs.Steps.{chain}
 use Rattle.model.specs.Shape.{Runs, Proper}
 use Rattle.model.proofs.Steps.ExchangePartLaws.{outerLower, outerUpper, inner-lower, inner-upper}
 use Rattle.model.proofs.Steps.DeduplicatedLaws.{all-unique}
@@ -171,9 +175,15 @@ module _ (a w : ℕ) (h : 0 < w) where
       (side-cons (omega arith) (side-map (elementLimit w) (λ l g. g) (L .upper) (upper-side L q))))
       (runs-deeper (under a (splitCoefficients w)) N (λ K m. r K (List·Memᴰ·tail m))))
 
+runs-exchanges : (ks : List ℕ) (N : List Loop) → All Runs N → All Runs (exchangeAll ks N)
+unfolding exchangeAll
+runs-exchanges [] N r = r
+runs-exchanges (k ∷ ks) N r = runs-exchanges ks (under k (exchangeAt k) N) (runs-under (exchangeAt k) (runs-exchange k) k N r)
+
 pub runs-after : (t : Step) → Proper t → (N : List Loop) → All Runs N → All Runs (loopsAfter t N)
 unfolding loopsAfter
 runs-after (exchange a) h N r = runs-under (exchangeAt a) (runs-exchange a) a N r
 runs-after (reversal a) h N r = runs-under (reverseAt a) (runs-reverse a) a N r
 runs-after (skew a d c) h N r = runs-under (skewAt a d c) (runs-skew a d c) a N r
 runs-after (section a w) h N r = runs-under (sectionAt a w) (runs-section a w h) a N r
+runs-after (circulation a b) h N r = runs-exchanges (chain a b) N r

@@ -8,8 +8,12 @@ use lib.ListN.{length, take, length-append, length-map, length-replicate}
 use Rattle.lists.specs.Place.{under, onHead, swapped}
 use Rattle.lists.proofs.MembershipLaws.{all-nil, all-cons, map-all, length-zipWith}
 use Rattle.lists.proofs.PlaceLaws.{under-length, under-longer, length-onHead, length-swapped}
-use Rattle.model.specs.Ticket.{Limit, Loop, Step, exchange, reversal, skew, section}
-use Rattle.model.specs.Limits.{onCoefficients, onLimits, deeper, negated, reverseAt, outerCoefficient, kept, combined, outerPart, solvedPositive, solvedNegative, whenPositive, whenNegative, widened, newOuter, newInner, deduplicated, exchangeAt, skewCoefficients, skewLimit, skewInner, skewAt, sectionLower, sectionUpper, elementLimit, constantLimit, splitCoefficients, sectionAt, loopsAfter}
+use Rattle.model.specs.Ticket.{Limit, Loop, Step, exchange, reversal, skew, section, circulation}
+use Rattle.model.specs.Steps.{chain}
+use Rattle.model.specs.Limits.{onCoefficients, onLimits, deeper, negated, reverseAt, outerCoefficient, kept, combined, outerPart}
+use Rattle.model.specs.Limits.{solvedPositive, solvedNegative, whenPositive, whenNegative, widened, newOuter, newInner, deduplicated}
+use Rattle.model.specs.Limits.{exchangeAt, skewCoefficients, skewLimit, skewInner, skewAt, sectionLower, sectionUpper, elementLimit}
+use Rattle.model.specs.Limits.{constantLimit, splitCoefficients, sectionAt, exchangeAll, loopsAfter}
 use Rattle.model.specs.Shape.{Sized, Shaped}
 use Rattle.model.proofs.Steps.LengthLaws.{length-skewCoefficients}
 use Rattle.model.proofs.Steps.ExchangePartLaws.{outer-lower, outer-upper, inner-lower, inner-upper}
@@ -194,9 +198,16 @@ module _ (a w : ℕ) where
 
 -- ---- any step
 
+pub shaped-exchanges : (ks : List ℕ) (N : List Loop) → Shaped 0 N → Shaped 0 (exchangeAll ks N)
+unfolding exchangeAll
+shaped-exchanges [] N s = s
+shaped-exchanges (k ∷ ks) N s = shaped-exchanges ks (under k (exchangeAt k) N)
+    (shaped-under (exchangeAt k) k (shaped-exchange k) k 0 (omega arith) N s)
+
 pub shaped-after : (t : Step) (N : List Loop) → Shaped 0 N → Shaped 0 (loopsAfter t N)
 unfolding loopsAfter
 shaped-after (exchange a) N s = shaped-under (exchangeAt a) a (shaped-exchange a) a 0 (omega arith) N s
 shaped-after (reversal a) N s = shaped-under (reverseAt a) a (shaped-reverse a) a 0 (omega arith) N s
 shaped-after (skew a d c) N s = shaped-under (skewAt a d c) a (shaped-skew a d c) a 0 (omega arith) N s
 shaped-after (section a w) N s = shaped-under (sectionAt a w) a (shaped-section a w) a 0 (omega arith) N s
+shaped-after (circulation a b) N s = shaped-exchanges (chain a b) N s

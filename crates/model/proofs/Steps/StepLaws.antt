@@ -1,15 +1,17 @@
 -- Any step, one: a point is inside the old nest exactly if the point that the step makes of it is inside the new one; so a step keeps the
 -- iterations. Lists of steps are in `KeepLaws`.
 use mathlib.Core.Path.{_≡_, sym, subst}
-use mathlib.Core.Logic.{_↔_}
-use mathlib.Core.List.{List, []}
+use mathlib.Core.Logic.{_↔_, Iff·rfl}
+use mathlib.Core.List.{List, [], _∷_}
+use Prim.Native.Nat.{ℕ}
 use lib.IntN.{ℤ}
 use Rattle.lists.specs.Membership.{Mem, All}
-use Rattle.model.specs.Ticket.{Loop, Step, exchange, reversal, skew, section}
+use Rattle.lists.specs.Place.{under, swapped, swapAll}
+use Rattle.model.specs.Ticket.{Loop, Step, exchange, reversal, skew, section, circulation}
 use Rattle.model.specs.Points.{iterations}
 use Rattle.model.specs.Inside.{Inside}
-use Rattle.model.specs.Steps.{forward, undo}
-use Rattle.model.specs.Limits.{loopsAfter}
+use Rattle.model.specs.Steps.{chain, forward, undo}
+use Rattle.model.specs.Limits.{exchangeAt, exchangeAll, loopsAfter}
 use Rattle.model.specs.Shape.{Shaped, Runs, Proper}
 use Rattle.model.specs.Promises.{KeepsPoints}
 use Rattle.model.proofs.Points.PointLaws.{iterations-inside}
@@ -18,7 +20,16 @@ use Rattle.model.proofs.Steps.ExchangeLaws.{exchange-inside}
 use Rattle.model.proofs.Steps.SkewLaws.{skew-inside}
 use Rattle.model.proofs.Steps.SectionLaws.{section-inside}
 use Rattle.model.proofs.Steps.UndoLaws.{undo-forward, forward-undo}
+use Rattle.model.proofs.Steps.ShapeLaws.{shaped-exchanges}
 use Rattle.model.proofs.Steps.RunsLaws.{runs-after}
+
+exchanges-inside : (ks : List ℕ) (y : List ℤ) (N : List Loop) → Shaped 0 N → Inside N [] y ↔ Inside (exchangeAll ks N) [] (swapAll ks y)
+unfolding exchangeAll swapAll
+exchanges-inside [] y N s = Iff·rfl
+exchanges-inside (k ∷ ks) y N s =
+    let h = exchange-inside k y N s in
+    let r = exchanges-inside ks (under k swapped y) (under k (exchangeAt k) N) (shaped-exchanges (k ∷ []) N s) in
+    (λ o. r .0 (h .0 o), λ o. h .1 (r .1 o))
 
 pub step-inside : (t : Step) → Proper t → (N : List Loop) → Shaped 0 N → (y : List ℤ) → Inside N [] y ↔ Inside (loopsAfter t N) [] (forward t y)
 unfolding loopsAfter forward
@@ -26,6 +37,7 @@ step-inside (exchange a) h N s y = exchange-inside a y N s
 step-inside (reversal a) h N s y = reversal-inside a y N s
 step-inside (skew a d c) h N s y = skew-inside a d c y N s
 step-inside (section a w) h N s y = section-inside a w h y N s
+step-inside (circulation a b) h N s y = exchanges-inside (chain a b) y N s
 
 module _ (t : Step) (h : Proper t) (N : List Loop) (s : Shaped 0 N) where
   pub undo-inside : (q : List ℤ) → Inside (loopsAfter t N) [] q → Inside N [] (undo t q)

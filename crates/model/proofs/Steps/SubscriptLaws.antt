@@ -7,17 +7,18 @@ use native.Mathlib.Omega.{arith}
 use lib.IntN.{ℤ, pos, negℤ, _+ℤ_, _-ℤ_, _*ℤ_}
 use lib.ListN.{length, getD}
 use Rattle.lists.specs.Membership.{All}
-use Rattle.lists.specs.Place.{under, onHead, swapped}
+use Rattle.lists.specs.Place.{under, onHead, swapped, swapAll}
 use Rattle.lists.proofs.MembershipLaws.{map-same}
+use Rattle.lists.proofs.SwapLaws.{swap-lengths}
 use Rattle.integers.specs.Affine.{dot, affine}
 use Rattle.integers.proofs.AffineLaws.{dot-index}
 use Rattle.integers.proofs.DivisionLaws.{quotient, rest, rejoin}
 use Rattle.integers.proofs.Polynomial.{_⊕_, _⊖_, _⊗_, ⊝}
 use Rattle.integers.proofs.Linear.{lin, _≐_}
-use Rattle.model.specs.Ticket.{Subscript, Access, Step, exchange, reversal, skew, section}
+use Rattle.model.specs.Ticket.{Subscript, Access, Step, exchange, reversal, skew, section, circulation}
 use Rattle.model.specs.Bounds.{subscriptAt}
 use Rattle.model.specs.Machine.{element}
-use Rattle.model.specs.Steps.{skewed, sectioned, forward}
+use Rattle.model.specs.Steps.{skewed, sectioned, chain, forward}
 use Rattle.model.specs.Limits.{skewCoefficients, splitCoefficients, coefficientsAfter, subscriptAfter, accessAfter}
 use Rattle.model.specs.Shape.{Fits}
 
@@ -71,12 +72,19 @@ dot-under g f h (suc a) [] p e = refl
 dot-under g f h (suc a) (c ∷ cs) [] e = absurd (omega arith)
 dot-under g f h (suc a) (c ∷ cs) (x ∷ p) e = ap (λ d. c *ℤ x +ℤ d) (dot-under g f h a cs p (omega arith))
 
+dot-swapAll : (ks : List ℕ) (cs p : List ℤ) → length cs ≡ length p → dot (swapAll ks cs) (swapAll ks p) ≡ dot cs p
+unfolding swapAll
+dot-swapAll [] cs p e = refl
+dot-swapAll (k ∷ ks) cs p e = dot-swapAll ks (under k swapped cs) (under k swapped p) (swap-lengths k cs p e)
+    ∙ dot-under swapped swapped dot-swapped k cs p e
+
 pub subscript-after : (t : Step) (cs p : List ℤ) → length cs ≡ length p → dot (coefficientsAfter t cs) (forward t p) ≡ dot cs p
 unfolding coefficientsAfter forward
 subscript-after (exchange a) cs p e = dot-under swapped swapped dot-swapped a cs p e
 subscript-after (reversal a) cs p e = dot-under (onHead negℤ) (onHead negℤ) (λ cs p _. dot-reversed cs p) a cs p e
 subscript-after (skew a d c) cs p e = dot-under (skewCoefficients d c) (skewed d c) (dot-skewed d c) a cs p e
 subscript-after (section a w) cs p e = dot-under (splitCoefficients w) (sectioned w) (dot-sectioned w) a cs p e
+subscript-after (circulation a b) cs p e = dot-swapAll (chain a b) cs p e
 
 -- ---- elements
 

@@ -5,10 +5,11 @@ use Prim.Native.Nat.{ℕ}
 use lib.IntN.{ℤ, pos, negℤ, negℤ-negℤ, _+ℤ_, _-ℤ_, +ℤ-negℤ-cancel, -ℤ-+ℤ-cancel, _*ℤ_}
 use Rattle.lists.specs.Place.{onHead, swapped}
 use Rattle.lists.proofs.PlaceLaws.{under-inverse, onHead-inverse, swapped-swapped}
+use Rattle.lists.proofs.SwapLaws.{back-swapAll, swapAll-back}
 use Rattle.integers.proofs.DivisionLaws.{rejoin}
-use Rattle.model.specs.Ticket.{Loop, Step, exchange, reversal, skew, section}
+use Rattle.model.specs.Ticket.{Loop, Step, exchange, reversal, skew, section, circulation}
 use Rattle.model.specs.Inside.{Inside}
-use Rattle.model.specs.Steps.{skewed, unskewed, sectioned, unsectioned, forward, undo, forwardAll, undoAll}
+use Rattle.model.specs.Steps.{skewed, unskewed, sectioned, unsectioned, chain, forward, undo, forwardAll, undoAll}
 use Rattle.model.specs.Limits.{loopsAfter}
 use Rattle.model.specs.Shape.{Proper}
 use Rattle.model.proofs.Steps.SectionLaws.{section-undone}
@@ -32,6 +33,7 @@ undo-forward (exchange a) p = under-inverse swapped swapped swapped-swapped a p
 undo-forward (reversal a) p = under-inverse (onHead negℤ) (onHead negℤ) (onHead-inverse negℤ negℤ negℤ-negℤ) a p
 undo-forward (skew a d c) p = under-inverse (unskewed d c) (skewed d c) (unskewed-skewed d c) a p
 undo-forward (section a w) p = under-inverse (unsectioned w) (sectioned w) (unsectioned-sectioned w) a p
+undo-forward (circulation a b) p = back-swapAll (chain a b) p
 
 pub undo-forwardAll : (ts : List Step) (p : List ℤ) → undoAll ts (forwardAll ts p) ≡ p
 unfolding undoAll forwardAll
@@ -52,3 +54,4 @@ forward-undo (exchange a) h N q o = under-inverse swapped swapped swapped-swappe
 forward-undo (reversal a) h N q o = under-inverse (onHead negℤ) (onHead negℤ) (onHead-inverse negℤ negℤ negℤ-negℤ) a q
 forward-undo (skew a d c) h N q o = under-inverse (skewed d c) (unskewed d c) (skewed-unskewed d c) a q
 forward-undo (section a w) h N q o = section-undone w h a a [] q N o
+forward-undo (circulation a b) h N q o = swapAll-back (chain a b) q

@@ -1,5 +1,5 @@
 -- Vectors after a step: the signs between two points after it are among those that its table gives for the signs before, and are the only one
--- after an exchange or a reversal. In order: signs of sums and of parts; a change at a place; the four steps.
+-- after an exchange, a reversal or a circulation. In order: signs of sums and of parts; a change at a place; the steps.
 use mathlib.Core.Path.{_≡_, refl, sym, ap, ap₂, _∙_, subst}
 use Rattle.integers.proofs.Linear.{lin, _≐_, _⊏_, _⟶_}
 use Rattle.integers.proofs.Polynomial.{_⊗_, ⊝, #}
@@ -12,16 +12,18 @@ use lib.IntN.{ℤ, pos, negℤ, _+ℤ_, _*ℤ_}
 use lib.ListN.{length}
 use lib.Signed.{_<ℤ_}
 use Rattle.lists.specs.Membership.{Mem}
-use Rattle.lists.specs.Place.{under, underEach, onHead, swapped}
+use Rattle.lists.specs.Place.{under, underEach, onHead, swapped, swapAll}
 use Rattle.lists.proofs.FlatMapLaws.{mem-flatMap}
+use Rattle.lists.proofs.SwapLaws.{swap-lengths}
 use Rattle.integers.specs.Sign.{Sign, less, equal, greater, sign, turned}
 use Rattle.integers.proofs.DifferenceLaws.{add-fact}
 use Rattle.integers.proofs.RingLaws.{zarith}
 use Rattle.integers.proofs.DivisionLaws.{quotient, rest, split-less}
 use Rattle.integers.proofs.SignLaws.{Means, sign-means, means-sign, sign-negated, sign-self}
-use Rattle.model.specs.Ticket.{Step, exchange, reversal, skew, section}
+use Rattle.model.specs.Ticket.{Step, exchange, reversal, skew, section, circulation}
 use Rattle.model.specs.Directions.{signs, bySign}
-use Rattle.model.specs.Steps.{skewed, sectioned, forward, anySign, sumSigns, signedSign, headSum, skewSigns, splitSign, splitSigns, vectors, vectorsAfter}
+use Rattle.model.specs.Steps.{skewed, sectioned, chain, forward, anySign, sumSigns, signedSign, headSum, skewSigns, splitSign, splitSigns}
+use Rattle.model.specs.Steps.{vectors, vectorsAfter}
 use Rattle.model.specs.Shape.{Proper}
 
 -- ---- sums
@@ -114,6 +116,20 @@ pub exchange-signs : (a : ℕ) (p q : List ℤ) → length p ≡ length q
 unfolding vectors forward
 exchange-signs a p q e = ap (λ v. v ∷ []) (sym (signs-under swapped swapped swapped swapped-signs a p q e))
 
+-- ---- circulation
+
+swapAll-signs : (ks : List ℕ) (p q : List ℤ) → length p ≡ length q → signs (swapAll ks p) (swapAll ks q) ≡ swapAll ks (signs p q)
+unfolding swapAll
+swapAll-signs [] p q e = refl
+swapAll-signs (k ∷ ks) p q e =
+    swapAll-signs ks (under k swapped p) (under k swapped q) (swap-lengths k p q e)
+    ∙ ap (swapAll ks) (signs-under swapped swapped swapped swapped-signs k p q e)
+
+pub circulation-signs : (a b : ℕ) (p q : List ℤ) → length p ≡ length q
+    → vectors (circulation a b) (signs p q) ≡ signs (forward (circulation a b) p) (forward (circulation a b) q) ∷ []
+unfolding vectors forward
+circulation-signs a b p q e = ap (λ v. v ∷ []) (sym (swapAll-signs (chain a b) p q e))
+
 -- ---- reversal
 
 negated-signs : (p q : List ℤ) → length p ≡ length q → signs (onHead negℤ p) (onHead negℤ q) ≡ onHead turned (signs p q)
@@ -182,6 +198,8 @@ step-signs (reversal a) h p q e = subst (Mem (signs (forward (reversal a) p) (fo
     (List·Memᴰ·head refl)
 step-signs (skew a d c) h p q e = unfold vectors forward in signs-underEach (skewed d c) (skewed d c) (skewSigns d c) (skewed-signs d c) a p q e
 step-signs (section a w) h p q e = unfold vectors forward in signs-underEach (sectioned w) (sectioned w) splitSigns (sectioned-signs w h) a p q e
+step-signs (circulation a b) h p q e =
+    subst (Mem (signs (forward (circulation a b) p) (forward (circulation a b) q))) (sym (circulation-signs a b p q e)) (List·Memᴰ·head refl)
 
 -- in a set of vectors
 pub vectors-after : (t : Step) → Proper t → (vs : List (List Sign)) (p q : List ℤ) → length p ≡ length q → Mem (signs p q) vs

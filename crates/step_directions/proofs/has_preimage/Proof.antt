@@ -1,17 +1,18 @@
 -- `has_preimage`: each kind of step by its own source.
 use mathlib.Core.Path.{_≡_, sym, subst}
 use mathlib.Core.Bool.{Bool, false}
-use Prim.Native.Nat.{_+_}
+use Prim.Native.Nat.{_+_, _-_}
 use native.Mathlib.Omega.{arith}
 use lib.ListN.{getD}
 use mir.Syntax.{w32}
 use mir.Val.{toZ, ofZ}
 use borrow.Author.Needs.{needs}
 use Rattle.integers.specs.Sign.{turned}
-use Rattle.lists.specs.Place.{under, onHead, swapped}
+use Rattle.lists.specs.Place.{under, onHead, swapped, swapAll}
+use Rattle.model.specs.Steps.{chain}
 use Rattle.step_kinds.specs.Kinds.{stepOf}
 use Rattle.step_kinds.specs.declared.Step.{Step}
-use Rattle.step_kinds.specs.declared.Step.the-variants.{Exchange, Reversal, Skew, Section}
+use Rattle.step_kinds.specs.declared.Step.the-variants.{Exchange, Reversal, Skew, Section, Circulation}
 use Rattle.step_preimages.specs.Sources.{joined}
 use Rattle.step_preimages.proofs.SourceLaws.{source-mark}
 use Rattle.step_directions.specs.Preimages.{ComesIn, Comes}
@@ -86,6 +87,18 @@ section-source-requires c κs =
 element-copy-out-result-3 : tie.Need-element-copy-out-result-3
 element-copy-out-result-3 c = search needs
 
+enum-known-step-5 : tie.Need-enum-known-step-5
+enum-known-step-5 c = search needs
+
+circulation-source-requires : tie.Need-circulation-source-requires
+circulation-source-requires c κs =
+    let g = c .before .step5 .given in
+    let p = known (c .before .before .before) (Circulation (g .0 .0)) (g .1) in
+    record { below = p .below; few = p .few }
+
+element-copy-out-result-4 : tie.Need-element-copy-out-result-4
+element-copy-out-result-4 c = search needs
+
 returns : tie.Need-returns
 returns c =
     let s = c .before .before .before .before .before in
@@ -118,6 +131,16 @@ returns-4 c =
     found s (Section (g .0 .0)) (getD (s .args .old .now) (r .result) false) (g .1)
     (source-mark (under (g .0 .0 .target) joined) (g .0 .0 .target + 2) (s .args .n) (r .result) (r .ensures) (s .args .old .now))
 
+returns-5 : tie.Need-returns-5
+returns-5 c =
+    let s = c .before .before .before .before .before in
+    let g = c .before .before .before .step5 .given in
+    let r = c .before .circulation-source in
+    let a = g .0 .0 .from in
+    let b = g .0 .0 .to in
+    found s (Circulation (g .0 .0)) (getD (s .args .old .now) (r .result) false) (g .1)
+    (source-mark (swapAll (chain b a)) (a + (b - a) + 1) (s .args .n) (r .result) (r .ensures) (s .args .old .now))
+
 pub has-preimage-spec : {M : Type 1} → statement M
 has-preimage-spec =
     tie.close
@@ -135,7 +158,11 @@ has-preimage-spec =
     enum-known-step-4
     section-source-requires
     element-copy-out-result-3
+    enum-known-step-5
+    circulation-source-requires
+    element-copy-out-result-4
     returns
     returns-2
     returns-3
-    returns-4)
+    returns-4
+    returns-5)

@@ -19,6 +19,9 @@ enum-told-3 c = search needs
 enum-told-4 : tie.Need-enum-told-4
 enum-told-4 c = search needs
 
+enum-told-5 : tie.Need-enum-told-5
+enum-told-5 c = search needs
+
 add-result : tie.Need-add-result
 add-result c = search needs
 
@@ -38,6 +41,10 @@ returns-4 : tie.Need-returns-4
 unfolding depthAfter
 returns-4 c = add-one _ ∙ sym (ap (λ x. depthAfter (stepOf x) (c .before .before .args .depth)) (c .enum-told4 .given .1))
 
+returns-5 : tie.Need-returns-5
+unfolding depthAfter
+returns-5 c = sym (ap (λ x. depthAfter (stepOf x) (c .before .before .args .depth)) (c .enum-told5 .given .1))
+
 pub depth-after-spec : {M : Type 1} → statement M
 depth-after-spec =
     tie.close
@@ -47,7 +54,9 @@ depth-after-spec =
     enum-told-3
     enum-told-4
     add-result
+    enum-told-5
     returns
     returns-2
     returns-3
-    returns-4)
+    returns-4
+    returns-5)

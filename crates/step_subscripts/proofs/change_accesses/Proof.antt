@@ -4,23 +4,23 @@ use native.Mathlib.Omega.{arith}
 use lib.ListN.{length}
 use borrow.Author.Needs.{needs}
 use borrow.Author.Tests.{not-true, not-false}
-use Rattle.step_kinds.specs.Kinds.{stepOf}
+use Rattle.step_kinds.specs.Kinds.{stageOf}
 use Rattle.step_subscripts.proofs.AccessLaws.{Passed, passed-none, width-inside, next-in, next-fails, next-passes, passed-all}
 use Rattle.step_subscripts.proofs.change_accesses.Statement.{statement}
 use Rattle.step_subscripts.proofs.change_accesses.Tie as tie
 
 abbrev Inv-loop : tie.InvT-loop
-Inv-loop words₀ accessed extents depth step m k₀ words k = Passed (stepOf step) words₀ accessed extents depth words k
+Inv-loop words₀ accessed extents depth stage m k₀ words k = Passed (stageOf stage) words₀ accessed extents depth words k
 
 abbrev μ-loop : tie.MeasureT-loop
-μ-loop words₀ accessed extents depth step m k₀ words k = length accessed - k
+μ-loop words₀ accessed extents depth stage m k₀ words k = length accessed - k
 
-depth-after-requires : tie.Need-depth-after-requires Inv-loop μ-loop
-depth-after-requires c κs = c .before .before .pre .step .few
+depth-after-stage-requires : tie.Need-depth-after-stage-requires Inv-loop μ-loop
+depth-after-stage-requires c κs = c .before .before .pre .step .few
 
 loop-holds : tie.Need-loop-holds Inv-loop μ-loop
 loop-holds c = let s = c .before .before .before in passed-none (s .args .words .now) (s .args .accessed .now) (s .args .extents .now)
-    (s .args .depth) (s .args .step) (s .pre)
+    (s .args .depth) (s .args .stage) (s .pre)
 
 mul-at : tie.Need-mul-at Inv-loop μ-loop
 mul-at c = search needs
@@ -31,7 +31,7 @@ shared-slice-read-at c = search needs
 mul-at-2 : tie.Need-mul-at-2 Inv-loop μ-loop
 mul-at-2 c =
     let s = c .before .before .before .before .before .before in
-    let e = width-inside (s .args .words .now) (s .args .accessed .now) (s .args .extents .now) (s .args .depth) (s .args .step) (s .pre)
+    let e = width-inside (s .args .words .now) (s .args .accessed .now) (s .args .extents .now) (s .args .depth) (s .args .stage) (s .pre)
     (c .before .before .loop .k) (c .before .loop-test .taken) in
     let f = s .pre .held .few in
     omega arith
@@ -39,7 +39,7 @@ mul-at-2 c =
 mul-count : tie.Need-mul-count Inv-loop μ-loop
 mul-count c =
     let s = c .before .before .before .before .before .before in
-    let e = width-inside (s .args .words .now) (s .args .accessed .now) (s .args .extents .now) (s .args .depth) (s .args .step) (s .pre)
+    let e = width-inside (s .args .words .now) (s .args .accessed .now) (s .args .extents .now) (s .args .depth) (s .args .stage) (s .pre)
     (c .before .before .loop .k) (c .before .loop-test .taken) in
     let f = s .pre .held .few in
     omega arith
@@ -47,7 +47,7 @@ mul-count c =
 shared-slice-read-count : tie.Need-shared-slice-read-count Inv-loop μ-loop
 shared-slice-read-count c =
     let s = c .before .before .before .before .before .before .before in
-    let e = width-inside (s .args .words .now) (s .args .accessed .now) (s .args .extents .now) (s .args .depth) (s .args .step) (s .pre)
+    let e = width-inside (s .args .words .now) (s .args .accessed .now) (s .args .extents .now) (s .args .depth) (s .args .stage) (s .pre)
     (c .before .before .before .loop .k) (c .before .before .loop-test .taken) in
     omega arith
 
@@ -63,8 +63,8 @@ change-subscripts-requires c κs =
     let l = c .before .before .before .before .loop in
     let d = c .before .before .before .before .before in
     let s = d .before .before .before in
-    next-in (s .args .words .now) (s .args .accessed .now) (s .args .extents .now) (s .args .depth) (s .args .step) (s .pre) (l .words) (l .k)
-    (l .inv) (c .before .before .before .loop-test .taken) (d .depth-after .result) (d .depth-after .ensures)
+    next-in (s .args .words .now) (s .args .accessed .now) (s .args .extents .now) (s .args .depth) (s .args .stage) (s .pre) (l .words) (l .k)
+    (l .inv) (c .before .before .before .loop-test .taken) (d .depth-after-stage .result) (d .depth-after-stage .ensures)
 
 same-length : tie.Need-same-length Inv-loop μ-loop
 same-length c =
@@ -79,7 +79,7 @@ returns c =
     let s = b .before .before .before .before in
     let l = b .loop in
     let f = c .before .before .change-subscripts in
-    next-fails (s .args .words .now) (s .args .accessed .now) (s .args .extents .now) (s .args .depth) (s .args .step) (s .pre) (l .words) (l .k)
+    next-fails (s .args .words .now) (s .args .accessed .now) (s .args .extents .now) (s .args .depth) (s .args .stage) (s .pre) (l .words) (l .k)
     (l .inv) (c .before .before .before .before .before .before .loop-test .taken) _ (f .result) (f .ensures)
     (not-true (f .result) (c .if1 .taken))
 
@@ -95,7 +95,7 @@ loop-again c =
     let s = b .before .before .before .before in
     let l = b .loop in
     let f = c .before .before .change-subscripts in
-    next-passes (s .args .words .now) (s .args .accessed .now) (s .args .extents .now) (s .args .depth) (s .args .step) (s .pre) (l .words) (l .k)
+    next-passes (s .args .words .now) (s .args .accessed .now) (s .args .extents .now) (s .args .depth) (s .args .stage) (s .pre) (l .words) (l .k)
     (l .inv) (c .before .before .before .before .before .before .loop-test .taken) _ (f .result) (f .ensures)
     (not-false (f .result) (c .if1 .left))
 
@@ -106,7 +106,7 @@ returns-2 : tie.Need-returns-2 Inv-loop μ-loop
 returns-2 c =
     let l = c .before .loop in
     let s = c .before .before .before .before .before in
-    passed-all (s .args .words .now) (s .args .accessed .now) (s .args .extents .now) (s .args .depth) (s .args .step) (s .pre) (l .words) (l .k)
+    passed-all (s .args .words .now) (s .args .accessed .now) (s .args .extents .now) (s .args .depth) (s .args .stage) (s .pre) (l .words) (l .k)
     (l .inv) (c .loop-test .left)
 
 pub change-accesses-spec : {M : Type 1} → statement M
@@ -115,7 +115,7 @@ change-accesses-spec =
     (tie.spec
     Inv-loop
     μ-loop
-    depth-after-requires
+    depth-after-stage-requires
     loop-holds
     mul-at
     shared-slice-read-at

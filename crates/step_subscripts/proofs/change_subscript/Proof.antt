@@ -30,7 +30,7 @@ row-after-requires c κs =
 put-row-requires : tie.Need-put-row-requires
 put-row-requires c κs =
     let s = c .before .before .before .before in
-    let m = change-shallow (s .args .words .now) (s .args .j) 1 (s .args .n) (s .args .m) (s .args .step) (s .pre) in
+    let m = change-shallow (s .args .words .now) (s .args .j) 1 (s .args .n) (s .args .m) (s .args .stage) (s .pre) in
     let i = s .pre .inside in
     (omega arith, omega arith)
 
@@ -40,7 +40,7 @@ same-length c = search needs
 returns : tie.Need-returns
 returns c =
     let s = c .before .before .before .before .before .before in
-    change-tried (s .args .words .now) (s .args .j) (s .args .n) (s .args .m) (s .args .step) (s .pre)
+    change-tried (s .args .words .now) (s .args .j) (s .args .n) (s .args .m) (s .args .stage) (s .pre)
     (c .before .before .before .before .row-at .result) (c .before .before .before .row-after .result)
     (row (c .before .before .before .before)) (c .before .before .before .row-after .ensures) _ (c .before .put-row .result)
     (c .before .put-row .ensures)

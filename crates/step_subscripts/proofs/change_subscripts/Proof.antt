@@ -3,20 +3,20 @@ use Prim.Native.Nat.{_-_, _≤_}
 use native.Mathlib.Omega.{arith}
 use borrow.Author.Needs.{needs}
 use borrow.Author.Tests.{not-true, not-false}
-use Rattle.step_kinds.specs.Kinds.{stepOf}
+use Rattle.step_kinds.specs.Kinds.{stageOf}
 use Rattle.step_subscripts.specs.After.{Changed}
 use Rattle.step_subscripts.proofs.ChangeLaws.{changed-none, next-in, next-fails, next-passes, all-pass}
 use Rattle.step_subscripts.proofs.change_subscripts.Statement.{statement}
 use Rattle.step_subscripts.proofs.change_subscripts.Tie as tie
 
 abbrev Inv-loop : tie.InvT-loop
-Inv-loop words₀ first count n m step d₀ words d = (d ≤ count) × Changed (stepOf step) words₀ n first d words
+Inv-loop words₀ first count n m stage d₀ words d = (d ≤ count) × Changed (stageOf stage) words₀ n first d words
 
 abbrev μ-loop : tie.MeasureT-loop
-μ-loop words₀ first count n m step d₀ words d = count - d
+μ-loop words₀ first count n m stage d₀ words d = count - d
 
 loop-holds : tie.Need-loop-holds Inv-loop μ-loop
-loop-holds c = (omega arith, changed-none (stepOf (c .args .step)) (c .args .n) (c .args .words .now) (c .args .first) (c .pre .small))
+loop-holds c = (omega arith, changed-none (stageOf (c .args .stage)) (c .args .n) (c .args .words .now) (c .args .first) (c .pre .small))
 
 add-change-subscript : tie.Need-add-change-subscript Inv-loop μ-loop
 add-change-subscript c = let i = c .before .before .before .pre .inside in omega arith
@@ -25,7 +25,7 @@ change-subscript-requires : tie.Need-change-subscript-requires Inv-loop μ-loop
 change-subscript-requires c κs =
     let s = c .before .before .before in
     let l = c .before .before .loop in
-    next-in (s .args .words .now) (s .args .first) (s .args .count) (s .args .n) (s .args .m) (s .args .step) (s .pre) (l .words) (l .d) (l .inv .1)
+    next-in (s .args .words .now) (s .args .first) (s .args .count) (s .args .n) (s .args .m) (s .args .stage) (s .pre) (l .words) (l .d) (l .inv .1)
     (c .before .loop-test .taken)
 
 same-length : tie.Need-same-length Inv-loop μ-loop
@@ -41,7 +41,7 @@ returns c =
     let s = b .before in
     let l = b .loop in
     let f = c .before .before .change-subscript in
-    next-fails (s .args .words .now) (s .args .first) (s .args .count) (s .args .n) (s .args .m) (s .args .step) (s .pre) (l .words) (l .d)
+    next-fails (s .args .words .now) (s .args .first) (s .args .count) (s .args .n) (s .args .m) (s .args .stage) (s .pre) (l .words) (l .d)
     (l .inv .1) (c .before .before .before .before .loop-test .taken) _ (f .result) (f .ensures) (not-true (f .result) (c .if1 .taken))
 
 add-d : tie.Need-add-d Inv-loop μ-loop
@@ -57,7 +57,7 @@ loop-again c =
     let l = b .loop in
     let f = c .before .before .change-subscript in (
       omega arith,
-      next-passes (s .args .words .now) (s .args .first) (s .args .count) (s .args .n) (s .args .m) (s .args .step) (s .pre) (l .words)
+      next-passes (s .args .words .now) (s .args .first) (s .args .count) (s .args .n) (s .args .m) (s .args .stage) (s .pre) (l .words)
           (l .d) (l .inv .1) (c .before .before .before .before .loop-test .taken) _ (f .result) (f .ensures) (not-false (f .result) (c .if1 .left)),
     )
 
@@ -68,7 +68,7 @@ returns-2 : tie.Need-returns-2 Inv-loop μ-loop
 returns-2 c =
     let s = c .before .before in
     let l = c .before .loop in
-    all-pass (s .args .words .now) (s .args .first) (s .args .count) (s .args .n) (s .args .m) (s .args .step) (s .pre) (l .words) (l .d)
+    all-pass (s .args .words .now) (s .args .first) (s .args .count) (s .args .n) (s .args .m) (s .args .stage) (s .pre) (l .words) (l .d)
     (l .inv .1) (l .inv .0) (c .loop-test .left)
 
 pub change-subscripts-spec : {M : Type 1} → statement M

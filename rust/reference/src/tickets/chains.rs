@@ -16,17 +16,20 @@ fn width(random: &mut Random) -> i64 {
     }
 }
 
-/// A step that such a nest has loops for; `weights` are those of exchange, reversal, skew and section.
-fn step(random: &mut Random, loops: usize, weights: [i64; 4]) -> Step {
-    let [mut exchange, reversal, mut skew, mut section] = weights;
+/// How often each kind of step is tried: exchange, reversal, skew, section and circulation.
+pub type Weights = [i64; 5];
+
+/// A step that such a nest has loops for.
+fn step(random: &mut Random, loops: usize, weights: Weights) -> Step {
+    let [mut exchange, reversal, mut skew, mut section, mut circulation] = weights;
     if loops == 1 {
-        (exchange, skew) = (0, 0);
+        (exchange, skew, circulation) = (0, 0, 0);
     }
     if loops == 6 {
         section = 0;
     }
     let a = random.below(loops);
-    match random.weighted(&[exchange, reversal.max(1), skew, section]) {
+    match random.weighted(&[exchange, reversal.max(1), skew, section, circulation]) {
         0 => Step::Exchange {
             a: random.below(loops - 1),
         },
@@ -37,7 +40,12 @@ fn step(random: &mut Random, loops: usize, weights: [i64; 4]) -> Step {
             let c = random.pick(&[1, -1]);
             Step::Skew { a, b, c }
         }
-        _ => Step::Section { a, width: width(random) },
+        3 => Step::Section { a, width: width(random) },
+        _ => {
+            let other = random.below(loops - 1);
+            let b = if other < a { other } else { other + 1 };
+            Step::Circulation { a, b }
+        }
     }
 }
 
@@ -48,14 +56,19 @@ fn loops_after(step: &Step, loops: usize) -> usize {
     }
 }
 
-/// Steps of any kind, whatever becomes of the nest.
-pub fn free(random: &mut Random, loops: usize, count: usize, weights: [i64; 4]) -> Vec<Step> {
+/// So many steps of these weights.
+pub type Part = (usize, Weights);
+
+/// Steps of one part after another, whatever becomes of the nest.
+pub fn free(random: &mut Random, loops: usize, parts: &[Part]) -> Vec<Step> {
     let mut loops = loops;
     let mut steps = vec![];
-    for _ in 0..count {
-        let next = step(random, loops, weights);
-        loops = loops_after(&next, loops);
-        steps.push(next);
+    for (count, weights) in parts {
+        for _ in 0..*count {
+            let next = step(random, loops, *weights);
+            loops = loops_after(&next, loops);
+            steps.push(next);
+        }
     }
     steps
 }
@@ -69,30 +82,35 @@ struct Way {
 impl Way {
     fn after(&self, step: &Step) -> Option<Way> {
         let set: BTreeSet<Vector> = self.set.iter().flat_map(|v| mapped(step, v)).collect();
-        let nest = limits::after(step, &self.nest);
-        let refused = set.iter().any(|v| backwards(v)) || limits::full(&nest) || limits::big(&nest);
-        (!refused).then_some(Way { nest, set })
+        if set.iter().any(|v| backwards(v)) {
+            return None;
+        }
+        let nest = limits::after(step, &self.nest).ok()?;
+        Some(Way { nest, set })
     }
 }
 
-/// Steps that are accepted one after another, as far as some tries find any.
-pub fn accepted(random: &mut Random, nest: &Nest, count: usize, weights: [i64; 4]) -> Vec<Step> {
+/// Steps that are accepted one after another, as far as some tries for each part find any.
+pub fn accepted(random: &mut Random, nest: &Nest, parts: &[Part]) -> Vec<Step> {
     let Ok(points) = admit(nest) else {
-        return free(random, nest.loops.len(), count, weights);
+        return free(random, nest.loops.len(), parts);
     };
     let mut way = Way {
         nest: nest.clone(),
         set: vectors(&conflicts(nest, &points)),
     };
     let mut steps = vec![];
-    for _ in 0..12 {
-        if steps.len() == count {
-            break;
-        }
-        let next = step(random, way.nest.loops.len(), weights);
-        if let Some(further) = way.after(&next) {
-            way = further;
-            steps.push(next);
+    for (count, weights) in parts {
+        let wanted = steps.len() + count;
+        for _ in 0..12 {
+            if steps.len() == wanted {
+                break;
+            }
+            let next = step(random, way.nest.loops.len(), *weights);
+            if let Some(further) = way.after(&next) {
+                way = further;
+                steps.push(next);
+            }
         }
     }
     steps

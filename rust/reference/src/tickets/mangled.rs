@@ -1,6 +1,7 @@
 //! Damage to a ticket's bytes.
 
 use super::random::Random;
+use crate::ticket::Step;
 
 const EDGES: [i16; 22] = [
     -32_768, -32_767, -256, -5, -2, -1, 0, 1, 2, 3, 4, 5, 6, 7, 8, 9, 255, 256, 257, 4096, 4097, 32_767,
@@ -76,6 +77,33 @@ fn once(random: &mut Random, bytes: &mut Vec<u8>, steps: usize) {
 pub fn mangled(random: &mut Random, mut bytes: Vec<u8>, steps: usize) -> Vec<u8> {
     for _ in 0..random.pick(&[1, 1, 1, 1, 2, 3]) {
         once(random, &mut bytes, steps);
+    }
+    bytes
+}
+
+/// Words that no circulation of a nest of 2 to 6 loops has in the place of a or b, or only some have.
+const OFF_THE_NEST: [i16; 11] = [-32_768, -32_767, -2, -1, 0, 4, 5, 6, 7, 8, 32_767];
+
+/// A ticket of these steps, a word of one of its circulations wrong: b is a, or a or b is not in the nest, or c is not 0, or the kind is none.
+/// Perhaps the ticket ends after that word.
+pub fn misnamed(random: &mut Random, mut bytes: Vec<u8>, steps: &[Step]) -> Vec<u8> {
+    let circulations: Vec<usize> = (0..steps.len())
+        .filter(|place| matches!(steps[*place], Step::Circulation { .. }))
+        .collect();
+    if circulations.is_empty() {
+        return bytes;
+    }
+    let kind = bytes.len() / 2 - 4 * (steps.len() - random.pick(&circulations));
+    let (at, value) = match random.below(6) {
+        0 | 1 => (kind + 2, word(&bytes, kind + 1)),
+        2 => (kind + 2, random.pick(&OFF_THE_NEST)),
+        3 => (kind + 1, random.pick(&OFF_THE_NEST)),
+        4 => (kind + 3, random.pick(&[-32_768, -1, 1, 2])),
+        _ => (kind, random.pick(&[6, 6, 7, 0, -1, -32_768])),
+    };
+    put(&mut bytes, at, value);
+    if random.percent(25) {
+        bytes.truncate(2 * at + 2);
     }
     bytes
 }

@@ -74,6 +74,13 @@ pub fn small(random: &mut Random) -> Vec<Loop> {
     loops
 }
 
+/// Three or four loops of few indices, one limit a side.
+pub fn deep(random: &mut Random) -> Vec<Loop> {
+    let depth = random.between(3, 4) as usize;
+    let naming = random.pick(&[0, 20, 60]);
+    (0..depth).map(|outside| small_loop(random, outside, 2, naming)).collect()
+}
+
 /// Many limits a side, which an exchange multiplies.
 pub fn many_limits(random: &mut Random) -> Vec<Loop> {
     let depth = random.between(2, 3) as usize;

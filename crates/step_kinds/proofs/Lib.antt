@@ -1,0 +1,3 @@
+-- Laws of chains and stages that the code's proofs cite.
+pub mod ChainLaws
+pub mod StageLaws
