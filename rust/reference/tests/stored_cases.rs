@@ -2,26 +2,32 @@
 
 use std::fs;
 use std::path::Path;
+use std::sync::atomic::{AtomicUsize, Ordering};
 use std::thread;
 
 use reference::stored_cases::{Case, cases};
 
-/// As many cases are worked out one after another.
-const SHARE: usize = 16;
-
-fn expected(part: &[Case]) -> Vec<String> {
-    part.iter().map(Case::expected).collect()
-}
-
-/// What each case has to print, worked out on all processors.
+/// What each case has to print, worked out on all processors: some cases take seconds.
 fn all_expected(cases: &[Case]) -> Vec<String> {
-    thread::scope(|scope| {
-        let parts: Vec<_> = cases.chunks(SHARE).map(|part| scope.spawn(|| expected(part))).collect();
-        parts
-            .into_iter()
-            .flat_map(|part| part.join().expect("the reference answers"))
-            .collect()
-    })
+    let next = AtomicUsize::new(0);
+    let worker = || {
+        let mut done = vec![];
+        loop {
+            let number = next.fetch_add(1, Ordering::Relaxed);
+            let Some(case) = cases.get(number) else {
+                return done;
+            };
+            done.push((number, case.expected()));
+        }
+    };
+    let processors = thread::available_parallelism().map_or(1, usize::from);
+    let mut all: Vec<(usize, String)> = thread::scope(|scope| {
+        let workers: Vec<_> = (0..processors).map(|_| scope.spawn(worker)).collect();
+        let parts = workers.into_iter().map(|worker| worker.join().expect("the reference answers"));
+        parts.flatten().collect()
+    });
+    all.sort();
+    all.into_iter().map(|(_, expected)| expected).collect()
 }
 
 #[test]
