@@ -37,7 +37,7 @@ use Rattle.model.specs.Shape.{Shaped, Runs, Proper, WellFormed}
 use Rattle.model.specs.Ranges.{StepThere, TicketRanges}
 use Rattle.model.specs.Roles.{Wrong}
 use Rattle.model.specs.Reasons.{StepsPass, NotAdmitted, Because, Short, NoAccess, NotRun}
-use Rattle.model.specs.Promises.{Fitting, Dependence, LineBefore, KeepsPoints, Turns, Attained, Crossed, Trade, NeverMeet}
+use Rattle.model.specs.Promises.{Fitting, Dependence, LineBefore, KeepsPoints, Turns, AtOnce, Attained, Crossed, Trade, NeverMeet}
 use Rattle.model.specs.Promises.{QuickRule, HandedOut, OneToOne, FitsFields, Promise, Left, SomeAccepts, Whole}
 use Rattle.model.proofs.CaseLaws as CaseLaws
 use Rattle.model.proofs.Grammar.TicketLaws as TicketLaws
@@ -127,6 +127,10 @@ pub circulation-chain : (K : Ticket) (M : Nest)
     → (judgeTicket K ≡ accepted (record { ticket = K; new = M }))
     ↔ (judgeTicket (expandedTicket K) ≡ accepted (record { ticket = expandedTicket K; new = M }))
 circulation-chain = CirculationLaws.circulation-chain
+
+-- that ticket has no circulation
+pub circulations-written-out : (ts : List Step) → All AtOnce (expanded ts)
+circulations-written-out = StageLaws.expanded-at-once
 
 -- and the same undoing
 pub circulation-undone : (ts : List Step) (p : List ℤ) → undoAll (expanded ts) p ≡ undoAll ts p

@@ -100,6 +100,14 @@ Turns (skew a d c) = ⊥
 Turns (section a w) = ⊥
 Turns (circulation a b) = Unit {0}
 
+-- no circulation
+abbrev pub AtOnce : Step → Type 0
+AtOnce (exchange a) = Unit {0}
+AtOnce (reversal a) = Unit {0}
+AtOnce (skew a d c) = Unit {0}
+AtOnce (section a w) = Unit {0}
+AtOnce (circulation a b) = ⊥
+
 -- two points have the signs v, and the signs w after the step
 pub record Attained (t : Step) (v w : List Sign) : Type 0 where
   pub first : List ℤ

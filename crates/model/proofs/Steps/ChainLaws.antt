@@ -1,12 +1,12 @@
 -- The chain of neighbouring exchanges that brings a loop to a place: its two directions, its way back, and where it leaves each item.
 use mathlib.Core.Path.{_≡_, refl, sym, ap, ap₂, _∙_}
 use mathlib.Core.Logic.{⊎-elim}
-use mathlib.Core.List.{List, [], _∷_, _++_, map, append-nil, append-eq-nil-iff, cons≢nil}
+use mathlib.Core.List.{List, [], _∷_, _++_, map, append-nil}
 use Prim.Native.Nat.{ℕ, zero, suc, _+_, _-_, _≤_, _<_}
 use native.Mathlib.Omega.{arith}
 use native.Mathlib.Nat.{add-zero, zero-add, suc-add, add-suc}
 use lib.Dec.{leb, leb→le, nleb→lt, not-T}
-use lib.ListN.{length, getD, take, drop}
+use lib.ListN.{length, getD, take, drop, length-append}
 use Rattle.lists.specs.Membership.{All}
 use Rattle.lists.specs.Place.{under, swapped, swapAll, swapBack, movedTo}
 use Rattle.lists.proofs.MembershipLaws.{all-nil, all-cons, all-append}
@@ -69,23 +69,14 @@ pub chain-out : (a b : ℕ) → b ≤ a → chain a b ≡ downTo b (a - b)
 unfolding chain upFrom
 chain-out a b h = let e : b - a ≡ 0 = omega arith in ap (λ n. upFrom a n ++ downTo b (a - b)) e
 
-some-up : (k n : ℕ) → upFrom k n ≡ [] → n ≡ 0
-unfolding upFrom
-some-up k zero e = refl
-some-up k (suc n) e = absurd (cons≢nil e)
-
-some-down : (k n : ℕ) → downTo k n ≡ [] → n ≡ 0
-unfolding downTo
-some-down k zero e = refl
-some-down k (suc n) e = absurd (cons≢nil e)
-
 -- a loop that moves is exchanged
 pub chain-some : (a b : ℕ) → (a ≡ b → ⊥) → chain a b ≡ [] → ⊥
 unfolding chain
 chain-some a b h e =
-    let r = append-eq-nil-iff .0 e in
-    let x : b - a ≡ 0 = some-up a (b - a) (r .0) in
-    let y : a - b ≡ 0 = some-down b (a - b) (r .1) in
+    let n : length (upFrom a (b - a) ++ downTo b (a - b)) ≡ 0 = ap length e in
+    let s = length-append (upFrom a (b - a)) (downTo b (a - b)) in
+    let u = up-length a (b - a) in
+    let d = down-length b (a - b) in
     h (omega arith)
 
 -- ---- the way back

@@ -1,13 +1,13 @@
 -- A step and its stages: the nest after the step is the nest after all its stages, and so undone; a step that is there has a stage, so the final
 -- nest is one that passed.
 use mathlib.Core.Path.{_≡_, refl, sym, ap, ap₂, _∙_, subst}
-use mathlib.Core.List.{List, [], _∷_, _++_, map, flatMap, map-id, map-map, map-eq-nil-iff, cons≢nil, List·Memᴰ·head, List·Memᴰ·tail}
+use mathlib.Core.List.{List, [], _∷_, _++_, map, flatMap, map-id, map-map, map-eq-nil-iff, cons≢nil, List·Memᴰ·head, List·Memᴰ·tail, Memᴰ·of-map}
 use Prim.Native.Nat.{ℕ, suc, _<_}
 use lib.IntN.{ℤ}
 use Rattle.integers.specs.Sign.{Sign}
 use Rattle.lists.specs.Membership.{All}
 use Rattle.lists.specs.Place.{under, swapped, swapAll, swapBack}
-use Rattle.lists.proofs.MembershipLaws.{map-same}
+use Rattle.lists.proofs.MembershipLaws.{map-same, all-nil, all-cons, all-append}
 use Rattle.model.specs.Ticket.{Loop, Subscript, Access, Statement, Step, exchange, reversal, skew, section, circulation, Nest}
 use Rattle.model.specs.Grammar.{depthAfter}
 use Rattle.model.specs.Steps.{chain, undo, undoAll}
@@ -16,6 +16,7 @@ use Rattle.model.specs.Limits.{nestAfterAll}
 use Rattle.model.specs.Ranges.{StepThere, StepsThere}
 use Rattle.model.specs.Judge.{stages, expanded}
 use Rattle.model.proofs.Steps.ChainLaws.{chain-some, chain-below}
+use Rattle.model.specs.Promises.{AtOnce}
 use Rattle.model.specs.Reasons.{FewLimits, AllSmall, StagesPass, StepsPass}
 use Rattle.model.proofs.Verdict.JudgeStepLaws.{stages-final}
 
@@ -102,6 +103,21 @@ unfolding expanded flatMap nestAfterAll
 expanded-nest [] N = refl
 expanded-nest (t ∷ ts) N = after-append (stages t) (expanded ts) N ∙ ap (nestAfterAll (expanded ts)) (sym (after-stages t N))
     ∙ expanded-nest ts (nestAfter t N)
+
+-- ---- no circulation is left
+
+stages-at-once : (t : Step) → All AtOnce (stages t)
+unfolding stages
+stages-at-once (exchange a) = all-cons AtOnce tt (all-nil AtOnce)
+stages-at-once (reversal a) = all-cons AtOnce tt (all-nil AtOnce)
+stages-at-once (skew a d c) = all-cons AtOnce tt (all-nil AtOnce)
+stages-at-once (section a w) = all-cons AtOnce tt (all-nil AtOnce)
+stages-at-once (circulation a b) = λ t m. let r = Memᴰ·of-map exchange (chain a b) m in subst AtOnce (r .2) tt
+
+pub expanded-at-once : (ts : List Step) → All AtOnce (expanded ts)
+unfolding expanded flatMap
+expanded-at-once [] = all-nil AtOnce
+expanded-at-once (t ∷ ts) = all-append AtOnce (stages t) (expanded ts) (stages-at-once t) (expanded-at-once ts)
 
 -- ---- undone
 
