@@ -49,6 +49,12 @@ module _ {A B : Type 0} (f : A → List B) where
   pub flatMap-same : (g : A → List B) → ((x : A) → f x ≡ g x) → (l : List A) → flatMap f l ≡ flatMap g l
   flatMap-same g h l = flatMap-same-on g l (λ x m. h x)
 
+  -- parts that are all empty
+  pub flatMap-none : (l : List A) → ((x : A) → Mem x l → f x ≡ []) → flatMap f l ≡ []
+  unfolding flatMap
+  flatMap-none [] h = refl
+  flatMap-none (x ∷ l) h = ap₂ _++_ (h x (List·Memᴰ·head refl)) (flatMap-none l (λ y m. h y (List·Memᴰ·tail m)))
+
 pub flatMap-single : {A B : Type 0} (f : A → B) (l : List A) → flatMap (λ x. f x ∷ []) l ≡ map f l
 unfolding flatMap
 flatMap-single f [] = refl

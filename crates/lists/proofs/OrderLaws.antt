@@ -3,11 +3,12 @@
 use mathlib.Core.Path.{_≡_, refl, sym, ap, ap₂, _∙_, subst}
 use mathlib.Core.Logic.{_⊎_, inl, inr, ⊎-elim}
 use mathlib.Core.List.{List, [], _∷_, _++_, map, List·Memᴰ·head, List·Memᴰ·tail, List·Memᴰ·cases-cons, List·Memᴰ·append-cases, List·Memᴰ·not-nil, Memᴰ·append-left, Memᴰ·append-right, Memᴰ·cast, Memᴰ·map, Memᴰ·of-map}
-use Prim.Native.Nat.{ℕ}
-use lib.ListN.{take, drop, take-append-drop}
+use Prim.Native.Nat.{ℕ, zero, suc, _<_}
+use native.Mathlib.Omega.{arith}
+use lib.ListN.{length, getD, take, drop, take-append-drop}
 use Rattle.lists.specs.Membership.{Mem, All, Distinct, SameMembers}
 use Rattle.lists.specs.Order.{Ordered, Precedes}
-use Rattle.lists.proofs.MembershipLaws.{mem-skip, all-append, all-imp}
+use Rattle.lists.proofs.MembershipLaws.{mem-skip, getD-mem, all-append, all-imp}
 
 -- ---- every element in R with every later one
 
@@ -48,6 +49,13 @@ module _ {A : Type 0} (R : A → A → Type 0) where
 
   pub ordered-rest : (n : ℕ) (l : List A) → Ordered R l → Ordered R (drop n l)
   ordered-rest n l o = ordered-right (take n l) (drop n l) (subst (Ordered R) (sym (take-append-drop n l)) o)
+
+  -- at two places
+  pub ordered-getD : (l : List A) (i j : ℕ) (d : A) → Ordered R l → i < j → j < length l → R (getD l i d) (getD l j d)
+  ordered-getD [] i j d o h g = absurd (omega arith)
+  ordered-getD (x ∷ l) i zero d o h g = absurd (omega arith)
+  ordered-getD (x ∷ l) zero (suc j) d o h g = o .0 (getD l j d) (getD-mem l j d (omega arith))
+  ordered-getD (x ∷ l) (suc i) (suc j) d o h g = ordered-getD l i j d (o .1) (omega arith) (omega arith)
 
   pub ordered-imp : {S : A → A → Type 0} (l : List A) → Ordered R l → ((x y : A) → Mem x l → Mem y l → R x y → S x y) → Ordered S l
   ordered-imp [] o h = tt

@@ -164,6 +164,33 @@ module _ {A : Type 0} (t : A → Bool) where
   mem-select {x} (y ∷ l) (List·Memᴰ·tail m) h = let r = mem-select l m h in cond-cases (λ k. Mem x k) (t y) (y ∷ select t l) (select t l)
       (λ _. List·Memᴰ·tail r) (λ _. r)
 
+  pub select-append : (l m : List A) → select t (l ++ m) ≡ select t l ++ select t m
+  unfolding select
+  select-append [] m = refl
+  select-append (x ∷ l) m = go (t x) (select-append l m)
+    where
+      go : (b : Bool) → select t (l ++ m) ≡ select t l ++ select t m
+          → cond b (x ∷ select t (l ++ m)) (select t (l ++ m)) ≡ cond b (x ∷ select t l) (select t l) ++ select t m
+      go true e = ap (x ∷_) e
+      go false e = e
+
+  pub select-none : (l : List A) → All (λ x. T (t x) → ⊥) l → select t l ≡ []
+  unfolding select
+  select-none [] h = refl
+  select-none (x ∷ l) h = rw (not-T-false (t x) (h x (List·Memᴰ·head refl))) (select-none l (λ y m. h y (List·Memᴰ·tail m)))
+
+  -- by two tests that agree
+  pub select-same-on : (u : A → Bool) (l : List A) → ((x : A) → Mem x l → t x ≡ u x) → select t l ≡ select u l
+  unfolding select
+  select-same-on u [] h = refl
+  select-same-on u (x ∷ l) h = ap₂ (λ b m. cond b (x ∷ m) m) (h x (List·Memᴰ·head refl)) (select-same-on u l (λ y m. h y (List·Memᴰ·tail m)))
+
+-- part by part
+pub select-flatMap : {A B : Type 0} (t : B → Bool) (f : A → List B) (l : List A) → select t (flatMap f l) ≡ flatMap (λ x. select t (f x)) l
+unfolding select flatMap
+select-flatMap t f [] = refl
+select-flatMap t f (x ∷ l) = select-append t (f x) (flatMap f l) ∙ ap (select t (f x) ++_) (select-flatMap t f l)
+
 pub select-ordered : {A : Type 0} (R : A → A → Type 0) (t : A → Bool) (l : List A) → Ordered R l → Ordered R (select t l)
 unfolding select
 select-ordered R t [] o = tt

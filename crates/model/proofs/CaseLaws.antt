@@ -1,4 +1,4 @@
--- The worked cases of `specs/Cases`, and the close readings and further cases of `specs/Readings`, all by computation.
+-- The worked cases of `specs/Cases`, the close readings and further cases of `specs/Readings`, and those of the reason tool, all by computation.
 use mathlib.Core.Path.{refl}
 use Rattle.integers.specs.Division.{floorDiv, ceilDiv}
 use Rattle.integers.specs.Affine.{dot, affine}
@@ -22,10 +22,12 @@ use Rattle.model.specs.Listing as Listing
 use Rattle.model.specs.Quick as Quick
 use Rattle.model.specs.Store as Store
 use Rattle.model.specs.Entries as Entries
+use Rattle.model.specs.Pairs as Pairs
 use Rattle.model.specs.Cases as Cases
 use Rattle.model.specs.Readings as Readings
+use Rattle.model.specs.ReasonCases as ReasonCases
 
-computed : Cases.AllHold Cases.cases × Cases.AllHold Readings.readings × Cases.AllHold Readings.furtherCases
+computed : Cases.AllHold Cases.cases × Cases.AllHold Readings.readings × Cases.AllHold Readings.furtherCases × Cases.AllHold ReasonCases.reasonCases
 unfolding floorDiv ceilDiv dot affine sign under underEach onHead swapped swapAll swapBack all any select sameBy without unique flatMap zipWith
     Answer._>>=_ Answer._>>_ Answer.require Answer.numberIn Answer.placeIn Answer.countIn Words.signed Words.firstWord Words.wordAt Words.bits
     Words.wordBytes Words.bytesOf Grammar._>>=_ Grammar._>>_ Grammar.done Grammar.word Grammar.must Grammar.mustAt Grammar.between Grammar.count
@@ -55,11 +57,13 @@ unfolding floorDiv ceilDiv dot affine sign under underEach onHead swapped swapAl
     Store.placeFrom Store.placeOf Store.sum Store.most Store.firstOf Store.make Store.sumWhole Store.firstWhole Store.wrapped Store.makeWhole
     Store.storeWords Store.performOn Store.runNest Store.ownRules Entries.judgeOf Entries.handOut Entries.writeOf Entries.listOf Entries.allAccesses
     Entries.accessNumber Entries.quickOf Entries.transparent Entries.runnable Entries.runOutcome Entries.runOf Cases.filled Cases.cases
-    Readings.readings Readings.furtherCases
+    Pairs.trades Pairs.pairsAt Pairs.allPairs Pairs.traded Pairs.indicesIn Pairs.recordOf Pairs.fill Pairs.explain Pairs.tradedAt Pairs.explainTen
+    Pairs.reasonOf Readings.readings Readings.furtherCases ReasonCases.reasonCases
 computed = (
   (refl, (refl, (refl, (refl, (refl, (refl, (refl, (refl, (refl, (refl, (refl, (refl, (refl, (refl, (refl, (refl, tt)))))))))))))))),
   (refl, (refl, (refl, (refl, (refl, (refl, (refl, (refl, (refl, (refl, (refl, (refl, (refl, (refl, (refl, (refl, (refl, tt))))))))))))))))),
   (refl, (refl, (refl, (refl, (refl, (refl, (refl, (refl, (refl, (refl, (refl, (refl, (refl, tt))))))))))))),
+  (refl, (refl, (refl, (refl, (refl, (refl, (refl, (refl, (refl, (refl, (refl, (refl, tt)))))))))))),
 )
 
 pub cases-hold : Cases.AllHold Cases.cases
@@ -70,3 +74,6 @@ readings-hold = computed .1
 
 pub further-hold : Cases.AllHold Readings.furtherCases
 further-hold = computed .2
+
+pub reasons-hold : Cases.AllHold ReasonCases.reasonCases
+reasons-hold = computed .3

@@ -9,10 +9,10 @@
 use mathlib.Core.Path.{_≡_}
 use mathlib.Core.Logic.{_↔_, _⊎_}
 use mathlib.Core.List.{List, [], _∷_, _++_, map}
-use Prim.Native.Nat.{ℕ, _+_, _≤_, _<_}
+use Prim.Native.Nat.{ℕ, suc, _+_, _≤_, _<_}
 use lib.Dec.{T}
 use lib.IntN.{ℤ}
-use lib.ListN.{length, take}
+use lib.ListN.{length, take, getD}
 use Rattle.integers.specs.Sign.{Sign}
 use Rattle.lists.specs.Membership.{Mem, All, Distinct, SameMembers}
 use Rattle.lists.specs.Order.{Ordered, Precedes}
@@ -22,23 +22,27 @@ use Rattle.model.specs.Words.{bytesOf}
 use Rattle.model.specs.Ticket.{Loop, Access, Step, Nest, Ticket}
 use Rattle.model.specs.Grammar.{decode, decodeNest}
 use Rattle.model.specs.Points.{partialPoints, iterations}
-use Rattle.model.specs.Machine.{Instance, Accesses, State, Rules, perform, run}
-use Rattle.model.specs.Directions.{signs, backwards, earlier, conflict, Line}
+use Rattle.model.specs.Machine.{Instance, Accesses, accesses, order, State, Rules, perform, run}
+use Rattle.model.specs.Directions.{signs, backwards, earlier, conflictOf, conflict, Line}
 use Rattle.model.specs.Steps.{chain, forward, undoAll, vectors, vectorsAfter, vectorsAfterAll, somePointsBack}
+use Rattle.model.specs.Limits.{nestAfterAll}
 use Rattle.model.specs.Judge.{Judged, judged, admit, judgeSteps, judgeTicket, expanded, expandedTicket, directionsOf}
 use Rattle.model.specs.Encode.{encode, ticketWords}
 use Rattle.model.specs.Listing.{linesOf, listing}
 use Rattle.model.specs.Quick.{apart}
 use Rattle.model.specs.Entries.{judge, write, list, quick, runEntry, allAccesses, accessNumber}
+use Rattle.model.specs.Pairs.{Pair, traded, Record, recordOf, fill, verdict, tableAlone, pairs, reason}
 use Rattle.model.specs.Cases.{cases, AllHold}
 use Rattle.model.specs.Readings.{readings, furtherCases}
+use Rattle.model.specs.ReasonCases.{reasonCases}
 use Rattle.model.specs.Inside.{Inside, Earlier}
 use Rattle.model.specs.Shape.{Shaped, Runs, Proper, WellFormed}
 use Rattle.model.specs.Ranges.{StepThere, TicketRanges}
 use Rattle.model.specs.Roles.{Wrong}
 use Rattle.model.specs.Reasons.{StepsPass, NotAdmitted, Because, Short, NoAccess, NotRun}
-use Rattle.model.specs.Promises.{Fitting, Dependence, LineBefore, KeepsPoints, Turns, AtOnce, Attained, Crossed, Trade, NeverMeet}
-use Rattle.model.specs.Promises.{QuickRule, HandedOut, OneToOne, FitsFields, Promise, Left, SomeAccepts, Whole}
+use Rattle.model.specs.Promises.{Fitting, Dependence, LineBefore, KeepsPoints, Turns, AtOnce, Attained, moved, Crossed, Trade, NeverMeet}
+use Rattle.model.specs.Promises.{TradesAt, PairBefore, QuickRule, HandedOut, OneToOne, FitsFields, ReasonFits, Promise, Left, SomeAccepts}
+use Rattle.model.specs.Promises.{Whole}
 use Rattle.model.proofs.CaseLaws as CaseLaws
 use Rattle.model.proofs.Grammar.TicketLaws as TicketLaws
 use Rattle.model.proofs.Grammar.GrammarLaws.{decode-sound}
@@ -62,7 +66,9 @@ use Rattle.model.proofs.Verdict.StageLaws as StageLaws
 use Rattle.model.proofs.Promise.TradeLaws as TradeLaws
 use Rattle.model.proofs.Promise.CirculationLaws as CirculationLaws
 use Rattle.model.proofs.Promise.EntryStepLaws as EntryStepLaws
+use Rattle.model.proofs.Promise.PairLaws as PairLaws
 use Rattle.model.proofs.Promise.ReasonLaws as ReasonLaws
+use Rattle.model.proofs.Promise.ReasonToolLaws as ReasonToolLaws
 use Rattle.model.proofs.Promise.PromiseLaws as PromiseLaws
 use Rattle.model.proofs.Promise.WholeLaws as WholeLaws
 use Rattle.model.proofs.Promise.FitLaws as FitLaws
@@ -78,6 +84,10 @@ readings-hold = CaseLaws.readings-hold
 -- of what no theorem says
 pub further-cases : AllHold furtherCases
 further-cases = CaseLaws.further-hold
+
+-- of the tool that shows the pairs that trade places
+pub reason-cases : AllHold reasonCases
+reason-cases = CaseLaws.reasons-hold
 
 pub grammar-exact : (b : List ℕ) (K : Ticket) → All (λ x. x < 256) b
     → (decode b ≡ accepted K) ↔ ((b ≡ bytesOf (ticketWords K)) × TicketRanges K × WellFormed (K .nest))
@@ -186,6 +196,63 @@ quick-rule b = QuickRuleLaws.quick-rule (decode b)
 pub apart-never-meet : (b : List ℕ) (m n : ℕ) → quick b m n ≡ accepted apart → NeverMeet (decode b) m n
 apart-never-meet b = ReasonLaws.apart-never (decode b) (decode-sound b)
 
+-- ---- which two instances trade places (document 02, L2)
+
+-- the pairs found are exactly those that trade places
+pub pair-exact : (ts : List Step) (N : Nest) (r : Pair) → Mem r (traded ts N) ↔ TradesAt ts N r
+pair-exact = PairLaws.pair-exact
+
+-- and that is, in the order of the nest that the steps make, that the sink stands before the source
+pub pair-new-order : (ts : List Step) (N : Nest) → WellFormed N → All Proper ts → (r : Pair) → TradesAt ts N r
+    ↔ (Precedes (order N) (r .source) (r .sink) × T (conflictOf (r .kind) (accesses (N .statements)) (r .source) (r .sink))
+    × Precedes (order (nestAfterAll ts N)) (moved ts (r .sink)) (moved ts (r .source)))
+pair-new-order = PairLaws.pair-new-order
+
+pub pairs-once-in-order : (ts : List Step) (N : Nest) → Ordered PairBefore (traded ts N) × Distinct (traded ts N)
+pairs-once-in-order ts N = (PairLaws.pairs-ordered ts N, PairLaws.pairs-distinct ts N)
+
+-- at a step that judge refuses with 10: how many pairs have traded places then, if there are any
+pub reason-pairs : (b : List ℕ) (l : List Record) (k c : ℕ)
+    → (reason b l .answer ≡ pairs k c)
+    ↔ ((K : Ticket) × (admit b ≡ accepted K) × (judge b ≡ refused 10 k) × (c ≡ length (traded (take k (K .steps)) (K .nest))) × (0 < c))
+reason-pairs b l = ReasonToolLaws.reason-pairs (decode b) l (λ n p e. BriefLaws.wrong-place b (WrongLaws.decode-wrong b e) .0)
+
+-- and as many of their records as were lent
+pub pairs-filled : (b : List ℕ) (l : List Record) (k c : ℕ) (K : Ticket) → reason b l .answer ≡ pairs k c → admit b ≡ accepted K
+    → reason b l .list ≡ fill (map recordOf (traded (take k (K .steps)) (K .nest))) l
+pairs-filled b l = ReasonToolLaws.pairs-filled (decode b) l (λ n p e. BriefLaws.wrong-place b (WrongLaws.decode-wrong b e) .0)
+
+-- records beyond the pairs found keep their contents
+pub records-beyond-kept : (rs l : List Record) (i : ℕ) (r : Record) → length rs ≤ i → getD (fill rs l) i r ≡ getD l i r
+records-beyond-kept = ReasonToolLaws.fill-rest
+
+pub records-filled : (rs l : List Record) (i : ℕ) (r : Record) → i < length l → i < length rs → getD (fill rs l) i r ≡ getD rs i r
+records-filled = ReasonToolLaws.fill-front
+
+-- by the table alone exactly if there is none
+pub reason-table : (b : List ℕ) (l : List Record) (k : ℕ)
+    → (reason b l .answer ≡ tableAlone k)
+    ↔ ((K : Ticket) × (admit b ≡ accepted K) × (judge b ≡ refused 10 k) × ((r : Pair) → TradesAt (take k (K .steps)) (K .nest) r → ⊥))
+reason-table b l = ReasonToolLaws.reason-table (decode b) l (λ n p e. BriefLaws.wrong-place b (WrongLaws.decode-wrong b e) .0)
+
+-- a ticket without a 10 gets the judge's answer
+pub reason-judge : (b : List ℕ) (l : List Record) → ((k : ℕ) → judge b ≡ refused 10 k → ⊥)
+    → reason b l ≡ record { answer = verdict (judge b); list = l }
+reason-judge b l = ReasonToolLaws.reason-judge (decode b) l
+
+-- on every answer without pairs the list is as it was
+pub list-kept : (b : List ℕ) (l : List Record) → ((k c : ℕ) → reason b l .answer ≡ pairs k c → ⊥) → reason b l .list ≡ l
+list-kept b l = ReasonToolLaws.list-kept (decode b) l (λ n p e. BriefLaws.wrong-place b (WrongLaws.decode-wrong b e) .0)
+
+-- its length stays on every answer
+pub list-length : (b : List ℕ) (l : List Record) → length (reason b l .list) ≡ length l
+list-length b l = ReasonToolLaws.list-length (decode b) l (λ n p e. BriefLaws.wrong-place b (WrongLaws.decode-wrong b e) .0)
+
+-- after the steps before the refused one no pair has traded places
+pub traded-now : (b : List ℕ) (k : ℕ) (K : Ticket) → admit b ≡ accepted K → judge b ≡ refused 10 (suc k)
+    → (r : Pair) → TradesAt (take k (K .steps)) (K .nest) r → ⊥
+traded-now b = ReasonToolLaws.traded-now (decode b) (decode-sound b)
+
 -- ---- refusal exactly on its condition, for each number from 1 to 16; a refused entry leaves lent memory as it was
 
 -- 1 to 6: the first offending word from the front
@@ -238,6 +305,9 @@ list-fits b = FitLaws.list-fits (Wrong b) (decode b) (WrongLaws.decode-exact b) 
 
 pub run-fits : (b words : List ℕ) → FitsFields (runEntry b words .answer)
 run-fits b = FitLaws.run-fits (Wrong b) (decode b) (WrongLaws.decode-exact b) (λ n p. BriefLaws.wrong-place b) (decode-sound b)
+
+pub reason-fits : (b : List ℕ) (l : List Record) → ReasonFits (reason b l .answer)
+reason-fits b = FitLaws.reason-fits (Wrong b) (decode b) (WrongLaws.decode-exact b) (λ n p. BriefLaws.wrong-place b) (decode-sound b)
 
 -- the quick test accepts with one of two values
 pub quick-fits : (b : List ℕ) (m k n p : ℕ) → quick b m k ≡ refused n p → FitsFields (refused n p)

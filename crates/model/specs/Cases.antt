@@ -15,6 +15,7 @@ use Rattle.model.specs.Points.{iterations}
 use Rattle.model.specs.Judge.{judged}
 use Rattle.model.specs.Quick.{Independence}
 use Rattle.model.specs.Entries.{Outcome, judge, list, write, quick, runEntry}
+use Rattle.model.specs.Pairs.{Record, Reason, reason}
 
 -- ---- quoted text
 
@@ -52,6 +53,8 @@ pub data Question : Type 0 where
   tests : ℕ → ℕ → Answer Independence → Question
   -- what run answers for a store, and how it leaves the store
   runs : List ℕ → Answer ℕ → List ℕ → Question
+  -- what the reason tool answers for a lent list, and how it leaves the list
+  explains : List Record → Reason → List Record → Question
 
 pub record Case : Type 0 where
   pub bytes : List ℕ
@@ -68,6 +71,7 @@ Answered b (writes ws) = write b (replicate (length (bytesOf ws)) 0) ≡ filled 
 Answered b (visits ps) = (judged b >>= (λ j. accepted (iterations (j .new .loops)))) ≡ accepted ps
 Answered b (tests m n a) = quick b m n ≡ a
 Answered b (runs store a left) = runEntry b store ≡ record { answer = a; memory = left }
+Answered b (explains lent a left) = reason b lent ≡ record { answer = a; list = left }
 
 abbrev pub Holds : Case → Type 0
 Holds c = Answered (c .bytes) (c .question)
@@ -83,10 +87,10 @@ abbrev pub nest2 : List ℕ
 nest2 = ticket "2 1 1 0 1 1 2 1 1 1 0 1 1 3 0 1 2 3 4 1 3 0 1 0 1 0 0 0 1 1 1 0 1 0 -1 0 1"
 
 -- i 1..2, j 0..2, A(i,j) = A(i−1,j+1)
-abbrev nest3 : List ℕ
+abbrev pub nest3 : List ℕ
 nest3 = ticket "2 1 1 1 1 1 2 1 1 0 0 1 1 2 0 1 2 3 4 1 3 0 1 0 1 0 0 0 1 1 1 -1 1 0 1 0 1"
 
-abbrev case1 : List ℕ
+abbrev pub case1 : List ℕ
 case1 = ticket "2 1 1 0 1 1 1 1 1 0 0 1 1 2 0 2 1 4 2 2 3 1 3 0 1 0 1 1 1 2 0 1 0 0 0 1 1 1 1 2 0"
 
 abbrev case6 : List ℕ

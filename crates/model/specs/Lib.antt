@@ -15,8 +15,10 @@ pub mod Listing
 pub mod Quick
 pub mod Store
 pub mod Entries
+pub mod Pairs
 pub mod Cases
 pub mod Readings
+pub mod ReasonCases
 -- propositions that the theorems speak of
 pub mod Inside
 pub mod Shape

@@ -1,5 +1,5 @@
--- What is promised, in propositions that `proofs/Demands` speaks of. In order: lines of a listing; steps and trades; the quick test; elements and
--- the store; what is handed out; demand 3. Why a ticket is refused is in `Reasons`.
+-- What is promised, in propositions that `proofs/Demands` speaks of. In order: lines of a listing; steps and trades; pairs that trade places; the
+-- quick test; elements and the store; what is handed out; demand 3. Why a ticket is refused is in `Reasons`.
 use mathlib.Core.Path.{_≡_}
 use mathlib.Core.Logic.{_⊎_}
 use mathlib.Core.List.{List, [], _∷_, _++_, map}
@@ -16,7 +16,7 @@ use Rattle.model.specs.Ticket.{Loop, Subscript, Access, Statement, Step,
 use Rattle.model.specs.Grammar.{total, extents, decodeNest}
 use Rattle.model.specs.Points.{iterations}
 use Rattle.model.specs.Machine.{Element, element, Instance, State, Rules, bodyAt, accesses, order, exec, originally}
-use Rattle.model.specs.Directions.{Kind, flow, anti, output, signs, conflict, Line}
+use Rattle.model.specs.Directions.{Kind, flow, anti, output, signs, conflictOf, conflict, Line}
 use Rattle.model.specs.Steps.{forward, undo, forwardAll, undoAll}
 use Rattle.model.specs.Limits.{loopsAfter, nestAfterAll}
 use Rattle.model.specs.Judge.{Judged, admitOf, judgedOf}
@@ -24,6 +24,7 @@ use Rattle.model.specs.Encode.{encode}
 use Rattle.model.specs.Quick.{Range, leastSum, greatestSum, ranges, difference}
 use Rattle.model.specs.Store.{placeOf, runNest, ownRules}
 use Rattle.model.specs.Entries.{judgeOf, writeOf, runOf, allAccesses, accessNumber}
+use Rattle.model.specs.Pairs.{Pair, Reason, verdict, tableAlone, pairs}
 use Rattle.model.specs.Inside.{Earlier}
 
 -- ---- lines of a listing
@@ -139,6 +140,28 @@ pub record Trade (N : Nest) (front : List Step) (t : Step) : Type 0 where
   pub before : Precedes (order (nestAfterAll front N)) (moved front source) (moved front sink)
   pub after : Precedes (order (nestAfterAll (front ++ t ∷ []) N)) (moved (front ++ t ∷ []) sink) (moved (front ++ t ∷ []) source)
 
+-- ---- pairs that trade places
+
+-- a conflict of the pair's kind: the source comes before the sink in the old order, and where the steps take them the sink comes first
+pub record TradesAt (ts : List Step) (N : Nest) (r : Pair) : Type 0 where
+  pub old : Precedes (order N) (r .source) (r .sink)
+  pub clash : T (conflictOf (r .kind) (accesses (N .statements)) (r .source) (r .sink))
+  pub crossed : Earlier (forwardAll ts (r .sink .iteration)) (forwardAll ts (r .source .iteration))
+
+-- by source statement, then sink statement, then kind
+abbrev pub StatementsBefore : Pair → Pair → Type 0
+StatementsBefore r u =
+    (r .source .statement < u .source .statement)
+    ⊎ ((r .source .statement ≡ u .source .statement) × ((r .sink .statement < u .sink .statement)
+    ⊎ ((r .sink .statement ≡ u .sink .statement) × (kindRank (r .kind) < kindRank (u .kind)))))
+
+-- by source iteration, then sink iteration, then these
+abbrev pub PairBefore : Pair → Pair → Type 0
+PairBefore r u =
+    Earlier (r .source .iteration) (u .source .iteration)
+    ⊎ ((r .source .iteration ≡ u .source .iteration) × (Earlier (r .sink .iteration) (u .sink .iteration)
+    ⊎ ((r .sink .iteration ≡ u .sink .iteration) × StatementsBefore r u)))
+
 -- ---- the quick test: the accesses numbered a and b name no common element, in two iterations or in one
 
 pub record NeverMeet (d : Answer Ticket) (a b : ℕ) : Type 0 where
@@ -217,6 +240,12 @@ pub record HandedOut (text buffer : List ℕ) (c : ℕ) (memory : List ℕ) : Ty
 abbrev pub FitsFields : Answer ℕ → Type 0
 FitsFields (accepted c) = c < 4294967296
 FitsFields (refused n p) = (n < 256) × (p < 16777216)
+
+-- of the reason tool, with the step as a place
+abbrev pub ReasonFits : Reason → Type 0
+ReasonFits (verdict a) = FitsFields a
+ReasonFits (tableAlone k) = k < 16777216
+ReasonFits (pairs k c) = (k < 16777216) × (c < 4294967296)
 
 -- ---- demand 3
 

@@ -84,7 +84,7 @@ signVectors-ordered (suc d) = ordered-flatMap (withFirst d) (λ s t. signRank s 
 
 -- ---- lines
 
-kinds-ordered : Ordered (λ k l. kindRank k < kindRank l) kinds
+pub kinds-ordered : Ordered (λ k l. kindRank k < kindRank l) kinds
 unfolding kinds
 kinds-ordered = (
   all-cons (λ k. 0 < kindRank k) (omega arith) (all-cons (λ k. 0 < kindRank k) (omega arith) (all-nil (λ k. 0 < kindRank k))),

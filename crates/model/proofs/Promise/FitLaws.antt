@@ -2,10 +2,10 @@
 -- entries. How long a written nest and a listing can be is in `SizeLaws`.
 use mathlib.Core.Path.{_≡_, refl, sym, ap, subst, subst₂}
 use mathlib.Core.Logic.{_↔_, _⊎_, inl, inr, ⊎-elim}
-use mathlib.Core.List.{List, _∷_, _++_}
+use mathlib.Core.List.{List, [], _∷_, _++_, map}
 use Prim.Native.Nat.{ℕ, _+_, _≤_, _<_}
 use native.Mathlib.Omega.{arith}
-use lib.ListN.{length, length-append}
+use lib.ListN.{length, take, length-append, length-map}
 use Rattle.model.specs.Answer.{Answer, accepted, refused}
 use Rattle.model.specs.Ticket.{Ticket}
 use Rattle.model.specs.Points.{iterations}
@@ -14,7 +14,8 @@ use Rattle.model.specs.Encode.{encode}
 use Rattle.model.specs.Listing.{listing}
 use Rattle.model.specs.Entries.{judgeOf, writeOf, listOf, quickOf, runOf}
 use Rattle.model.specs.Reasons.{NotRun, NotAdmitted, grammar, many, off, Because, notAdmitted, step, newSpace}
-use Rattle.model.specs.Promises.{FitsFields}
+use Rattle.model.specs.Pairs.{Record, recordOf, traded, Reasoned, explain, reasonOf}
+use Rattle.model.specs.Promises.{FitsFields, ReasonFits}
 use Rattle.model.specs.Limits.{nestAfterAll}
 use Rattle.model.proofs.Answers.AnswerLaws.{not-both}
 use Rattle.model.proofs.Grammar.WrongLaws.{refused-same}
@@ -27,8 +28,9 @@ use Rattle.model.proofs.Verdict.EntryLaws.{judge-accepted, write-accept
 use Rattle.model.proofs.Verdict.RunLaws.{run-accepted}
 use Rattle.model.proofs.Promise.WrittenLaws.{new-ranges, new-formed}
 use Rattle.model.proofs.Promise.PromiseLaws.{judged-gives}
-use Rattle.model.proofs.Promise.SizeLaws.{most-bytes, most-text}
+use Rattle.model.proofs.Promise.SizeLaws.{most-bytes, most-text, most-traded}
 use Rattle.model.proofs.Promise.ReasonLaws.{judge-exact, write-exact, list-exact, run-exact, quick-exact}
+use Rattle.model.proofs.Promise.ReasonToolLaws.{at-ten, reason-judge, ten-or}
 
 front-below : {A : Type 0} (xs front : List A) (x : A) (back : List A) → xs ≡ front ++ x ∷ back → length front < length xs
 front-below xs front x back e = let l = length-append front (x ∷ back) in let q = ap length e in omega arith
@@ -124,3 +126,22 @@ module _ (Why : ℕ → ℕ → Type 0) (d : Answer Ticket) (why : (n p : ℕ) �
       (λ x. let u = x .four in let v = x .nowhere in (omega arith, omega arith))
       (λ x. let u = x .four in let v = x .nowhere in (omega arith, omega arith)) (r .2))
       (quick-exact Why d why a b n p .0 e)))
+
+  explain-fits : (k : ℕ) (rs list : List Record) → k < 16777216 → length rs < 4294967296 → ReasonFits (explain k rs list .answer)
+  unfolding explain
+  explain-fits k [] list h g = h
+  explain-fits k (r ∷ rs) list h g = (h, g)
+
+  pub reason-fits : (list : List Record) → ReasonFits (reasonOf d list .answer)
+  reason-fits list = ⊎-elim
+      (λ t. let k = t .0 in let K = t .1 in
+      subst fitting (sym (at-ten d list k K (t .2) (t .3))) (explain-fits k (map recordOf (traded (take k (K .steps)) (K .nest))) list
+      (subst FitsFields (t .3) judge-fits .1)
+      (let r = sound .ranges (admit-accepted d (t .2) .0) .nest in
+      let m = most-traded (take k (K .steps)) (K .nest) (r .few-statements .high) (admitted-few d sound (t .2)) in
+      let l = length-map (traded (take k (K .steps)) (K .nest)) recordOf in omega arith)))
+      (λ h. subst fitting (sym (reason-judge d list h)) judge-fits)
+      (ten-or d list (λ n p e. low n p (why n p .0 e) .0))
+    where
+      fitting : Reasoned → Type 0
+      fitting r = ReasonFits (r .answer)

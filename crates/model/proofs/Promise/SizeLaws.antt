@@ -1,4 +1,4 @@
--- How long what is handed out can be: the bytes of a written nest, the bytes of a listing.
+-- How long what is handed out can be: the bytes of a written nest, the bytes of a listing, the records of pairs that trade places.
 use mathlib.Core.Path.{_≡_, refl, sym, ap, subst}
 use mathlib.Core.Bool.{Bool}
 use mathlib.Core.List.{List, [], _∷_, _++_, map, flatMap, List·Memᴰ·head, List·Memᴰ·tail}
@@ -13,13 +13,15 @@ use Rattle.lists.specs.Membership.{Mem, All}
 use Rattle.lists.specs.Tests.{select}
 use Rattle.lists.proofs.FlatMapLaws.{length-flatMap-most}
 use Rattle.lists.proofs.TestLaws.{cond-cases}
-use Rattle.model.specs.Ticket.{Limit, Loop, Subscript, Access, Statement, Nest}
+use Rattle.model.specs.Ticket.{Limit, Loop, Subscript, Access, Statement, Step, Nest}
 use Rattle.model.specs.Grammar.{extents, arrayRoom, mostStatements, mostReads, mostArrays, ticketLoops, mostLoops, mostPoints}
 use Rattle.model.specs.Points.{iterations}
 use Rattle.model.specs.Machine.{accesses}
 use Rattle.model.specs.Directions.{kinds, Kind, Line, occurs, upFrom, signVectors, allLines, lines}
 use Rattle.model.specs.Encode.{counted, limitWords, loopWords, arrayWords, accessWords, statementWords, nestWords, encode}
+use Rattle.model.specs.Steps.{forwardAll}
 use Rattle.model.specs.Listing.{digits, decimal, lineText, headText, signChar, linesOf, listing}
+use Rattle.model.specs.Pairs.{Pair, trades, pairsAt, allPairs, traded}
 use Rattle.model.specs.Shape.{Shaped, Fits, WellFormed}
 use Rattle.model.specs.Ranges.{NestRanges}
 use Rattle.model.proofs.Steps.ChainLaws.{up-length}
@@ -176,3 +178,28 @@ most-text N h g i =
     let b = length-flatMap-most lineText 19 found (λ l k. let f = linesOf-exact N l .0 k .0 in
     let x = f .source in let y = f .sink in let z = f .signs in most-line l (omega arith) (omega arith) (omega arith)) in
     let c = length-append (headText d (length (iterations (N .loops))) (length found)) (flatMap lineText found) in omega arith
+
+-- ---- pairs that trade places: three kinds for every two instances
+
+most-at : (n : ℕ) → n ≤ mostStatements → (p q : List ℤ) → length (pairsAt n p q) ≤ 48
+unfolding pairsAt kinds
+most-at n h p q =
+    let z = up-length 0 n in
+    let a = length-flatMap-most (λ s. flatMap (λ t. map (pairOf s t) kinds) (upFrom 0 n)) 12 (upFrom 0 n)
+    (λ s _. let b = length-flatMap-most (λ t. map (pairOf s t) kinds) 3 (upFrom 0 n) (λ t _. omega arith) in omega arith) in omega arith
+  where
+    pairOf : ℕ → ℕ → Kind → Pair
+    pairOf s t k = record { source = record { statement = s; iteration = p }; sink = record { statement = t; iteration = q }; kind = k }
+
+most-pairs : (n : ℕ) (ps : List (List ℤ)) → n ≤ mostStatements → length ps ≤ mostPoints → length (allPairs n ps) ≤ 805306368
+unfolding allPairs
+most-pairs n ps h g =
+    let a = length-flatMap-most (λ p. flatMap (pairsAt n p) ps) 196608 ps
+    (λ p _. let b = length-flatMap-most (pairsAt n p) 48 ps (λ q _. most-at n h p q) in omega arith) in omega arith
+
+pub most-traded : (ts : List Step) (N : Nest) → length (N .statements) ≤ mostStatements → length (iterations (N .loops)) ≤ mostPoints
+    → length (traded ts N) ≤ 805306368
+unfolding traded
+most-traded ts N h g =
+    let e = most-selected (trades (forwardAll ts) (accesses (N .statements))) (allPairs (length (N .statements)) (iterations (N .loops))) in
+    let m = most-pairs (length (N .statements)) (iterations (N .loops)) h g in omega arith

@@ -143,7 +143,7 @@ module _ (N : Nest) where
       (λ r. r .1) (pair-before i j h)
 
   -- a pair that stands the other way round crossed
-  no-longer-first : (ts : List Step) (i j : Instance) → Precedes (order N) i j → Precedes (order (nestAfterAll ts N)) (moved ts j) (moved ts i)
+  pub no-longer-first : (ts : List Step) (i j : Instance) → Precedes (order N) i j → Precedes (order (nestAfterAll ts N)) (moved ts j) (moved ts i)
       → Earlier (forwardAll ts (j .iteration)) (forwardAll ts (i .iteration))
   no-longer-first ts i j h g = ⊎-elim (λ l. l) (λ r. absurd (let a = same-rises ts i j h (sym (r .0)) in let b = r .1 in omega arith))
       (ordered-precedes (Before whole) (order (nestAfterAll ts N))
@@ -158,7 +158,7 @@ module _ (N : Nest) where
         mem-instances (length (nestAfterAll ts N .statements)) (iterations (nestAfterAll ts N .loops)) (moved ts i)
         (subst (λ n. i .statement < n) (sym (statements-kept ts N)) (r .0)) (steps-take-points ts proper N formed (r .1))
 
-    before-moved : (i j : Instance) → Mem i (order N) → Mem j (order N) → Before whole (moved ts i) (moved ts j)
+    pub before-moved : (i j : Instance) → Mem i (order N) → Mem j (order N) → Before whole (moved ts i) (moved ts j)
         → Precedes (order (nestAfterAll ts N)) (moved ts i) (moved ts j)
     before-moved i j m l h =
         comesFirst-precedes (length (nestAfterAll ts N .statements)) (iterations (nestAfterAll ts N .loops))

@@ -54,6 +54,12 @@ unfolding upFrom
 up-last k zero = ap (_∷ []) (sym (add-zero k))
 up-last k (suc n) = ap (k ∷_) (up-last (suc k) n ∙ ap (λ i. upFrom (suc k) n ++ i ∷ []) (suc-add k n ∙ sym (add-suc k n)))
 
+pub up-parts : (k m n : ℕ) → upFrom k (m + n) ≡ upFrom k m ++ upFrom (k + m) n
+unfolding upFrom
+up-parts k zero n = ap₂ upFrom (sym (add-zero k)) (zero-add n)
+up-parts k (suc m) n = ap (upFrom k) (suc-add m n)
+    ∙ ap (k ∷_) (up-parts (suc k) m n ∙ ap (λ i. upFrom (suc k) m ++ upFrom i n) (suc-add k m ∙ sym (add-suc k m)))
+
 pub down-last : (k n : ℕ) → downTo k (suc n) ≡ downTo (suc k) n ++ k ∷ []
 unfolding downTo
 down-last k zero = ap (_∷ []) (add-zero k)
