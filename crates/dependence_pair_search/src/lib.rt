@@ -12,13 +12,13 @@ use model::LOOPS;
 
 // ---- chains of points by element
 
-fn to_index(x: u16) -> usize
+pub fn to_index(x: u16) -> usize
     ensures { λ r. ⌜ r ≡ x ⌝ }
 {
     x as usize
 }
 
-fn to_link(x: usize) -> u16
+pub fn to_link(x: usize) -> u16
     requires { ⌜ x < 65536 ⌝ }
     ensures { λ r. ⌜ r ≡ x ⌝ }
 {

@@ -1,0 +1,4 @@
+-- Laws of what `specs` defines.
+pub mod ChainLaws
+pub mod PartnerLaws
+pub mod Witness
