@@ -10,7 +10,7 @@ use lib.IntN.{ℤ}
 use lib.ListN.{length, getD}
 use Rattle.lists.specs.Membership.{Mem}
 use Rattle.lists.specs.Tests.{select}
-use Rattle.lists.proofs.TestLaws.{T-same, select-mem, mem-select}
+use Rattle.lists.proofs.TestLaws.{T-same, select-mem, mem-select, select-same-on}
 use Rattle.model.specs.Answer.{accepted}
 use Rattle.model.specs.Bounds.{admitted}
 use Rattle.model.specs.Points.{iterations}
@@ -28,7 +28,7 @@ use Rattle.nest_flat.specs.declared.Header.{Header}
 use Rattle.nest_flat.specs.FlatNests.{FlatNest, flatNest, nestOf, FlatNestIn}
 use Rattle.nest_points.proofs.NestLaws.{depth-is}
 use Rattle.dependence_marks.specs.Lines.{Markable, LinesAre}
-use Rattle.dependence_marks.proofs.MarkLaws.{select-same, statement-count}
+use Rattle.dependence_marks.proofs.MarkLaws.{statement-count}
 use Rattle.dependence_bounds.specs.KnownLines.{limited, Recounted, FlatNestCovered, RangesOn, CoverIn, BoundIn}
 use Rattle.dependence_bounds.proofs.PartLaws.{part-flat-nest, part-formed, part-inside, part-lines}
 use Rattle.dependence_bounds.proofs.CoverLaws.{covered-marked}
@@ -62,7 +62,7 @@ module _ (P : FlatNest) (t : List ℤ) (d : List ℕ) (h : FlatNestIn P) (g : Na
   unfolding shown
   bounded = record {
     lines =
-        select-same (marked m (P .statements)) (occurs (accesses (nestOf P .statements)) (iterations (nestOf P .loops)))
+        select-same-on (marked m (P .statements)) (occurs (accesses (nestOf P .statements)) (iterations (nestOf P .loops)))
         (allLines (P .statements) (P .depth))
         (λ l i. T-same (marked m (P .statements) l) (occurs (accesses (nestOf P .statements)) (iterations (nestOf P .loops)) l) (marked-occurs l i)
         (occurs-marked l i))

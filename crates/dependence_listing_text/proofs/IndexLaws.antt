@@ -168,7 +168,7 @@ module _ (n d : ℕ) where
 
 -- ---- line i
 
-kind-number : (k : ℕ) → k < kindCount → kindNumber (getD kinds k flow) ≡ k
+pub kind-number : (k : ℕ) → k < kindCount → kindNumber (getD kinds k flow) ≡ k
 unfolding kinds
 kind-number zero h = refl
 kind-number (suc zero) h = refl

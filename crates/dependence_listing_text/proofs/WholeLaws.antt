@@ -13,6 +13,7 @@ use Rattle.lists.specs.Membership.{Mem}
 use Rattle.lists.specs.Parts.{put}
 use Rattle.lists.specs.Tests.{select}
 use Rattle.lists.proofs.PartLaws.{put-put, length-rows}
+use Rattle.lists.proofs.TestLaws.{select-same-on}
 use Rattle.model.specs.Ticket.{Statement, Nest}
 use Rattle.model.specs.Points.{iterations}
 use Rattle.model.specs.Machine.{Accesses, accesses}
@@ -85,11 +86,6 @@ short t o n e h = let l = lt-leb (length t) (length o) (omega arith) in record {
 
 -- ---- the model's listing
 
-select-same : (t u : Line → Bool) (l : List Line) → ((x : Line) → Mem x l → t x ≡ u x) → select t l ≡ select u l
-unfolding select
-select-same t u [] h = refl
-select-same t u (x ∷ l) h = rw (h x (List·Memᴰ·head refl), select-same t u l (λ y m. h y (List·Memᴰ·tail m)))
-
 -- the listing of lines that occur, by its parts
 listed : Accesses → ℕ → ℕ → List (List ℤ) → List ℕ
 listed A n d ps = headText d (length ps) (length (select (occurs A ps) (allLines n d))) ++ flatMap lineText (select (occurs A ps) (allLines n d))
@@ -98,7 +94,7 @@ module _ (ss : List Statement) (F : Flat) (m m′ : List Bool) (d : Describes ss
   where
     shown-occurs : shown m′ (F .body) (F .depth) ≡ select (occurs (accesses ss) (pointsOf F)) (allLines (F .body) (F .depth))
     unfolding shown marked
-    shown-occurs = select-same (marked m′ (F .body)) (occurs (accesses ss) (pointsOf F)) (allLines (F .body) (F .depth))
+    shown-occurs = select-same-on (marked m′ (F .body)) (occurs (accesses ss) (pointsOf F)) (allLines (F .body) (F .depth))
         (λ l h. s .lines ss d l h ∙ ap (_|| occurs (accesses ss) (pointsOf F) l) (clear (place (F .body) l)))
 
     text-listed : text m′ (F .body) (F .depth) (F .count) ≡ listed (accesses ss) (F .body) (F .depth) (pointsOf F)

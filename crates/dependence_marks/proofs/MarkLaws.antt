@@ -1,6 +1,7 @@
 -- The lines of a nest, marked in its flat form. In order: equal places are equal elements; the accesses of the model's uses; what
--- `mark_using_numbers` asks is met (`lines-in`); what the search is lent describes the nest (`describes`) and is as it asks (`ready`); what it marks
--- are the lines of the nest's listing (`lines-are`); their text is the listing (`listing-is`).
+-- `mark_using_numbers` asks is met (`lines-in`); what the search is lent describes the nest (`describes`), and so does what the sizes of the
+-- statements give (`describes-sized`); it is as the search asks (`ready`); what it marks are the lines of the nest's listing (`lines-are`); their text
+-- is the listing (`listing-is`).
 use mathlib.Core.Path.{_≡_, refl, sym, _∙_, ap, ap₂, subst}
 use mathlib.Core.Bool.{Bool, true, false, _||_}
 use mathlib.Core.List.{List, [], _∷_, _++_, map, flatMap, map-append, List·Memᴰ·head, List·Memᴰ·tail}
@@ -17,7 +18,7 @@ use Rattle.lists.specs.Tests.{select}
 use Rattle.lists.specs.Parts.{rows}
 use Rattle.lists.proofs.MembershipLaws.{getD-mem}
 use Rattle.lists.proofs.PartLaws.{rows-getD}
-use Rattle.lists.proofs.TestLaws.{T-same, equal-test}
+use Rattle.lists.proofs.TestLaws.{T-same, equal-test, select-same-on}
 use Rattle.model.specs.Grammar.{total, mostAccesses, mostPoints, mostNumbers}
 use Rattle.model.specs.Ticket.{Access, Statement}
 use Rattle.model.specs.Points.{iterations}
@@ -34,7 +35,7 @@ use Rattle.model.proofs.Points.PointLaws.{iterations-rise}
 use Rattle.model.proofs.Store.PlaceLaws.{place-injective}
 use Rattle.dependence_vectors.specs.Candidates.{row}
 use Rattle.dependence_vectors.specs.Numbers.{place}
-use Rattle.dependence_search.specs.Flat.{Flat, statementOf, pointAt, Use, use·of, usesFrom, uses, noUse, useAt, Describes, Ready, NumbersBelow, Searched}
+use Rattle.dependence_search.specs.Flat.{Flat, flat, statementOf, pointAt, Use, use·of, usesFrom, uses, noUse, useAt, Describes, Ready, NumbersBelow, Searched}
 use Rattle.dependence_search.proofs.UseLaws.{uses-of}
 use Rattle.dependence_listing_text.specs.Text.{marked, shown, text}
 use Rattle.nest_flat.specs.FlatNests.{FlatNest, sizesIn, statementsFrom, nestOf, FlatNestIn, noAccess, accessOf}
@@ -44,8 +45,9 @@ use Rattle.nest_flat.proofs.FlatNestLaws.{access-count, sizes-count}
 use Rattle.nest_points.proofs.NestLaws.{depth-is}
 use Rattle.nest_elements.proofs.NestLaws.{access-valid}
 use Rattle.dependence_marks.specs.declared.Uses.{Uses}
-use Rattle.dependence_marks.specs.Uses.{UsesAre}
+use Rattle.dependence_marks.specs.Uses.{writtenIn, statementNumbers, UsesAre}
 use Rattle.dependence_marks.specs.Lines.{Markable, LinesIn, LinesAre}
+use Rattle.dependence_marks.proofs.UseLaws.{sizes-numbers, sizes-flags}
 
 -- ---- equal places are equal elements
 
@@ -97,12 +99,6 @@ module _ (P : FlatNest) (h : FlatNestIn P) where
   pub writes-count : (r : Uses) → UsesAre P r → length (take (P .accesses) (r .writes)) ≡ P .accesses
   writes-count r u = let l = u .writes-length in let f = h .few-accesses in length-take-le (P .accesses) (r .writes) (omega arith)
 
--- tests that agree on the members
-pub select-same : (t u : Line → Bool) (l : List Line) → ((x : Line) → Mem x l → t x ≡ u x) → select t l ≡ select u l
-unfolding select
-select-same t u [] h = refl
-select-same t u (x ∷ l) h = rw (h x (List·Memᴰ·head refl), select-same t u l (λ y m. h y (List·Memᴰ·tail m)))
-
 -- ---- the points listed
 
 pub lines-in : (P : FlatNest) (marks : List Bool) → Markable P marks → (points : List ℤ) (n : ℕ) → PointsAre P points n → LinesIn P points n marks
@@ -148,31 +144,47 @@ module _ (P : FlatNest) (points : List ℤ) (n : ℕ) (marks : List Bool) (h : L
     body = P .statements;
   }
 
+  module _ (e : List ℕ) (g : NumbersAre P points n e) where
+    -- statements and ways that are the uses'
+    module _ (o : List ℕ) (w : List Bool) (os : o ≡ map (λ (u : Use). u .statement) (uses (nestOf P .statements)))
+        (ws : w ≡ map (λ (u : Use). u .writes) (uses (nestOf P .statements))) where
+      abbrev G : Flat
+      G = flat points (P .depth) n e o w (P .statements)
+
+      point-is : (x : ℕ) → x < n → pointAt G x ≡ getD (rows (P .depth) n points) x []
+      unfolding row
+      point-is x l = sym (rows-getD (P .depth) n points x [] l)
+
+      abbrev at : ℕ → ℕ → Element
+      at k x = element (getD (rows (P .depth) n points) x []) (accessOf (nestOf P) k)
+
+      element-is : (k x : ℕ) → x < n → element (pointAt G x) (useAt (nestOf P .statements) k .access) ≡ at k x
+      element-is k x l = ap₂ element (point-is x l) (use-access P flat-nest-in k)
+
+      describes-with : Describes (nestOf P .statements) G
+      describes-with = record {
+        body = sym (statement-count P flat-nest-in);
+        statements = os;
+        writes = ws;
+        elements = λ a b x y la lb lx ly. let c = use-count P flat-nest-in in
+            ap₂ eqb (g .are a x (omega arith) lx) (g .are b y (omega arith) ly)
+            ∙ place-same (nestOf P .arrays) (at a x) (at b y) (access-valid P points n room number-in a x (omega arith) lx)
+            (access-valid P points n room number-in b y (omega arith) ly)
+            ∙ sym (ap₂ same (element-is a x lx) (element-is b y ly));
+      }
+
+    -- those of the sizes
+    pub describes-sized : Describes (nestOf P .statements)
+        (flat points (P .depth) n e (statementNumbers 0 (sizesIn P)) (writtenIn (sizesIn P)) (P .statements))
+    describes-sized = describes-with (statementNumbers 0 (sizesIn P)) (writtenIn (sizesIn P)) (sizes-numbers P flat-nest-in)
+        (sizes-flags P flat-nest-in)
+
   module _ (e : List ℕ) (g : NumbersAre P points n e) (r : Uses) (u : UsesAre P r) where
     abbrev F : Flat
     F = flatOf e r
 
-    point-is : (x : ℕ) → x < n → pointAt F x ≡ getD (rows (P .depth) n points) x []
-    unfolding row
-    point-is x l = sym (rows-getD (P .depth) n points x [] l)
-
-    abbrev at : ℕ → ℕ → Element
-    at k x = element (getD (rows (P .depth) n points) x []) (accessOf (nestOf P) k)
-
-    element-is : (k x : ℕ) → x < n → element (pointAt F x) (useAt (nestOf P .statements) k .access) ≡ at k x
-    element-is k x l = ap₂ element (point-is x l) (use-access P flat-nest-in k)
-
     pub describes : Describes (nestOf P .statements) F
-    describes = record {
-      body = sym (statement-count P flat-nest-in);
-      statements = u .statements;
-      writes = u .writes;
-      elements = λ a b x y la lb lx ly. let c = use-count P flat-nest-in in
-          ap₂ eqb (g .are a x (omega arith) lx) (g .are b y (omega arith) ly)
-          ∙ place-same (nestOf P .arrays) (at a x) (at b y) (access-valid P points n room number-in a x (omega arith) lx)
-          (access-valid P points n room number-in b y (omega arith) ly)
-          ∙ sym (ap₂ same (element-is a x lx) (element-is b y ly));
-    }
+    describes = describes-with e g (F .statements) (F .writes) (u .statements) (u .writes)
 
     in-body : (a : ℕ) → a < length (F .statements) → statementOf F a < P .statements
     in-body a l =
@@ -213,7 +225,7 @@ module _ (P : FlatNest) (points : List ℤ) (n : ℕ) (marks : List Bool) (h : L
     unfolding shown linesOf lines
     lines-are m k s = record {
       lines =
-          select-same (marked m (P .statements)) (occurs (accesses (nestOf P .statements)) (iterations (nestOf P .loops)))
+          select-same-on (marked m (P .statements)) (occurs (accesses (nestOf P .statements)) (iterations (nestOf P .loops)))
           (allLines (P .statements) (P .depth)) (occurs-marked m s)
           ∙ ap₂ (λ (i j : ℕ). select (occurs (accesses (nestOf P .statements)) (iterations (nestOf P .loops))) (allLines i j))
           (sym (statement-count P flat-nest-in)) (sym (depth-is P));

@@ -18,7 +18,7 @@ use Rattle.model.specs.Store.{sum}
 use Rattle.model.specs.Grammar.{mostAccesses}
 use Rattle.nest_flat.specs.Layout.{accessAt, accessesFrom}
 use Rattle.nest_elements.proofs.LayoutLaws.{sum-drop}
-use Rattle.dependence_search.specs.Flat.{Use, use·of, usesFrom}
+use Rattle.dependence_search.specs.Flat.{Use, use·of, usesFrom, uses}
 use Rattle.nest_flat.specs.FlatNests.{FlatNest, sizesIn, wordsIn, accessedIn, extentsIn, statementsFrom, nestOf, FlatNestIn}
 use Rattle.nest_flat.proofs.FlatNestLaws.{sizes-count}
 use Rattle.dependence_marks.specs.Uses.{firstWritten, writtenIn, statementNumbers, EnterIn, UsesAre}
@@ -218,6 +218,15 @@ module _ (P : FlatNest) where
       ∙ ap₂ _++_ (one-flag (wordsIn P) (accessedIn P) (extentsIn P) (P .depth) i (suc k) m (h m (List·Memᴰ·head refl)))
       (flags-of (k + m) (suc i) ms (λ x q. h x (List·Memᴰ·tail q)))
 
+  -- the sizes of the statements give the model's uses
+  pub sizes-numbers : FlatNestIn P → statementNumbers 0 (sizesIn P) ≡ map numberOf (uses (nestOf P .statements))
+  unfolding nestOf
+  sizes-numbers h = sym (numbers-of 0 0 (sizesIn P) (h .each))
+
+  pub sizes-flags : FlatNestIn P → writtenIn (sizesIn P) ≡ map writesOf (uses (nestOf P .statements))
+  unfolding nestOf
+  sizes-flags h = sym (flags-of 0 0 (sizesIn P) (h .each))
+
   module _ (h : FlatNestIn P) (o : List ℕ) (w : List Bool) (lo : length o ≡ mostAccesses) (lw : length w ≡ mostAccesses) (e : List ℕ)
       (v : List Bool) (first s : ℕ) (g : Entered (sizesIn P) o e w v first s) where
     within : sum (sizesIn P) ≤ mostAccesses
@@ -247,8 +256,8 @@ module _ (P : FlatNest) where
     unfolding nestOf
     uses-are l =
         let c = sizes-count P h in let r = entered-all (sizesIn P) o w e v first s (omega arith) g in let q = h .all-accesses in record {
-          statements = ap (λ (i : ℕ). take i e) (sym q) ∙ r .0 ∙ sym (numbers-of 0 0 (sizesIn P) (h .each));
-          writes = ap (λ (i : ℕ). take i v) (sym q) ∙ r .1 ∙ sym (flags-of 0 0 (sizesIn P) (h .each));
+          statements = ap (λ (i : ℕ). take i e) (sym q) ∙ r .0 ∙ sizes-numbers h;
+          writes = ap (λ (i : ℕ). take i v) (sym q) ∙ r .1 ∙ sizes-flags h;
           statements-length = g .statements-length ∙ lo;
           writes-length = g .writes-length ∙ lw;
         }

@@ -5,8 +5,8 @@
 use mathlib.Core.Path.{_≡_, refl, sym, ap, ap₂, _∙_, subst}
 use mathlib.Core.Bool.{Bool, true, false, cond, not, _&&_, _||_, and-true, and-false, and-assoc, or-true, or-false, or-assoc}
 use mathlib.Core.Logic.{_⊎_, inl, inr, ⊎-elim}
-use mathlib.Core.List.{List, [], _∷_, _++_, flatMap, append-nil, List·Memᴰ·head, List·Memᴰ·tail, List·Memᴰ·not-nil, List·Memᴰ·cases-cons, Memᴰ·cast}
-use Prim.Native.Nat.{ℕ, zero, suc, _<_}
+use mathlib.Core.List.{List, [], _∷_, _++_, map, flatMap, append-nil, List·Memᴰ·head, List·Memᴰ·tail, List·Memᴰ·not-nil, List·Memᴰ·cases-cons, Memᴰ·cast}
+use Prim.Native.Nat.{ℕ, zero, suc, _≤_, _<_}
 use native.Mathlib.Omega.{arith}
 use lib.Dec.{T}
 use lib.ListN.{length, getD, take}
@@ -179,6 +179,12 @@ module _ {A : Type 0} (t : A → Bool) where
   select-none [] h = refl
   select-none (x ∷ l) h = rw (not-T-false (t x) (h x (List·Memᴰ·head refl))) (select-none l (λ y m. h y (List·Memᴰ·tail m)))
 
+  pub select-fewer : (l : List A) → length (select t l) ≤ length l
+  unfolding select
+  select-fewer [] = omega arith
+  select-fewer (x ∷ l) = let h = select-fewer l in cond-cases (λ m. length m ≤ suc (length l)) (t x) (x ∷ select t l) (select t l)
+      (λ e. omega arith) (λ e. omega arith)
+
   -- by two tests that agree
   pub select-same-on : (u : A → Bool) (l : List A) → ((x : A) → Mem x l → t x ≡ u x) → select t l ≡ select u l
   unfolding select
@@ -190,6 +196,32 @@ pub select-flatMap : {A B : Type 0} (t : B → Bool) (f : A → List B) (l : Lis
 unfolding select flatMap
 select-flatMap t f [] = refl
 select-flatMap t f (x ∷ l) = select-append t (f x) (flatMap f l) ∙ ap (select t (f x) ++_) (select-flatMap t f l)
+
+-- the parts of those that pass
+pub flatMap-select : {A B : Type 0} (f : A → List B) (t : A → Bool) (l : List A) → flatMap f (select t l) ≡ flatMap (λ x. cond (t x) (f x) []) l
+unfolding select flatMap
+flatMap-select f t [] = refl
+flatMap-select f t (x ∷ l) = go (t x) (flatMap-select f t l)
+  where
+    go : (b : Bool) → flatMap f (select t l) ≡ flatMap (λ x. cond (t x) (f x) []) l
+        → flatMap f (cond b (x ∷ select t l) (select t l)) ≡ cond b (f x) [] ++ flatMap (λ x. cond (t x) (f x) []) l
+    go true e = ap (f x ++_) e
+    go false e = e
+
+pub select-map : {A B : Type 0} (t : B → Bool) (g : A → B) (l : List A) → select t (map g l) ≡ map g (select (λ x. t (g x)) l)
+unfolding select
+select-map t g [] = refl
+select-map t g (x ∷ l) = go (t (g x)) (select-map t g l)
+  where
+    go : (b : Bool) → select t (map g l) ≡ map g (select (λ x. t (g x)) l)
+        → cond b (g x ∷ select t (map g l)) (select t (map g l)) ≡ map g (cond b (x ∷ select (λ x. t (g x)) l) (select (λ x. t (g x)) l))
+    go true e = ap (g x ∷_) e
+    go false e = e
+
+-- by two tests, of which one is the same for all
+pub select-and : {A : Type 0} (t : A → Bool) (b : Bool) (l : List A) → select (λ x. t x && b) l ≡ cond b (select t l) []
+select-and t true l = select-same-on (λ x. t x && true) t l (λ x m. and-true (t x))
+select-and t false l = select-same-on (λ x. t x && false) (λ x. false) l (λ x m. and-false (t x)) ∙ select-none (λ x. false) l (λ x m h. h)
 
 pub select-ordered : {A : Type 0} (R : A → A → Type 0) (t : A → Bool) (l : List A) → Ordered R l → Ordered R (select t l)
 unfolding select

@@ -12,7 +12,7 @@ use Rattle.integers.specs.Sign.{Sign, less, equal, greater}
 use Rattle.lists.specs.Membership.{Mem, All}
 use Rattle.lists.specs.Tests.{select}
 use Rattle.lists.proofs.FlatMapLaws.{length-flatMap-most}
-use Rattle.lists.proofs.TestLaws.{cond-cases}
+use Rattle.lists.proofs.TestLaws.{cond-cases, select-fewer}
 use Rattle.model.specs.Ticket.{Limit, Loop, Subscript, Access, Statement, Step, Nest}
 use Rattle.model.specs.Grammar.{extents, arrayRoom, mostStatements, mostReads, mostArrays, ticketLoops, mostLoops, mostPoints}
 use Rattle.model.specs.Points.{iterations}
@@ -123,12 +123,6 @@ most-head a b c =
     let p = length-append (decimal a) (32 ∷ (decimal b ++ (32 ∷ (decimal c ++ (10 ∷ []))))) in
     let q = length-append (decimal b) (32 ∷ (decimal c ++ (10 ∷ []))) in let r = length-append (decimal c) (10 ∷ []) in omega arith
 
-most-selected : {A : Type 0} (t : A → Bool) (l : List A) → length (select t l) ≤ length l
-unfolding select
-most-selected t [] = omega arith
-most-selected t (x ∷ l) = let h = most-selected t l in cond-cases (λ m. length m ≤ suc (length l)) (t x) (x ∷ select t l) (select t l)
-    (λ e. omega arith) (λ e. omega arith)
-
 more-signs : (d n : ℕ) → length (signVectors d) ≤ n → length (signVectors (suc d)) ≤ 3 * n
 unfolding signVectors
 more-signs d n h = length-flatMap-most (λ s. map (λ v. s ∷ v) (signVectors d)) n (less ∷ equal ∷ greater ∷ [])
@@ -172,7 +166,7 @@ unfolding listing linesOf lines
 most-text N h g i =
     let found = linesOf N in
     let n = length (N .statements) in let d = length (N .loops) in
-    let e = most-selected (occurs (accesses (N .statements)) (iterations (N .loops))) (allLines n d) in
+    let e = select-fewer (occurs (accesses (N .statements)) (iterations (N .loops))) (allLines n d) in
     let m = most-lines n d g h in
     let a = most-head d (length (iterations (N .loops))) (length found) in
     let b = length-flatMap-most lineText 19 found (λ l k. let f = linesOf-exact N l .0 k .0 in
@@ -201,5 +195,5 @@ pub most-traded : (ts : List Step) (N : Nest) → length (N .statements) ≤ mos
     → length (traded ts N) ≤ 805306368
 unfolding traded
 most-traded ts N h g =
-    let e = most-selected (trades (forwardAll ts) (accesses (N .statements))) (allPairs (length (N .statements)) (iterations (N .loops))) in
+    let e = select-fewer (trades (forwardAll ts) (accesses (N .statements))) (allPairs (length (N .statements)) (iterations (N .loops))) in
     let m = most-pairs (length (N .statements)) (iterations (N .loops)) h g in omega arith
