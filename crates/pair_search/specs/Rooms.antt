@@ -1,0 +1,37 @@
+-- What a search keeps of a ticket's points: room for it, and what stands there.
+use mathlib.Core.Path.{_≡_}
+use mathlib.Core.List.{List}
+use Prim.Native.Nat.{ℕ, _*_, _≤_, _<_}
+use lib.IntN.{ℤ}
+use lib.ListN.{length, getD}
+use Rattle.model.specs.Grammar.{total, mostLoops, mostElements}
+use Rattle.ticket_steps.specs.declared.Steps.{Steps}
+use Rattle.nest_flat.specs.FlatNests.{FlatNest, nestOf}
+use Rattle.nest_points.specs.Nests.{PointsAre}
+use Rattle.nest_elements.specs.Nests.{NumbersAre}
+use Rattle.step_points.specs.Points.{PointsMoved}
+use Rattle.pair_partners.specs.Chains.{Links}
+
+-- few points, few numbers of elements at them and few elements
+pub record Few (P : FlatNest) (n : ℕ) : Type 0 where
+  pub points : n ≤ 256
+  pub numbers : P .accesses * n ≤ 1024
+  pub elements : total (nestOf P .arrays) ≤ 1024
+
+-- room for all that is kept of n points, and a head for each element, of which none is there
+pub record Lent (P : FlatNest) (n : ℕ) (points moved : List ℤ) (numbers links heads partners : List ℕ) : Type 0 where
+  pub points-room : n * P .depth ≤ length points
+  pub moved-room : n * mostLoops ≤ length moved
+  pub numbers-room : P .accesses * n ≤ length numbers
+  pub links-room : n * P .accesses ≤ length links
+  pub heads-room : total (nestOf P .arrays) ≤ length heads
+  pub few-heads : length heads ≤ mostElements
+  pub headless : (e : ℕ) → e < length heads → getD heads e 0 ≡ n
+  pub partners-room : n ≤ length partners
+
+-- the points are listed, moved by the first `step` steps to rows of `depth` numbers, numbered and linked
+pub record Linked (P : FlatNest) (S : Steps) (n step : ℕ) (points : List ℤ) (numbers links : List ℕ) (moved : List ℤ) (depth : ℕ) : Type 0 where
+  pub points-are : PointsAre P points n
+  pub moved-are : PointsMoved points (P .depth) n S step moved depth
+  pub numbers-are : NumbersAre P points n numbers
+  pub links-are : Links numbers n (P .accesses) links

@@ -1,0 +1,238 @@
+// The records of the pairs that trade places at a step, found in a ticket's flat form: its points are listed, moved by the steps, numbered by the
+// elements that they name and linked; then a walk goes through the source points.
+ghost use mathlib.Core.Path.{_≡_};
+ghost use mathlib.Core.Bool.{true};
+ghost use Prim.Native.Nat.{_≤_, _<_};
+ghost use lib.ListN.{length, take};
+ghost use Rattle.model.specs.Grammar.{mostPoints};
+ghost use Rattle.nest_flat.specs.FlatNests.{flatNest, nestOf, FlatNestIn};
+ghost use Rattle.ticket_steps.specs.Steps.{stepsOf};
+ghost use Rattle.pair_search.specs.Searches.{SearchIn, Searched};
+ghost use Rattle.pair_search.specs.Rooms.{Few, Lent, Linked};
+use model::ELEMENTS;
+use model::LOOPS;
+use model::NUMBERS;
+use model::POINTS;
+use model::TICKET_LOOPS;
+use nest_flat::Header;
+use pair_records::Walked;
+use ticket_steps::Steps;
+
+// Walks through points that are linked.
+fn walk_points(
+    header: Header,
+    limits: &[i16],
+    words: &[i16],
+    steps: Steps,
+    count: usize,
+    step: usize,
+    from: usize,
+    skip: usize,
+    points: &[i64],
+    numbers: &[u16],
+    links: &[u16],
+    moved: &[i64],
+    depth: usize,
+    partners: &mut [u16],
+    found: &mut [i16],
+) -> Walked
+    requires { ⌜ SearchIn (flatNest header (now limits) (now words)) steps count step from (now found)
+        × Linked (flatNest header (now limits) (now words)) steps count step (now points) (now numbers) (now links) (now moved) depth
+        × (count ≤ length (now partners)) ⌝ }
+    ensures { λ r. ⌜ Searched (take step (stepsOf steps)) (nestOf (flatNest header (now (limits .entry)) (now (words .entry)))) from skip r
+        (now (found .exit)) ⌝ }
+{
+    let sizes = header.sizes;
+    let statements = header.statements;
+    pair_records::walk(
+        points,
+        header.depth,
+        count,
+        numbers,
+        &sizes[..statements],
+        header.accesses,
+        statements,
+        links,
+        moved,
+        depth,
+        from,
+        skip,
+        partners,
+        found,
+    )
+}
+
+// Searches with the room that is lent.
+fn search_using(
+    header: Header,
+    limits: &[i16],
+    words: &[i16],
+    steps: Steps,
+    count: usize,
+    step: usize,
+    from: usize,
+    skip: usize,
+    points: &mut [i64],
+    moved: &mut [i64],
+    numbers: &mut [u16],
+    links: &mut [u16],
+    heads: &mut [u16],
+    partners: &mut [u16],
+    found: &mut [i16],
+) -> Walked
+    requires { ⌜ SearchIn (flatNest header (now limits) (now words)) steps count step from (now found)
+        × Lent (flatNest header (now limits) (now words)) count (now points) (now moved) (now numbers) (now links) (now heads) (now partners) ⌝ }
+    ensures { λ r. ⌜ Searched (take step (stepsOf steps)) (nestOf (flatNest header (now (limits .entry)) (now (words .entry)))) from skip r
+        (now (found .exit)) ⌝ }
+{
+    nest_points::list_points(header, limits, words, points);
+    let depth = step_points::move_points(points, header.depth, count, steps, step, moved);
+    nest_elements::number_accesses(header, limits, words, points, count, numbers);
+    pair_partners::link_points(numbers, count, header.accesses, heads, links);
+    walk_points(
+        header,
+        limits,
+        words,
+        steps,
+        count,
+        step,
+        from,
+        skip,
+        points,
+        numbers,
+        links,
+        moved,
+        depth,
+        partners,
+        found,
+    )
+}
+
+// No point: one more than the last.
+fn no_head(count: usize) -> u16
+    requires { ⌜ count ≤ mostPoints ⌝ }
+    ensures { λ r. ⌜ r ≡ count ⌝ }
+{
+    count as u16
+}
+
+// Whether the room of `search_few` is enough.
+fn is_few(header: Header, limits: &[i16], words: &[i16], count: usize) -> bool
+    requires { ⌜ FlatNestIn (flatNest header (now limits) (now words)) ⌝ }
+    ensures { λ r. ⌜ (r ≡ true → Few (flatNest header (now (limits .entry)) (now (words .entry))) count) ⌝ }
+{
+    if 256 < count {
+        return false;
+    }
+    if 1024 < header.accesses * count {
+        return false;
+    }
+    nest_elements::elements_in(header, limits, words) <= 1024
+}
+
+// Searches few points.
+fn search_few(
+    header: Header,
+    limits: &[i16],
+    words: &[i16],
+    steps: Steps,
+    count: usize,
+    step: usize,
+    from: usize,
+    skip: usize,
+    found: &mut [i16],
+) -> Walked
+    requires { ⌜ SearchIn (flatNest header (now limits) (now words)) steps count step from (now found)
+        × Few (flatNest header (now limits) (now words)) count ⌝ }
+    ensures { λ r. ⌜ Searched (take step (stepsOf steps)) (nestOf (flatNest header (now (limits .entry)) (now (words .entry)))) from skip r
+        (now (found .exit)) ⌝ }
+{
+    let none = no_head(count);
+    let mut points = [0i64; 1024];
+    let mut moved = [0i64; 1536];
+    let mut numbers = [0u16; 1024];
+    let mut links = [0u16; 1024];
+    let mut heads = [none; 1024];
+    let mut partners = [0u16; 256];
+    search_using(
+        header,
+        limits,
+        words,
+        steps,
+        count,
+        step,
+        from,
+        skip,
+        &mut points,
+        &mut moved,
+        &mut numbers,
+        &mut links,
+        &mut heads,
+        &mut partners,
+        found,
+    )
+}
+
+// Searches any points. Apart from `search_few`, which would walk through this room page by page too.
+fn search_many(
+    header: Header,
+    limits: &[i16],
+    words: &[i16],
+    steps: Steps,
+    count: usize,
+    step: usize,
+    from: usize,
+    skip: usize,
+    found: &mut [i16],
+) -> Walked
+    requires { ⌜ SearchIn (flatNest header (now limits) (now words)) steps count step from (now found) ⌝ }
+    ensures { λ r. ⌜ Searched (take step (stepsOf steps)) (nestOf (flatNest header (now (limits .entry)) (now (words .entry)))) from skip r
+        (now (found .exit)) ⌝ }
+{
+    let none = no_head(count);
+    let mut points = [0i64; TICKET_LOOPS * POINTS];
+    let mut moved = [0i64; LOOPS * POINTS];
+    let mut numbers = [0u16; NUMBERS];
+    let mut links = [0u16; NUMBERS];
+    let mut heads = [none; ELEMENTS];
+    let mut partners = [0u16; POINTS];
+    search_using(
+        header,
+        limits,
+        words,
+        steps,
+        count,
+        step,
+        from,
+        skip,
+        &mut points,
+        &mut moved,
+        &mut numbers,
+        &mut links,
+        &mut heads,
+        &mut partners,
+        found,
+    )
+}
+
+// Searches for the pairs that trade places after the first `step` steps, from source point `from` on and past `skip` records.
+pub fn search_pairs(
+    header: Header,
+    limits: &[i16],
+    words: &[i16],
+    steps: Steps,
+    count: usize,
+    step: usize,
+    from: usize,
+    skip: usize,
+    found: &mut [i16],
+) -> Walked
+    requires { ⌜ SearchIn (flatNest header (now limits) (now words)) steps count step from (now found) ⌝ }
+    ensures { λ r. ⌜ Searched (take step (stepsOf steps)) (nestOf (flatNest header (now (limits .entry)) (now (words .entry)))) from skip r
+        (now (found .exit)) ⌝ }
+{
+    if is_few(header, limits, words, count) {
+        return search_few(header, limits, words, steps, count, step, from, skip, found);
+    }
+    search_many(header, limits, words, steps, count, step, from, skip, found)
+}
