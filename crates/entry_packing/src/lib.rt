@@ -8,7 +8,7 @@ use entry_answers::Answer;
 use entry_quick::Tested;
 use ticket_refusals::Refusal;
 
-fn pack(number: usize, place: usize, count: usize) -> u64
+pub fn pack(number: usize, place: usize, count: usize) -> u64
     ensures { λ r. ⌜ r ≡ fields number place count ⌝ }
 {
     let n = (number % 256) as u64;

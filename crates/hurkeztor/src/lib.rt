@@ -1,8 +1,11 @@
-// The five entries for C (include/hurkeztor.h). Each contract equates the answer, and what everything lent holds in the end, with the
+// The six entries for C (include/hurkeztor.h). Each contract equates the answer, and what everything lent holds in the end, with the
 // definition of document 01 (crate model, specs/Entries); what is promised of the definitions is stated in crate model, proofs/Demands.
 ghost use mathlib.Core.Path.{_≡_};
 ghost use Rattle.model.specs.Entries as Entries;
+ghost use Rattle.model.specs.Pairs.{reason};
 ghost use Rattle.entry_packing.specs.Packed.{packed, counted};
+ghost use Rattle.entry_reason.specs.Records.{packedReason, recordsIn};
+use entry_reason::Pair;
 
 #[no_mangle]
 pub extern "C" fn hurkeztor_judge(ticket: &[u8]) -> u64
@@ -40,4 +43,21 @@ pub extern "C" fn hurkeztor_run(ticket: &[u8], store: &mut [u32]) -> u64
         × (now (store .exit) ≡ Entries.runEntry (now (ticket .entry)) (now (store .entry)) .memory) ⌝ }
 {
     entry_packing::pack_answer(entry_run::run(ticket, store))
+}
+
+// Fills as many records as there are, or as the list has. Everything below it goes by value.
+#[no_mangle]
+pub extern "C" fn hurkeztor_reason(ticket: &[u8], list: &mut [Pair]) -> u64
+    ensures { λ r. ⌜ (r ≡ packedReason (reason (now (ticket .entry)) (recordsIn (now (list .entry))) .answer))
+        × (recordsIn (now (list .exit)) ≡ reason (now (ticket .entry)) (recordsIn (now (list .entry))) .list) ⌝ }
+{
+    let mut f = entry_reason::begin(ticket, list.len());
+    let n = f.most;
+    let mut k = 0;
+    while k < n {
+        f = entry_reason::next(ticket, f);
+        list[k] = f.pair;
+        k += 1;
+    }
+    f.answer
 }

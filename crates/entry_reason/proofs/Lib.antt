@@ -1,0 +1,5 @@
+-- Laws of what `specs` defines.
+pub mod RecordLaws
+pub mod TicketLaws
+pub mod PairLaws
+pub mod FinderLaws

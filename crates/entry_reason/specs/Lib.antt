@@ -1,0 +1,3 @@
+-- What the crate's contracts speak of.
+pub mod Records
+pub mod Finders

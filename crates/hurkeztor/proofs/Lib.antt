@@ -1,0 +1,2 @@
+-- Laws that the proofs by hand need.
+pub mod FillLaws
