@@ -1,10 +1,11 @@
-//! What is answered: the five functions, and the order of the refusals.
+//! What is answered: the six functions, and the order of the refusals.
 
 use std::collections::BTreeSet;
 
 use crate::directions::{Line, backwards, conflicts, mapped, vectors};
 use crate::points::{Point, admit, spread};
 use crate::quick::apart;
+use crate::reason::{Record, traded};
 use crate::ticket::{Access, Nest, Ticket};
 use crate::{echo, limits, reading, run as running, writing};
 
@@ -22,7 +23,8 @@ impl Refusal {
     }
 }
 
-/// Number 0 accepted, else 1 to 16. The place at acceptance and the count at a refusal are 0.
+/// Number 0 accepted, else 1 to 16. The place at acceptance and the count at a refusal are 0. For the reason of a 10 the number is 0, the place the
+/// refused step, and the count that of the pair records; 0 of them is 'by the table alone'.
 #[derive(Clone, Copy, PartialEq, Eq, Debug, Hash)]
 pub struct Answer {
     pub number: u8,
@@ -161,6 +163,27 @@ impl Answers {
         };
         answer(ran())
     }
+
+    /// The pairs that trade places at the step that is refused with 10, as many as the list can take; else what judge answers.
+    pub fn reason(&self, list: &mut [Record]) -> Answer {
+        match (&self.admitted, &self.judged) {
+            (Ok(Admitted { ticket, points, .. }), Err(Refusal { number: 10, place })) => {
+                let mut count = 0;
+                traded(&ticket.nest, points, &ticket.steps[..*place as usize], |record| {
+                    if let Some(lent) = list.get_mut(count as usize) {
+                        *lent = record;
+                    }
+                    count += 1;
+                });
+                Answer {
+                    number: 0,
+                    place: *place,
+                    count,
+                }
+            }
+            _ => self.judge(),
+        }
+    }
 }
 
 /// The output at the front of the lent buffer, or 14; bytes beyond those written keep their values.
@@ -200,4 +223,8 @@ pub fn quick(ticket: &[u8], first: u64, second: u64) -> Answer {
 
 pub fn run(ticket: &[u8], store: &mut [u32]) -> Answer {
     Answers::to(ticket).run(store)
+}
+
+pub fn reason(ticket: &[u8], list: &mut [Record]) -> Answer {
+    Answers::to(ticket).reason(list)
 }

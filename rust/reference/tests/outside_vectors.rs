@@ -1,8 +1,9 @@
-//! The outside vectors of the repository's `tests/base.txt`, all answers of each, and of `tests/L1.txt`.
+//! The outside vectors of the repository's `tests/base.txt`, all answers of each, of `tests/L1.txt` and of `tests/L2.txt`.
 
 use std::fs;
 use std::path::Path;
 
+use reference::reason::Record;
 use reference::{Answer, reading};
 
 const PATTERN: u8 = 0xa5;
@@ -121,4 +122,53 @@ fn circulations() {
         .iter()
         .filter(|row| reading::kinds(&bytes(row.split(' ').nth(1).expect("a ticket"))).contains(&5));
     assert!(circulate.count() > 200);
+}
+
+/// As in `0,1,0,0:1,0,0,0:1:1:O`.
+fn record(text: &str) -> Record {
+    let fields: Vec<&str> = text.split(':').collect();
+    let indices = |field: &str| {
+        let indices: Vec<i16> = field.split(',').map(number).collect();
+        <[i16; 4]>::try_from(indices).expect("four indices")
+    };
+    Record {
+        source: indices(fields[0]),
+        sink: indices(fields[1]),
+        source_statement: number(fields[2]),
+        sink_statement: number(fields[3]),
+        kind: u16::from(fields[4].as_bytes()[0]),
+    }
+}
+
+/// The number and place of a row with pairs, or decided by the table alone, are the judge's.
+#[test]
+fn reasons() {
+    let junk = record("-7,-7,-7,-7:-7,-7,-7,-7:7:7:?");
+    let (rows, mut pairs, mut table) = (lines("L2.txt"), 0, 0);
+    for line in &rows {
+        println!("{line}");
+        let row: Vec<&str> = line.split(' ').collect();
+        let ["reason", ticket, lent, "->", what, n, place, count, records] = row[..] else {
+            panic!("a row of no known kind");
+        };
+        let ticket = bytes(ticket);
+        let mut list = vec![junk; number(lent)];
+        let mut expected: Vec<Record> = records.split(';').filter(|text| *text != "-").map(record).collect();
+        let answered = reference::reason(&ticket, &mut list);
+        if what == "judge" {
+            assert_eq!(answered, answer(n, place, number(count)));
+        } else {
+            assert_eq!(answered, answer("0", place, number(count)));
+            judge(&ticket, [n, place, "0"]);
+        }
+        assert_eq!(
+            expected.len(),
+            number::<usize>(count).min(list.len()) * usize::from(what == "pairs")
+        );
+        expected.resize(list.len(), junk);
+        assert_eq!(list, expected);
+        pairs += usize::from(what == "pairs");
+        table += usize::from(what == "table");
+    }
+    assert_eq!((rows.len(), pairs, table), (119, 14, 14));
 }

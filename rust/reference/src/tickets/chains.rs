@@ -5,7 +5,8 @@ use std::collections::BTreeSet;
 use super::random::Random;
 use crate::directions::{Vector, backwards, conflicts, mapped, vectors};
 use crate::limits;
-use crate::points::admit;
+use crate::points::{Point, admit};
+use crate::reason::traded;
 use crate::ticket::{Nest, Step};
 
 fn width(random: &mut Random) -> i64 {
@@ -80,8 +81,16 @@ struct Way {
 }
 
 impl Way {
+    fn directions_after(&self, step: &Step) -> BTreeSet<Vector> {
+        self.set.iter().flat_map(|v| mapped(step, v)).collect()
+    }
+
+    fn out_of_order(&self, step: &Step) -> bool {
+        self.directions_after(step).iter().any(|v| backwards(v))
+    }
+
     fn after(&self, step: &Step) -> Option<Way> {
-        let set: BTreeSet<Vector> = self.set.iter().flat_map(|v| mapped(step, v)).collect();
+        let set = self.directions_after(step);
         if set.iter().any(|v| backwards(v)) {
             return None;
         }
@@ -90,14 +99,11 @@ impl Way {
     }
 }
 
-/// Steps that are accepted one after another, as far as some tries for each part find any.
-pub fn accepted(random: &mut Random, nest: &Nest, parts: &[Part]) -> Vec<Step> {
-    let Ok(points) = admit(nest) else {
-        return free(random, nest.loops.len(), parts);
-    };
+/// Steps that are accepted one after another, as far as some tries for each part find any, and the way behind them.
+fn accepted_way(random: &mut Random, nest: &Nest, points: &[Point], parts: &[Part]) -> (Vec<Step>, Way) {
     let mut way = Way {
         nest: nest.clone(),
-        set: vectors(&conflicts(nest, &points)),
+        set: vectors(&conflicts(nest, points)),
     };
     let mut steps = vec![];
     for (count, weights) in parts {
@@ -113,5 +119,34 @@ pub fn accepted(random: &mut Random, nest: &Nest, parts: &[Part]) -> Vec<Step> {
             }
         }
     }
-    steps
+    (steps, way)
+}
+
+/// Steps that are accepted one after another, as far as some tries for each part find any.
+pub fn accepted(random: &mut Random, nest: &Nest, parts: &[Part]) -> Vec<Step> {
+    match admit(nest) {
+        Ok(points) => accepted_way(random, nest, &points, parts).0,
+        Err(_) => free(random, nest.loops.len(), parts),
+    }
+}
+
+/// Steps that are accepted, as far as some tries find any, and one that is then out of order: because pairs trade places, or by the table alone.
+/// Nothing where no such step is found.
+pub fn out_of_order(random: &mut Random, nest: &Nest, before: &[Part], last: Weights, by_table: bool) -> Option<Vec<Step>> {
+    let points = admit(nest).ok()?;
+    let (mut steps, way) = accepted_way(random, nest, &points, before);
+    for _ in 0..12 {
+        let refused = step(random, way.nest.loops.len(), last);
+        if !way.out_of_order(&refused) {
+            continue;
+        }
+        steps.push(refused);
+        let mut pairs = 0;
+        traded(nest, &points, &steps, |_| pairs += 1);
+        if (pairs == 0) == by_table {
+            return Some(steps);
+        }
+        steps.pop();
+    }
+    None
 }

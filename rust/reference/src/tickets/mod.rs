@@ -162,6 +162,32 @@ fn circulating(random: &mut Random) -> Ticket {
     Ticket { nest, steps }
 }
 
+/// A step that is refused with 10 behind some that are not: because pairs trade places, or by the table alone. Perhaps others follow it.
+fn refused(random: &mut Random, by_table: bool) -> Ticket {
+    // Skews and sections are what the table forgets distances by; neither is ever out of order.
+    let (most, weights) = if by_table {
+        (4, [10, 10, 45, 35, 10])
+    } else {
+        (5, [25, 20, 20, 15, 20])
+    };
+    for _ in 0..60 {
+        let space = random.pick(&[spaces::small as fn(&mut Random) -> Vec<Loop>, spaces::small, spaces::deep]);
+        let loops = few(random, space);
+        let body = if by_table && random.percent(70) { Body::Few } else { Body::Any };
+        let nest = bodies::nest(random, loops, body);
+        let before = [(random.below(most + 1).max(usize::from(by_table)), weights)];
+        let Some(mut steps) = chains::out_of_order(random, &nest, &before, [40, 30, 0, 0, 30], by_table) else {
+            continue;
+        };
+        if steps.len() < 8 && random.percent(30) {
+            let sections = steps.iter().filter(|step| matches!(step, Step::Section { .. })).count();
+            steps.extend(chains::free(random, nest.loops.len() + sections, &[(1, Kinds::Five.evenly())]));
+        }
+        return Ticket { nest, steps };
+    }
+    small(random, Kinds::Five)
+}
+
 fn made(random: &mut Random, kinds: Kinds) -> Vec<u8> {
     let circulations = if kinds == Kinds::Five { 400 } else { 0 };
     let ticket = match random.weighted(&[640, 80, 80, 50, 30, 80, 20, 2, 18, circulations]) {
@@ -194,6 +220,17 @@ pub fn ticket(seed: u64, index: u64) -> Vec<u8> {
 /// The same of the first four kinds alone, though a damaged one may have kind 5.
 pub fn ticket_of_four_kinds(seed: u64, index: u64) -> Vec<u8> {
     made(&mut Random::of(seed, index), Kinds::Four)
+}
+
+/// Four of ten are refused with 10 since pairs trade places, one of eight by the table alone, and the others are as above.
+pub fn out_of_order_ticket(seed: u64, index: u64) -> Vec<u8> {
+    let random = &mut Random::of(seed, index);
+    let ticket = match random.weighted(&[16, 5, 19]) {
+        0 => refused(random, false),
+        1 => refused(random, true),
+        _ => return made(random, Kinds::Five),
+    };
+    bytes_of(&words_of(&ticket))
 }
 
 /// One of some hundreds to 4096 iterations: too many for all pairs of instances to be compared often.
