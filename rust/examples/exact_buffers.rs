@@ -1,4 +1,4 @@
-//! Calls the five entries on heap buffers of exactly the right size, for a memory checker to watch.
+//! Calls the six entries on heap buffers of exactly the right size, for a memory checker to watch.
 //!
 //! Each line of standard input is a ticket: how many words its store has, then its bytes in hexadecimal digits (`-` for none). Each line
 //! of output has the answers, and sums of what was written. The test `exact_buffers` feeds it and compares.
@@ -6,10 +6,12 @@
 use std::io::{self, BufRead, Write};
 use std::process::ExitCode;
 
-use hurkeztor::entries::{self, Answer};
+use hurkeztor::entries::{self, Answer, PairRecord};
 
 /// The longest output of write and of list.
 const LONGEST: usize = 21_330;
+/// The longest list of pairs that is lent.
+const MOST_RECORDS: usize = 3000;
 
 fn ticket(digits: &str) -> Option<Box<[u8]>> {
     if digits == "-" {
@@ -59,13 +61,41 @@ fn quick(ticket: &[u8]) -> String {
     told.join(", ")
 }
 
+/// The fields of a record, in their order.
+fn fields(record: &PairRecord) -> impl Iterator<Item = u32> {
+    let indices = [record.source, record.sink].concat();
+    let rest = [record.source_statement, record.sink_statement, record.kind];
+    indices.into_iter().map(|index| index as u32).chain(rest.map(u32::from))
+}
+
+/// The count is learnt without a list. Then come that many records, one less, and none.
+fn reason(ticket: &[u8]) -> String {
+    let counted = entries::reason(ticket, &mut []);
+    let pairs = if counted.number == 0 && counted.place > 0 {
+        counted.count as usize
+    } else {
+        1
+    };
+    let pairs = pairs.min(MOST_RECORDS);
+    let mut told = vec![];
+    for length in [pairs, pairs.saturating_sub(1), 0] {
+        let mut list = vec![PairRecord::default(); length].into_boxed_slice();
+        let answer = entries::reason(ticket, &mut list);
+        told.push(format!("{} {}", said(answer), sum(list.iter().flat_map(fields))));
+    }
+    told.join(", ")
+}
+
 fn answers(line: &str) -> Option<String> {
     let (words, digits) = line.split_once(' ')?;
     let (words, ticket) = (words.parse().ok()?, ticket(digits)?);
     let judge = said(entries::judge(&ticket));
     let (write, list) = (exactly(&ticket, entries::write), exactly(&ticket, entries::list));
     let (quick, run) = (quick(&ticket), run(&ticket, words));
-    Some(format!("judge {judge}; write {write}; list {list}; quick {quick}; run {run}"))
+    let reason = reason(&ticket);
+    Some(format!(
+        "judge {judge}; write {write}; list {list}; quick {quick}; run {run}; reason {reason}"
+    ))
 }
 
 fn main() -> ExitCode {

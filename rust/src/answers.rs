@@ -81,7 +81,7 @@ const REFUSALS: [(&str, &str); 16] = [
 ];
 
 impl Refusal {
-    fn new(number: u8, place: u32) -> Refusal {
+    pub(crate) fn new(number: u8, place: u32) -> Refusal {
         let (name, _) = known(number);
         let place = match number {
             _ if place == 0 => Place::None,

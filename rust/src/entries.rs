@@ -1,4 +1,4 @@
-//! The five proved entries on bytes as they are: nothing is checked, added or interpreted here but the packed answer.
+//! The six proved entries on bytes as they are: nothing is checked, added or interpreted here but the packed answer.
 //!
 //! The interface above ([`crate::judge`] and so on) is what programs want. This one is for those that look at every number, place and
 //! byte. All `unsafe` of the crate is in this module.
@@ -17,10 +17,27 @@ use std::thread;
 pub struct Answer {
     /// 0 accepted, else the refusal's number, 1 to 16.
     pub number: u8,
-    /// The place of a refusal; 0 where it has none, and on acceptance.
+    /// The place of a refusal; 0 where it has none, and on acceptance. Of [`reason`], with number 0, the step that judge refuses with 10.
     pub place: u32,
-    /// On acceptance the iterations (judge, run), the bytes written (write, list), or 1 apart and 0 perhaps (quick); 0 on refusal.
+    /// On acceptance the iterations (judge, run), the bytes written (write, list), or 1 apart and 0 perhaps (quick); of [`reason`], where it has a
+    /// step, the pairs that trade places; 0 on refusal.
     pub count: u32,
+}
+
+/// Two conflicting instances that trade places, and one kind of their conflict, as C has it: 22 bytes, aligned to 2.
+#[derive(Clone, Copy, PartialEq, Eq, Debug, Hash, Default)]
+#[repr(C)]
+pub struct PairRecord {
+    /// The earlier instance's iteration, in the ticket's own indices, outermost first; 0 for loops that are not there.
+    pub source: [i16; 4],
+    /// The later instance's iteration.
+    pub sink: [i16; 4],
+    /// The earlier instance's statement, from 1.
+    pub source_statement: u16,
+    /// The later instance's statement.
+    pub sink_statement: u16,
+    /// The letter F, A or O.
+    pub kind: u16,
 }
 
 impl Answer {
@@ -34,12 +51,15 @@ impl Answer {
 }
 
 mod c {
+    use super::PairRecord;
+
     unsafe extern "C" {
         pub fn hurkeztor_judge(ticket: *const u8, ticket_len: usize) -> u64;
         pub fn hurkeztor_write(ticket: *const u8, ticket_len: usize, out: *mut u8, out_len: usize) -> u64;
         pub fn hurkeztor_list(ticket: *const u8, ticket_len: usize, out: *mut u8, out_len: usize) -> u64;
         pub fn hurkeztor_quick(ticket: *const u8, ticket_len: usize, first: u64, second: u64) -> u64;
         pub fn hurkeztor_run(ticket: *const u8, ticket_len: usize, store: *mut u32, store_words: usize) -> u64;
+        pub fn hurkeztor_reason(ticket: *const u8, ticket_len: usize, list: *mut PairRecord, list_len: usize) -> u64;
     }
 }
 
@@ -71,6 +91,14 @@ pub fn quick(ticket: &[u8], first: u64, second: u64) -> Answer {
 pub fn run(ticket: &[u8], store: &mut [u32]) -> Answer {
     // SAFETY: as in `write`.
     with_stack(|| unsafe { c::hurkeztor_run(ticket.as_ptr(), ticket.len(), store.as_mut_ptr(), store.len()) })
+}
+
+/// Fills the front of `list` with the pairs that trade places at the step that judge refuses with 10, as many as it has room for. The answer is then
+/// number 0, the step, and the count of all of them; 0 of them says 'by the table alone'. For any other ticket it is what judge answers. Records
+/// beyond the pairs found are left as they were.
+pub fn reason(ticket: &[u8], list: &mut [PairRecord]) -> Answer {
+    // SAFETY: as in `write`; a record is laid out as C has it.
+    with_stack(|| unsafe { c::hurkeztor_reason(ticket.as_ptr(), ticket.len(), list.as_mut_ptr(), list.len()) })
 }
 
 /// What has to be left of a stack: the 1 MiB of an entry, and a quarter for whatever else stands on it.

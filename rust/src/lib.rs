@@ -1,7 +1,7 @@
 //! Hurkeztor judges reorderings of loop nests. A [`Ticket`] describes a nest (limits, array subscripts, statements) and proposed steps:
 //! exchange, reversal, skew, section, circulation. Hurkeztor accepts the new order, or refuses it with a number and a place.
 //!
-//! Every answer comes from one of five proved entries; this crate is thin around them and judges nothing itself.
+//! Every answer comes from one of six proved entries; this crate is thin around them and judges nothing itself.
 //!
 //! ```
 //! use hurkeztor::{Ticket, judge, write};
@@ -29,8 +29,8 @@
 //! | to have | see |
 //! |---|---|
 //! | a ticket from bytes, words, a text or code | [`Ticket`], [`text`], [`NestBuilder`] |
-//! | an answer | [`judge`], [`write()`], [`list`], [`quick`], [`run`] |
-//! | what an answer says | [`Judgement`], [`Refusal`], [`Listing`], [`Independence`] |
+//! | an answer | [`judge`], [`write()`], [`list`], [`quick`], [`run`], [`why`] |
+//! | what an answer says | [`Judgement`], [`Refusal`], [`Listing`], [`Independence`], [`Reason`] |
 //! | the entries on bytes as they are | [`entries`] |
 //! | a picture | [`draw`] |
 //!
@@ -45,6 +45,8 @@ pub mod draw;
 pub mod entries;
 mod listing;
 mod nest;
+mod reason;
+mod space;
 pub mod text;
 mod ticket;
 mod words;
@@ -53,9 +55,12 @@ pub use answers::{Independence, Judgement, Place, Refusal};
 pub use build::{ArrayName, Bound, BuildError, Element, Expression, IntoBounds, NestBuilder};
 pub use listing::{Direction, Kind, Listing, Sign};
 pub use nest::{Access, Array, Limit, Loop, Nest, Rule, Statement, Step, Subscript};
+pub use reason::{Pair, Reason};
 pub use text::ParseError;
 pub use ticket::Ticket;
 pub use words::{ShapeError, WordsError};
+
+use entries::PairRecord;
 
 /// The bytes of the longest new nest.
 pub const LONGEST_NEST: usize = 2_696;
@@ -142,4 +147,37 @@ pub fn quick(ticket: &Ticket, first: u64, second: u64) -> Result<Independence, R
 pub fn run(ticket: &Ticket, store: &mut [u32]) -> Result<Judgement, Refusal> {
     let iterations = answers::accepted(entries::run(ticket.as_bytes(), store))?;
     Ok(Judgement { iterations })
+}
+
+/// A list that mostly takes all pairs.
+const FIRST_LIST: usize = 4096;
+
+/// Tells the true reason of a refusal with number 10: the conflicting instances that trade places at the refused step, the first `most` of them.
+///
+/// ```
+/// use hurkeztor::{Reason, Ticket, why};
+/// let ticket = Ticket::parse_text("array A(4)\nfor i = 0 to 1\n  for j = 0 to 2\n    A(i+j) = 1\nexchange 1 2")?;
+/// let Reason::Pairs { step: 1, count: 2, pairs } = why(&ticket, 20) else { panic!() };
+/// assert_eq!(pairs[0].to_string(), "O 1 1 (0, 1) (1, 0)");
+/// assert_eq!(pairs[1].to_string(), "O 1 1 (0, 2) (1, 1)");
+/// # Ok::<(), hurkeztor::ParseError>(())
+/// ```
+pub fn why(ticket: &Ticket, most: usize) -> Reason {
+    let mut list = vec![PairRecord::default(); most.min(FIRST_LIST)];
+    let answer = entries::reason(ticket.as_bytes(), &mut list);
+    if answer.number != 0 || answer.place == 0 {
+        return Reason::Judged(answers::accepted(answer).map(|iterations| Judgement { iterations }));
+    }
+    let (step, count) = (answer.place, answer.count);
+    if count == 0 {
+        return Reason::TableAlone { step };
+    }
+    let wanted = most.min(count as usize);
+    if wanted > list.len() {
+        list = vec![PairRecord::default(); wanted];
+        entries::reason(ticket.as_bytes(), &mut list);
+    }
+    let loops = ticket.words().first().map_or(0, |loops| *loops as usize);
+    let pairs = list[..wanted].iter().map(|record| Pair::of(record, loops)).collect();
+    Reason::Pairs { step, count, pairs }
 }

@@ -1,4 +1,4 @@
-//! The five entries on heap buffers of exactly the right size, under valgrind: no byte beside them is read or written, and no answer hangs
+//! The six entries on heap buffers of exactly the right size, under valgrind: no byte beside them is read or written, and no answer hangs
 //! on memory that was never set. The calls are in the example `exact_buffers`; the answers expected are the reference's.
 
 use std::collections::BTreeSet;
@@ -6,13 +6,16 @@ use std::fs::{self, File};
 use std::path::{Path, PathBuf};
 use std::process::Command;
 
-use reference::tickets::ticket;
+use reference::reason::Record;
+use reference::tickets::{out_of_order_ticket, ticket};
 use reference::{Answer, Answers};
 
 const SEED: u64 = 5;
 /// Of each number that judge answers, so many tickets are taken, and ten times as many that are accepted.
 const OF_EACH: usize = 12;
 const ITERATIONS: usize = 400;
+/// As in the example.
+const MOST_RECORDS: usize = 3000;
 
 fn said(answer: Answer) -> String {
     format!("{} {} {}", answer.number, answer.place, answer.count)
@@ -27,6 +30,36 @@ fn exactly(length: usize, entry: impl Fn(&mut [u8]) -> Answer) -> String {
         let mut out = vec![0; length];
         let answer = entry(&mut out);
         format!("{} {}", said(answer), sum(out.iter().map(|byte| u32::from(*byte))))
+    });
+    told.join(", ")
+}
+
+fn fields(record: &Record) -> impl Iterator<Item = u32> {
+    let indices = [record.source, record.sink].concat();
+    let rest = [record.source_statement, record.sink_statement, record.kind];
+    indices.into_iter().map(|index| index as u32).chain(rest.map(u32::from))
+}
+
+const BLANK: Record = Record {
+    source: [0; 4],
+    sink: [0; 4],
+    source_statement: 0,
+    sink_statement: 0,
+    kind: 0,
+};
+
+fn reason(answers: &Answers) -> String {
+    let counted = answers.reason(&mut []);
+    let pairs = if counted.number == 0 && counted.place > 0 {
+        counted.count as usize
+    } else {
+        1
+    };
+    let pairs = pairs.min(MOST_RECORDS);
+    let told = [pairs, pairs.saturating_sub(1), 0].map(|length| {
+        let mut list = vec![BLANK; length];
+        let answer = answers.reason(&mut list);
+        format!("{} {}", said(answer), sum(list.iter().flat_map(fields)))
     });
     told.join(", ")
 }
@@ -55,11 +88,12 @@ fn case(bytes: &[u8], answers: &Answers) -> Case {
         format!("{} {}", said(answer), sum(store.iter().copied()))
     });
     let expected = format!(
-        "judge {}; write {}; list {}; quick {quick}; run {}",
+        "judge {}; write {}; list {}; quick {quick}; run {}; reason {}",
         said(answers.judge()),
         exactly(written, |out| answers.write(out)),
         exactly(listed, |out| answers.list(out)),
         run.join(", "),
+        reason(answers),
     );
     Case {
         number: answers.judge().number,
@@ -71,7 +105,12 @@ fn case(bytes: &[u8], answers: &Answers) -> Case {
 fn cases() -> Vec<Case> {
     let (mut cases, mut seen) = (vec![], [0; 14]);
     for index in 0.. {
-        let bytes = ticket(SEED, index);
+        // Of the tickets out of order, those that are made to be.
+        let bytes = if seen[10] < OF_EACH {
+            out_of_order_ticket(SEED, index)
+        } else {
+            ticket(SEED, index)
+        };
         let answers = Answers::to(&bytes);
         let small = answers
             .admitted

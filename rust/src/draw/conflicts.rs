@@ -1,9 +1,9 @@
 //! The conflicting pairs of iterations.
 
 use super::panel::project;
-use super::space::affine;
 use crate::listing::Sign;
 use crate::nest::{Access, Nest};
+use crate::space::affine;
 use std::collections::BTreeSet;
 
 /// Which iterations conflict with which later ones. Iterations are numbered from 0 in the old order.

@@ -7,11 +7,11 @@ mod caption;
 mod conflicts;
 mod figure;
 mod panel;
-mod space;
 mod svg;
 
 use crate::answers::{Judgement, Place, Refusal};
 use crate::nest::Nest;
+use crate::space;
 use crate::text::Names;
 use crate::ticket::Ticket;
 use crate::{judge, list};
