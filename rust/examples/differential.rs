@@ -1,9 +1,9 @@
-//! Compares the five entries with the reference on as many tickets as one likes.
+//! Compares the six entries with the reference on as many tickets as one likes.
 //!
 //!     cargo run --release --example differential -- --tickets 1000000 --seed 7
 //!
-//! With `--four-kinds` no ticket has a circulation. The digest at the end is then the same for a library that knows none, if it answers the other
-//! tickets alike.
+//! With `--four-kinds` no ticket has a circulation. The digest of the first five entries is then the same for a library that knows none, if it answers
+//! the other tickets alike. With `--out-of-order` half of the tickets are refused with 10.
 
 #[path = "../tests/compare/mod.rs"]
 mod compare;
@@ -13,19 +13,20 @@ use std::io::{IsTerminal, Write, stderr};
 use std::process::ExitCode;
 use std::time::{Duration, Instant};
 
-use compare::{Tally, compare, has_circulation};
-use reference::tickets::{ticket, ticket_of_four_kinds};
+use compare::{Compared, Tally, compare, has_circulation};
+use reference::tickets::{out_of_order_ticket, ticket, ticket_of_four_kinds};
 
-const HELP: &str = "Compares the five entries of Hurkeztor with the reference: number, place, count and all lent memory.
+const HELP: &str = "Compares the six entries of Hurkeztor with the reference: number, place, count and all lent memory.
 
-Usage: differential [--tickets N] [--seed N] [--first N] [--four-kinds]
+Usage: differential [--tickets N] [--seed N] [--first N] [--four-kinds | --out-of-order]
 
   --tickets N    how many tickets (20000)
   --seed N       the seed that they are made from (1)
   --first N      the index of the first one (0); with --tickets 1 a ticket is compared again alone
   --four-kinds   tickets of exchanges, reversals, skews and sections alone; those that have kind 5 by damage are left out
+  --out-of-order half of the tickets are refused with 10, some by the table alone
 
-The digest is of all answers of the library and of all memory that it leaves.
+The digests are of all answers of the library and of all memory that it leaves, one for judge, write, list, quick and run, one for reason.
 
 The exit status is 0 where all answers are equal, 1 where some differ, 2 on bad usage.";
 
@@ -36,6 +37,7 @@ struct Wanted {
     seed: u64,
     first: u64,
     four_kinds: bool,
+    out_of_order: bool,
 }
 
 /// Nothing where help is asked for.
@@ -45,6 +47,7 @@ fn wanted(mut arguments: impl Iterator<Item = String>) -> Result<Option<Wanted>,
         seed: 1,
         first: 0,
         four_kinds: false,
+        out_of_order: false,
     };
     while let Some(name) = arguments.next() {
         let place = match name.as_str() {
@@ -56,10 +59,17 @@ fn wanted(mut arguments: impl Iterator<Item = String>) -> Result<Option<Wanted>,
                 wanted.four_kinds = true;
                 continue;
             }
+            "--out-of-order" => {
+                wanted.out_of_order = true;
+                continue;
+            }
             _ => return Err(format!("There is no option {name}.")),
         };
         let value = arguments.next().ok_or(format!("{name} needs a number after it."))?;
         *place = value.parse().map_err(|_| format!("{name} needs a number, and {value} is none."))?;
+    }
+    if wanted.four_kinds && wanted.out_of_order {
+        return Err("--four-kinds and --out-of-order exclude each other.".into());
     }
     if wanted.first.checked_add(wanted.tickets).is_none() {
         return Err("--first and --tickets together are beyond 64 bits.".into());
@@ -90,7 +100,11 @@ impl Progress {
 }
 
 fn compare_all(wanted: &Wanted) -> u64 {
-    let made = if wanted.four_kinds { ticket_of_four_kinds } else { ticket };
+    let made = match (wanted.four_kinds, wanted.out_of_order) {
+        (true, _) => ticket_of_four_kinds,
+        (_, true) => out_of_order_ticket,
+        _ => ticket,
+    };
     let (mut tally, mut differences) = (Tally::default(), 0);
     let begun = Instant::now();
     let mut progress = Progress {
@@ -103,7 +117,7 @@ fn compare_all(wanted: &Wanted) -> u64 {
         if wanted.four_kinds && has_circulation(&made(wanted.seed, index)) {
             continue;
         }
-        if let Err(difference) = compare(made, wanted.seed, index, &mut tally) {
+        if let Err(difference) = compare(Compared::All, made, wanted.seed, index, &mut tally) {
             differences += 1;
             if differences <= MOST_SHOWN {
                 progress.end();

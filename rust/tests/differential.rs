@@ -1,13 +1,13 @@
-//! The five entries answer as the reference does, on 20,000 tickets of a fixed seed, 40 more of many iterations, and the outside ones. The example
-//! `differential` does the same for as many as one likes.
+//! The six entries answer as the reference does, on 20,000 tickets of a fixed seed, 40 more of many iterations, and the outside ones; reason on 20,000
+//! more that are out of order. The example `differential` does the same for as many as one likes.
 
 mod compare;
 
 use std::fs;
 use std::path::Path;
 
-use compare::{Tally, compare};
-use reference::tickets::{large_ticket, ticket};
+use compare::{Compared, Tally, compare};
+use reference::tickets::{large_ticket, out_of_order_ticket, ticket};
 
 const SEED: u64 = 20_260_101;
 const TICKETS: u64 = 20_000;
@@ -17,7 +17,7 @@ const LARGE_TICKETS: u64 = 40;
 fn the_entries_answer_as_the_reference() {
     let mut tally = Tally::default();
     for index in 0..TICKETS {
-        if let Err(difference) = compare(ticket, SEED, index, &mut tally) {
+        if let Err(difference) = compare(Compared::All, ticket, SEED, index, &mut tally) {
             panic!("{difference}");
         }
     }
@@ -29,12 +29,28 @@ fn the_entries_answer_as_the_reference() {
     assert!(tally.circulating >= TICKETS * 2 / 5, "too few circulations:\n{tally}");
 }
 
+/// A third of them have pairs that trade places, and a tenth are refused by the table alone.
+#[test]
+fn reason_answers_as_the_reference_on_tickets_out_of_order() {
+    let mut tally = Tally::default();
+    for index in 0..TICKETS {
+        if let Err(difference) = compare(Compared::Reason, out_of_order_ticket, SEED, index, &mut tally) {
+            panic!("{difference}");
+        }
+    }
+    println!("{tally}");
+    assert!(
+        tally.with_pairs >= TICKETS / 3 && tally.table_alone >= TICKETS / 10,
+        "too few are out of order:\n{tally}"
+    );
+}
+
 /// They are judged without their points where that can be, and by all of them otherwise.
 #[test]
 fn the_entries_answer_as_the_reference_on_many_iterations() {
     let mut tally = Tally::default();
     for index in 0..LARGE_TICKETS {
-        if let Err(difference) = compare(large_ticket, SEED, index, &mut tally) {
+        if let Err(difference) = compare(Compared::All, large_ticket, SEED, index, &mut tally) {
             panic!("{difference}");
         }
     }
@@ -55,20 +71,21 @@ fn outside_tickets() -> Vec<Vec<u8>> {
         let file = Path::new(env!("CARGO_MANIFEST_DIR")).join("../tests").join(name);
         fs::read_to_string(file).expect("the outside vectors")
     };
-    let (base, circulations) = (vectors("base.txt"), vectors("L1.txt"));
+    let (base, later) = (vectors("base.txt"), [vectors("L1.txt"), vectors("L2.txt")].concat());
     let base = base.lines().filter_map(|line| line.strip_prefix("ticket "));
-    let circulations = circulations.lines().filter_map(|line| line.split(' ').nth(1));
-    base.chain(circulations).map(bytes).collect()
+    let later = later.lines().filter_map(|line| line.split(' ').nth(1));
+    base.chain(later).map(bytes).collect()
 }
 
 #[test]
 fn the_entries_answer_as_the_reference_on_outside_tickets() {
     let (tickets, mut tally) = (outside_tickets(), Tally::default());
     for index in 0..tickets.len() as u64 {
-        if let Err(difference) = compare(|_, index| tickets[index as usize].clone(), 0, index, &mut tally) {
+        if let Err(difference) = compare(Compared::All, |_, index| tickets[index as usize].clone(), 0, index, &mut tally) {
             panic!("{difference}");
         }
     }
     println!("{tally}");
     assert!(tally.circulating >= 200, "too few circulations:\n{tally}");
+    assert!(tally.with_pairs >= 14 && tally.table_alone >= 14, "too few out of order:\n{tally}");
 }

@@ -86,9 +86,9 @@ pub fn traded(nest: &Nest, points: &[Point], steps: &[Step], mut found: impl FnM
     let places: Vec<Point> = points.iter().map(|point| forward(steps, point)).collect();
     let all: Vec<Vec<Instance>> = points.iter().map(|point| instances(nest, point)).collect();
     for (p, sources) in all.iter().enumerate() {
-        for (q, sinks) in all.iter().enumerate() {
-            // The instances of one iteration stay together.
-            if !(points[p] < points[q] && places[q] < places[p]) {
+        // The instances of one iteration stay together, so that the sink is in a later one.
+        for (q, sinks) in all.iter().enumerate().skip(p + 1) {
+            if places[p] < places[q] {
                 continue;
             }
             for (s, source) in sources.iter().enumerate() {

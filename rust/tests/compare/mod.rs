@@ -1,16 +1,27 @@
-//! The five entries beside the reference: number, place, count and all lent memory. Shared by the test and the example `differential`.
+//! The six entries beside the reference: number, place, count and all lent memory. Shared by the test and the example `differential`.
 
 use std::fmt;
 
-use hurkeztor::entries;
+use hurkeztor::entries::{self, PairRecord};
+use reference::reason::Record;
 use reference::tickets::{Random, as_words};
 use reference::{Answers, reading};
 
-/// Words or bytes on either side of what is lent, which no entry may touch.
+/// Words, bytes or records on either side of what is lent, which no entry may touch.
 const GUARD: usize = 16;
+/// The longest list that is lent.
+const MOST_RECORDS: usize = 4000;
+/// With more iterations, the reference takes long for each list.
+const MANY_ITERATIONS: usize = 500;
 
 /// All answers of the library and all memory that it left, in their order, as one number (FNV-1a): the same for libraries that answer alike.
 struct Digest(u64);
+
+impl Default for Digest {
+    fn default() -> Digest {
+        Digest(0xcbf2_9ce4_8422_2325)
+    }
+}
 
 impl Digest {
     fn add(&mut self, bytes: impl IntoIterator<Item = u8>) {
@@ -21,24 +32,19 @@ impl Digest {
 }
 
 /// What was compared.
+#[derive(Default)]
 pub struct Tally {
-    /// How often each number 0 to 16 was answered, for judge, write, list, quick and run.
-    answers: [[u64; 17]; 5],
+    /// How often each number 0 to 16 was answered, for judge, write, list, quick, run and reason.
+    answers: [[u64; 17]; 6],
     pub tickets: u64,
     /// Those of the tickets that have a circulation among the steps that can be read.
     pub circulating: u64,
+    /// Those with pairs that trade places, and those that are out of order by the table alone.
+    pub with_pairs: u64,
+    pub table_alone: u64,
+    /// Of the first five entries, so that it can be compared with that of a library that has no sixth.
     digest: Digest,
-}
-
-impl Default for Tally {
-    fn default() -> Tally {
-        Tally {
-            answers: [[0; 17]; 5],
-            tickets: 0,
-            circulating: 0,
-            digest: Digest(0xcbf2_9ce4_8422_2325),
-        }
-    }
+    reason_digest: Digest,
 }
 
 impl Tally {
@@ -49,7 +55,11 @@ impl Tally {
 
 impl fmt::Display for Tally {
     fn fmt(&self, f: &mut fmt::Formatter) -> fmt::Result {
-        writeln!(f, "number {:>9} {:>9} {:>9} {:>9} {:>9}", "judge", "write", "list", "quick", "run")?;
+        writeln!(
+            f,
+            "number {:>9} {:>9} {:>9} {:>9} {:>9} {:>9}",
+            "judge", "write", "list", "quick", "run", "reason"
+        )?;
         for number in 0..17 {
             write!(f, "{number:>6}")?;
             for entry in &self.answers {
@@ -57,11 +67,16 @@ impl fmt::Display for Tally {
             }
             writeln!(f)?;
         }
-        let Digest(digest) = self.digest;
+        let (Digest(digest), Digest(reasons)) = (&self.digest, &self.reason_digest);
         writeln!(
             f,
-            "{} tickets, {} of them with circulations; digest {digest:016x}",
+            "{} tickets, {} of them with circulations; digest {digest:016x} of the first five entries",
             self.tickets, self.circulating
+        )?;
+        writeln!(
+            f,
+            "{} with pairs that trade places, {} by the table alone; digest {reasons:016x} of reason",
+            self.with_pairs, self.table_alone
         )
     }
 }
@@ -94,13 +109,16 @@ fn as_reference(answer: entries::Answer) -> reference::Answer {
     }
 }
 
-/// One ticket on its way through the five entries.
+/// One ticket on its way through the entries.
 struct Comparison<'a> {
     ticket: &'a [u8],
     answers: Answers,
     random: Random,
     tally: &'a mut Tally,
 }
+
+/// The place of reason among the entries.
+const REASON: usize = 5;
 
 /// The call, what the library answered and left, and what the reference did.
 struct Apart {
@@ -111,7 +129,7 @@ struct Apart {
 
 type Outcome = Result<(), Apart>;
 
-/// What memory is lent in: bytes, or the words of a store.
+/// What memory is lent in: bytes, the words of a store, or pair records.
 trait Unit: PartialEq + fmt::Debug + Copy {
     fn bytes(self) -> impl IntoIterator<Item = u8>;
 }
@@ -128,6 +146,40 @@ impl Unit for u32 {
     }
 }
 
+impl Unit for PairRecord {
+    fn bytes(self) -> impl IntoIterator<Item = u8> {
+        let [p0, p1, p2, p3] = self.source;
+        let [q0, q1, q2, q3] = self.sink;
+        let rest = [self.source_statement, self.sink_statement, self.kind];
+        let indices = [p0, p1, p2, p3, q0, q1, q2, q3];
+        indices
+            .into_iter()
+            .flat_map(i16::to_le_bytes)
+            .chain(rest.into_iter().flat_map(u16::to_le_bytes))
+    }
+}
+
+/// A record of the library as the reference has it, and back.
+fn to_reference(record: &PairRecord) -> Record {
+    Record {
+        source: record.source,
+        sink: record.sink,
+        source_statement: record.source_statement,
+        sink_statement: record.sink_statement,
+        kind: record.kind,
+    }
+}
+
+fn to_library(record: &Record) -> PairRecord {
+    PairRecord {
+        source: record.source,
+        sink: record.sink,
+        source_statement: record.source_statement,
+        sink_statement: record.sink_statement,
+        kind: record.kind,
+    }
+}
+
 impl Comparison<'_> {
     /// Both answers and both memories, the guards with them.
     fn equal<T: Unit>(
@@ -139,7 +191,11 @@ impl Comparison<'_> {
     ) -> Outcome {
         self.tally.answers[entry][reference.0.number as usize] += 1;
         let entries::Answer { number, place, count } = library.0;
-        let digest = &mut self.tally.digest;
+        let digest = if entry == REASON {
+            &mut self.tally.reason_digest
+        } else {
+            &mut self.tally.digest
+        };
         digest.add([u32::from(number), place, count].into_iter().flat_map(u32::to_le_bytes));
         digest.add(library.1.iter().flat_map(|unit| unit.bytes()));
         if as_reference(library.0) != reference.0 {
@@ -249,10 +305,73 @@ impl Comparison<'_> {
         }
         Ok(())
     }
+
+    fn records(&mut self, length: usize) -> Vec<PairRecord> {
+        let record = |_| {
+            let [a, b, c] = [(); 3].map(|()| self.random.bits());
+            let indices = |bits: u64| [0, 16, 32, 48].map(|shift| (bits >> shift) as i16);
+            PairRecord {
+                source: indices(a),
+                sink: indices(b),
+                source_statement: c as u16,
+                sink_statement: (c >> 16) as u16,
+                kind: (c >> 32) as u16,
+            }
+        };
+        (0..length + 2 * GUARD).map(record).collect()
+    }
+
+    /// Lists of exactly as many records as there are pairs, more, fewer, one and none; or, where no pair trades places, none and some.
+    fn list_lengths(&mut self) -> Vec<usize> {
+        if let Ok(admitted) = &self.answers.admitted
+            && admitted.points.len() > MANY_ITERATIONS
+        {
+            return vec![self.random.below(MOST_RECORDS)];
+        }
+        let told = self.answers.reason(&mut []);
+        let lengths = match told.count as usize {
+            pairs if told.place > 0 && pairs > 0 => vec![pairs, pairs + 1 + self.random.below(20), self.random.below(pairs), 1, 0],
+            _ => vec![self.random.below(20), 0],
+        };
+        lengths.into_iter().map(|length| length.min(MOST_RECORDS)).collect()
+    }
+
+    fn reason(&mut self) -> Outcome {
+        for (call, length) in self.list_lengths().into_iter().enumerate() {
+            let (mut ours, lent) = (self.records(length), GUARD..GUARD + length);
+            let mut theirs: Vec<Record> = ours.iter().map(to_reference).collect();
+            let library = entries::reason(self.ticket, &mut ours[lent.clone()]);
+            let reference = self.answers.reason(&mut theirs[lent]);
+            let theirs: Vec<PairRecord> = theirs.iter().map(to_library).collect();
+            let out_of_order = call == 0 && reference.number == 0 && reference.place > 0;
+            self.tally.with_pairs += u64::from(out_of_order && reference.count > 0);
+            self.tally.table_alone += u64::from(out_of_order && reference.count == 0);
+            self.equal(
+                REASON,
+                format!("reason with {length} records"),
+                (library, &ours),
+                (reference, &theirs),
+            )?;
+        }
+        Ok(())
+    }
 }
 
-/// All five entries on the ticket that is made of a seed and an index.
-pub fn compare(ticket: impl Fn(u64, u64) -> Vec<u8>, seed: u64, index: u64, tally: &mut Tally) -> Result<(), Box<Difference>> {
+/// Which entries are compared.
+#[derive(Clone, Copy, PartialEq)]
+pub enum Compared {
+    All,
+    Reason,
+}
+
+/// The entries on the ticket that is made of a seed and an index.
+pub fn compare(
+    compared: Compared,
+    ticket: impl Fn(u64, u64) -> Vec<u8>,
+    seed: u64,
+    index: u64,
+    tally: &mut Tally,
+) -> Result<(), Box<Difference>> {
     let bytes = ticket(seed, index);
     tally.tickets += 1;
     tally.circulating += u64::from(has_circulation(&bytes));
@@ -269,8 +388,10 @@ pub fn compare(ticket: impl Fn(u64, u64) -> Vec<u8>, seed: u64, index: u64, tall
         Comparison::list,
         Comparison::quick,
         Comparison::run,
+        Comparison::reason,
     ];
-    let mut outcome = entries.into_iter().try_for_each(|entry| entry(&mut comparison));
+    let first = if compared == Compared::Reason { REASON } else { 0 };
+    let mut outcome = entries[first..].iter().try_for_each(|entry| entry(&mut comparison));
     if outcome.is_ok() && lent != bytes {
         outcome = Err(Apart {
             call: "the lent ticket".into(),
