@@ -66,7 +66,8 @@ fn check(words: &[&str], input: impl AsRef<[u8]>, status: i32, out: &str) {
 #[test]
 fn judge_points_into_the_text() {
     let meaning = "a direction points backwards after the step";
-    let below = "  exchange 1 2\n  ^^^^^^^^^^^^\n";
+    let note = "note: A(1): written at (0, 1), then at (1, 0): <> before the step, >< after it\n";
+    let below = format!("  exchange 1 2\n  ^^^^^^^^^^^^\n{note}");
     check(
         &["judge"],
         CASE_1,
@@ -83,6 +84,90 @@ fn judge_points_into_the_text() {
         &format!("refused 10 at step 1, out of order\n{path}:9:1: {meaning}\n{below}"),
     );
     check(&["judge", "-"], CASE_2, 0, "accepted: 9 iterations\n");
+}
+
+#[test]
+fn a_note_has_the_vector_at_the_refused_step() {
+    let note = |input: &str| {
+        let ended = hurkeztor(&["judge"], input);
+        assert_eq!(ended.status, 1);
+        ended.text().lines().last().expect("a note").to_string()
+    };
+    let moved = "array A(3, 4)\nfor i = 1 to 2\n  for j = 0 to 2\n    A(i, j) = A(i-1, j+1)\n";
+    assert_eq!(
+        note(&format!("{moved}reverse 2\nexchange 1 2\nreverse 1\n")),
+        "note: A(1, 1): written at (1, 1), then read at (2, 0): << before the step, >< after it"
+    );
+    assert_eq!(
+        note(&format!("{moved}section 2 by 2\nreverse 1\n")),
+        "note: A(1, 1): written at (1, 1), then read at (2, 0): <=> before the step, >=> after it"
+    );
+    assert_eq!(
+        note(&format!("{moved}skew 1 2 by 1\nexchange 1 2\n")),
+        "note: by the table alone: no pair trades places"
+    );
+    assert_eq!(
+        note(&CASE_1.replace("array A(4)", "array A(3)")),
+        "      ^^^^^^^^^^^^^^^^",
+        "no note but after 10"
+    );
+}
+
+/// Two statements that read and write each other's arrays.
+const BOTH_WAYS: &str = "array A(5)\narray B(4)\nfor i = 1 to 3\n  A(i) = B(i)\n  B(i) = A(i-1) + A(i+1)\nreverse 1\n";
+
+#[test]
+fn why_names_the_pairs() {
+    let refused = "refused 10 at step 1, out of order\n<standard input>:9:1: a direction points backwards after the step\n  exchange 1 2\n  ^^^^^^^^^^^^\n";
+    let pairs = "  A(1): written at (0, 1), then at (1, 0)\n  A(2): written at (0, 2), then at (1, 1)\n";
+    let first = pairs.lines().next().expect("a pair");
+    check(&["why"], CASE_1, 1, &format!("{refused}2 pairs trade places\n{pairs}"));
+    check(
+        &["why", "--most", "2"],
+        CASE_1,
+        1,
+        &format!("{refused}2 pairs trade places\n{pairs}"),
+    );
+    check(
+        &["why", "--most=1"],
+        CASE_1,
+        1,
+        &format!("{refused}2 pairs trade places\n{first}\n  (+1 more)\n"),
+    );
+    check(&["why", "--most", "0"], CASE_1, 1, &format!("{refused}2 pairs trade places\n"));
+    let both_ways = "\
+4 pairs trade places
+  A(1): written by statement 1 at (1), then read by statement 2 at (2)
+  A(2): read by statement 2 at (1), then written by statement 1 at (2)
+  A(2): written by statement 1 at (2), then read by statement 2 at (3)
+  A(3): read by statement 2 at (2), then written by statement 1 at (3)
+";
+    assert!(hurkeztor(&["why"], BOTH_WAYS).text().ends_with(both_ways));
+    let one = hurkeztor(&["why"], "array Bin(1)\nfor row = 0 to 1\n  Bin(0) = 1\nreverse 1\n");
+    assert!(
+        one.text()
+            .ends_with("1 pair trades places\n  Bin(0): written at (0), then at (1)\n")
+    );
+    let many = "array A(1)\nfor i = 1 to 4096\n  A(0) = 1\nreverse 1\n";
+    let told = hurkeztor(&["why"], many);
+    assert!(told.text().contains("\n8386560 pairs trade places\n") && told.text().ends_with("  (+8386540 more)\n"));
+}
+
+#[test]
+fn why_answers_as_judge_where_it_is_not_10() {
+    check(&["why"], CASE_2, 0, "accepted: 9 iterations\n");
+    for input in [
+        CASE_1.replace("array A(4)", "array A(3)"),
+        CASE_1_WORDS.replace(" 0\n", "\n"),
+        String::new(),
+    ] {
+        let judged = hurkeztor(&["judge"], &input);
+        assert_eq!(judged.status, 1);
+        check(&["why"], &input, 1, judged.text());
+    }
+    let skewed = "array A(3, 4)\nfor i = 1 to 2\n  for j = 0 to 2\n    A(i, j) = A(i-1, j+1)\nskew 1 2 by 1\nexchange 1 2\n";
+    let told = hurkeztor(&["why"], skewed);
+    assert!(told.status == 1 && told.text().ends_with("^\nby the table alone: no pair trades places\n"));
 }
 
 #[test]
@@ -288,7 +373,7 @@ fn draw_writes_a_picture_of_what_is_refused_too() {
 
 #[test]
 fn bad_usage_ends_with_2() {
-    let cases: [(&[&str], &str, &str); 12] = [
+    let cases: [(&[&str], &str, &str); 13] = [
         (&[], "", "hurkeztor: a verb is missing\n"),
         (&["jugde"], "", "hurkeztor: 'jugde' is no verb\n"),
         (
@@ -322,6 +407,11 @@ fn bad_usage_ends_with_2() {
             "",
             "hurkeztor run: --store and --fill exclude each other\n",
         ),
+        (
+            &["why", "--most", "few"],
+            CASE_1,
+            "hurkeztor why: 'few' is no count of pairs: a whole number is needed\n",
+        ),
         (&["judge", "no/such/file"], "", "no/such/file: cannot be read: "),
         (
             &["judge"],
@@ -346,7 +436,7 @@ fn help_for_each_verb() {
     let general = hurkeztor(&["--help"], "");
     assert_eq!(general.status, 0);
     assert!(general.text().contains("  move 1 to 3  "));
-    for verb in ["judge", "write", "list", "quick", "run", "show", "pack", "unpack", "draw"] {
+    for verb in ["judge", "why", "write", "list", "quick", "run", "show", "pack", "unpack", "draw"] {
         assert!(general.text().contains(&format!("  hurkeztor {verb} ")));
         let help = hurkeztor(&[verb, "--help"], "");
         assert!(help.status == 0 && help.text().starts_with(&format!("hurkeztor {verb} ")) && help.text().contains("Exit status: "));

@@ -1,8 +1,9 @@
 //! `judge` and `quick`.
 
+use super::explaining::note;
 use super::input::Input;
 use super::options::Options;
-use super::output::{print, refused, with_progress};
+use super::output::{print, refusal_text, refused, with_progress};
 use super::{Ended, Outcome};
 use hurkeztor::text::print_access;
 use hurkeztor::{Independence, Place};
@@ -11,6 +12,10 @@ pub fn judge(options: &Options) -> Ended {
     let input = Input::read(options)?;
     match with_progress("judging", || hurkeztor::judge(&input.ticket)) {
         Ok(judgement) => print(&format!("{judgement}\n")),
+        Err(refusal) if refusal.number == 10 => {
+            print(&format!("{}{}", refusal_text(&input, &refusal), note(&input)))?;
+            Ok(Outcome::Refused)
+        }
         Err(refusal) => refused(&input, &refusal),
     }
 }

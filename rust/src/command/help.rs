@@ -4,6 +4,7 @@ pub const GENERAL: &str = "\
 hurkeztor judges reorderings of loop nests.
 
   hurkeztor judge  [FILE]        whether the new order is accepted
+  hurkeztor why    [FILE]        which pairs trade places, where the new order is refused with 10
   hurkeztor write  [FILE]        the new nest
   hurkeztor list   [FILE]        the directions of the ticket's nest
   hurkeztor quick  A B [FILE]    whether accesses A and B are apart
@@ -48,7 +49,31 @@ const JUDGE: &str = "\
 hurkeztor judge [--as binary|words|text] [FILE]
 
 Judges a ticket: whether every array ends the same when the loops run in the new order. Prints
-'accepted: N iterations', or 'refused N at PLACE, WORD' and below it what that means.
+'accepted: N iterations', or 'refused N at PLACE, WORD' and below it what that means. A refusal
+with 10 has a note: the first pair that trades places, and how its indices compare before the
+refused step and after it.
+
+Exit status: 0 accepted, 1 refused, 2 bad usage or an input that is no ticket.
+";
+
+const WHY: &str = "\
+hurkeztor why [--as binary|words|text] [--most N] [FILE]
+
+Tells the true reason of a refusal with 10: every conflicting pair that trades places at the refused
+step. Below the refusal stands how many pairs do, and then each pair with the element that both use,
+the earlier first:
+
+  A(1): written at (0, 1), then at (1, 0)
+
+says that A(1) is written in iteration (0, 1) and again in (1, 0), and that in the new order (1, 0)
+would come first. Iterations have the ticket's own indices, outermost first. Where the body has
+several statements, they are named too. Two instances that conflict in several ways are a pair for
+each. 'by the table alone: no pair trades places' says that the signs do not show the step to be in
+order, and that it harms nothing here.
+
+  --most N   print at most N pairs (20); '(+5 more)' says how many are left out
+
+Any other answer is that of 'judge'.
 
 Exit status: 0 accepted, 1 refused, 2 bad usage or an input that is no ticket.
 ";
@@ -151,7 +176,7 @@ is refused, 'after' is after that step.
 
   points   the iterations, numbered in the old order; a line through them is the order of execution
   arrows   pairs of iterations that use one element, at least one writing it, the earlier first;
-           red ones trade places in the new order
+           red ones trade places in the new order: the pairs of 'why'
 
   -o FILE   write to FILE instead of standard output
 
@@ -167,6 +192,7 @@ input that is no ticket.
 pub fn of(verb: &str) -> &'static str {
     match verb {
         "judge" => JUDGE,
+        "why" => WHY,
         "write" => WRITE,
         "list" => LIST,
         "quick" => QUICK,

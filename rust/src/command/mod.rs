@@ -2,6 +2,7 @@
 
 mod answering;
 mod drawing;
+mod explaining;
 mod help;
 mod input;
 mod listing;
@@ -41,12 +42,18 @@ pub struct Verb {
     pub act: fn(&Options) -> Ended,
 }
 
-const VERBS: [Verb; 9] = [
+const VERBS: [Verb; 10] = [
     Verb {
         name: "judge",
         flags: &["--as"],
         numbers: 0,
         act: answering::judge,
+    },
+    Verb {
+        name: "why",
+        flags: &["--as", "--most"],
+        numbers: 0,
+        act: explaining::why,
     },
     Verb {
         name: "write",

@@ -17,6 +17,8 @@ pub struct Options {
     /// The form of the output.
     pub out_form: Option<Form>,
     pub explain: bool,
+    /// The most pairs to be printed.
+    pub most: Option<usize>,
     pub before: bool,
     /// The file with the store.
     pub store: Option<String>,
@@ -81,15 +83,10 @@ impl Options {
             "--as-words" => self.out_form = Some(Form::Words),
             "--as-binary" => self.out_form = Some(Form::Binary),
             "--explain" => self.explain = true,
+            "--most" => self.most = Some(whole(&value()?, "count of pairs")?),
             "--before" => self.before = true,
             "--store" => self.store = Some(value()?),
-            "--fill" => {
-                let seed = value()?;
-                self.fill = Some(
-                    seed.parse()
-                        .or_else(|_| usage(format!("'{seed}' is no seed: a whole number is needed")))?,
-                );
-            }
+            "--fill" => self.fill = Some(whole(&value()?, "seed")?),
             _ => return usage(format!("'{flag}' is no option of this verb")),
         }
         Ok(())
@@ -103,6 +100,11 @@ fn form(word: &str) -> Result<Form, Failure> {
         "text" => Ok(Form::Text),
         _ => usage(format!("'{word}' is no form: forms are binary, words and text")),
     }
+}
+
+fn whole<T: std::str::FromStr>(word: &str, what: &str) -> Result<T, Failure> {
+    word.parse()
+        .or_else(|_| usage(format!("'{word}' is no {what}: a whole number is needed")))
 }
 
 fn usage<T>(message: impl Into<String>) -> Result<T, Failure> {

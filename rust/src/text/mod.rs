@@ -40,7 +40,7 @@ mod words;
 
 pub use names::Names;
 pub use parse::parse;
-pub use print::{print, print_access};
+pub use print::{print, print_access, print_pair};
 pub use words::parse_words;
 
 use crate::answers::{Place, Refusal};

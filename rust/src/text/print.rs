@@ -1,7 +1,9 @@
 //! A nest in the text form.
 
 use super::Names;
+use crate::listing::Kind;
 use crate::nest::{Access, Limit, Nest, Rule, Statement};
+use crate::reason::{Pair, listed};
 use std::fmt::Write;
 
 /// The text form of a nest under the given names; indices or arrays that have none get numbered ones. Parsed again, it is the same nest.
@@ -99,12 +101,39 @@ pub fn print_access(access: &Access, names: &Names) -> String {
         .iter()
         .map(|subscript| print_sum(subscript.constant, &subscript.coefficients, &names.indices).0)
         .collect();
-    let array = access
-        .array
-        .checked_sub(1)
-        .and_then(|n| names.arrays.get(n))
-        .map_or("?", String::as_str);
-    format!("{array}({})", subscripts.join(", "))
+    format!("{}{}", array_name(access.array, names), listed(&subscripts))
+}
+
+fn array_name(array: usize, names: &Names) -> &str {
+    let name = array.checked_sub(1).and_then(|n| names.arrays.get(n));
+    name.map_or("?", String::as_str)
+}
+
+/// A pair that trades places and its element, as in `A(1): written at (0, 1), then at (1, 0)`; the statements too where the body has several.
+///
+/// # Panics
+///
+/// Where the nest is not that of the pair's ticket.
+pub fn print_pair(pair: &Pair, nest: &Nest, names: &Names) -> String {
+    let (array, subscripts) = pair.element(nest);
+    let (first, second) = match pair.kind {
+        Kind::Flow => ("written", " read"),
+        Kind::Anti => ("read", " written"),
+        Kind::Output => ("written", ""),
+    };
+    let by = |statement: usize| match nest.statements.len() {
+        1 => String::new(),
+        _ => format!(" by statement {statement}"),
+    };
+    format!(
+        "{}{}: {first}{} at {}, then{second}{} at {}",
+        array_name(array, names),
+        listed(&subscripts),
+        by(pair.source_statement),
+        listed(&pair.source),
+        by(pair.sink_statement),
+        listed(&pair.sink)
+    )
 }
 
 fn print_statement(statement: &Statement, names: &Names) -> String {
