@@ -1,8 +1,10 @@
-//! Every ticket whose iterations are known is drawn: the pairs that are found have the vectors of the proved listing.
+//! Every ticket whose iterations are known is drawn: the pairs that are found have the vectors of the proved listing, and those that trade places are
+//! the reason tool's.
 
 use hurkeztor::draw::{NoPicture, picture};
 use hurkeztor::text::Names;
-use hurkeztor::{Nest, Ticket, judge, list};
+use hurkeztor::{Nest, Reason, Ticket, judge, list, why};
+use std::collections::BTreeSet;
 
 fn ticket(text: &str) -> (Ticket, Names) {
     let nest: Nest = text.parse().expect(text);
@@ -18,8 +20,10 @@ fn outside_tickets() -> Vec<Ticket> {
     let read = |path: &str| std::fs::read_to_string(path).expect(path);
     let base = read(concat!(env!("CARGO_MANIFEST_DIR"), "/../tests/base.txt"));
     let circulations = read(concat!(env!("CARGO_MANIFEST_DIR"), "/../tests/L1.txt"));
+    let reasons = read(concat!(env!("CARGO_MANIFEST_DIR"), "/../tests/L2.txt"));
     let base = base.lines().filter_map(|line| line.strip_prefix("ticket "));
-    let lines = base.chain(circulations.lines().filter_map(|line| line.split(' ').nth(1)));
+    let later = circulations.lines().chain(reasons.lines());
+    let lines = base.chain(later.filter_map(|line| line.split(' ').nth(1)));
     let byte = |two: &[u8]| u8::from_str_radix(std::str::from_utf8(two).expect("ASCII"), 16).expect("hexadecimal digits");
     lines
         .map(|hex| Ticket::from_bytes(hex.trim_matches('-').as_bytes().chunks_exact(2).map(byte).collect::<Vec<u8>>()))
@@ -33,6 +37,7 @@ fn drawn(ticket: &Ticket) -> bool {
         (Ok(picture), Ok(_)) => {
             assert_eq!(picture.answer, judge(ticket));
             assert!(picture.svg.starts_with("<svg") && picture.svg.ends_with("</svg>\n") && !picture.svg.contains("NaN"));
+            trading_pairs_are_counted(ticket, &picture.svg);
             true
         }
         (Err(NoPicture::Refused(refusal)), Err(listed)) => {
@@ -40,6 +45,22 @@ fn drawn(ticket: &Ticket) -> bool {
             false
         }
         (drawing, _) => panic!("{:?}: {:?}", ticket.words(), drawing.err()),
+    }
+}
+
+/// The caption counts the pairs of iterations that the reason tool gives. A pair of iterations may have several of its records.
+fn trading_pairs_are_counted(ticket: &Ticket, svg: &str) {
+    match why(ticket, 4096) {
+        Reason::Pairs { count, pairs, .. } => {
+            if pairs.len() < count as usize {
+                return;
+            }
+            let iterations: BTreeSet<_> = pairs.into_iter().map(|pair| (pair.source, pair.sink)).collect();
+            let counted = format!("<desc>{} of ", iterations.len());
+            assert!(svg.contains(&counted), "{counted}: {:?}", ticket.words());
+        }
+        Reason::TableAlone { .. } => assert!(svg.contains("by the table of signs alone")),
+        Reason::Judged(_) => assert_eq!(svg.matches("url(#traded)").count(), 1, "the legend's"),
     }
 }
 
@@ -93,6 +114,17 @@ fn captions_say_what_is_drawn() {
     assert!(deep.contains("Only the two outermost loops are drawn"));
     let wide = svg("array A(4095)\nfor i = 1 to 4094\n  A(i) = A(i-1)\nreverse 1");
     assert!(wide.contains("Drawn before and after: 8 of 4094 points, 7 of 4093 pairs."));
+}
+
+#[test]
+fn pairs_beyond_the_list_are_red_by_their_places() {
+    let folded = |last: u32| svg(&format!("array A(1)\nfor i = 0 to {last}\n  A(0) = A(0) + 1\nreverse 1"));
+    let beyond = "Red by the first 65536 of 134550 pairs that trade places; beyond them, by the places of their iterations.";
+    let (few, many) = (folded(147), folded(299));
+    assert!(few.contains("10878 of 10878 conflicting pairs") && !few.contains("Red by"));
+    assert!(many.contains("44850 of 44850 conflicting pairs") && many.contains(beyond));
+    let kept = "marker-end=\"url(#kept)\"";
+    assert_eq!((few.matches(kept).count(), many.matches(kept).count()), (1, 1), "the legend's");
 }
 
 #[test]

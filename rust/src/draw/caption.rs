@@ -35,6 +35,7 @@ impl Caption<'_> {
             Err(refusal) => refusal.to_string(),
         };
         let mut lines = vec![answer, self.order()];
+        lines.extend(self.beyond());
         lines.extend(self.steps_named());
         lines.extend(self.vectors_named());
         lines.extend(self.projection());
@@ -57,6 +58,14 @@ impl Caption<'_> {
             Ok(_) if all == 1 => "The one conflicting pair of iterations keeps its order.".into(),
             Ok(_) => format!("All {all} conflicting pairs of iterations keep their order."),
         }
+    }
+
+    fn beyond(&self) -> Option<String> {
+        let beyond = self.traded.beyond.as_ref()?;
+        Some(format!(
+            "Red by the first {} of {} pairs that trade places; beyond them, by the places of their iterations.",
+            beyond.lent, beyond.records
+        ))
     }
 
     fn steps_named(&self) -> Option<String> {

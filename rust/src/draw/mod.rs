@@ -1,7 +1,8 @@
 //! Pictures of a ticket: its iterations before and after the steps, the order of execution and the conflicting pairs.
 //!
-//! The answer in the caption is the proved judge's. The pairs are found here by running through the iterations; the set of their vectors is
-//! compared with the proved listing, and there is no picture where they differ.
+//! The answer in the caption is the proved judge's, and the pairs that trade places are those of the proved reason tool. All conflicting pairs are
+//! found here by running through the iterations; the set of their vectors is compared with the proved listing, and there is no picture where they
+//! differ, or where a pair that trades places is not among them.
 
 mod caption;
 mod conflicts;
@@ -14,13 +15,16 @@ use crate::nest::Nest;
 use crate::space;
 use crate::text::Names;
 use crate::ticket::Ticket;
-use crate::{judge, list};
+use crate::{list, why};
 use caption::Caption;
 use conflicts::Conflicts;
 use panel::{Panel, View};
 use std::collections::BTreeSet;
 use std::error::Error;
 use std::fmt;
+
+/// The most pairs that the reason tool is asked for. Arrows beyond them are red by the places of their iterations.
+const MOST_PAIRS: usize = 65_536;
 
 /// A drawn ticket.
 #[derive(Clone, PartialEq, Eq, Debug)]
@@ -37,7 +41,7 @@ pub struct Picture {
 pub enum NoPicture {
     /// It is refused before its iterations are known, with a number from 1 to 9.
     Refused(Refusal),
-    /// The pairs that were found do not have the vectors of the proved listing: a defect of the drawing.
+    /// The pairs that were found do not have the vectors of the proved listing, or lack one that the reason tool gives: a defect of the drawing.
     Differs,
 }
 
@@ -45,7 +49,7 @@ impl fmt::Display for NoPicture {
     fn fmt(&self, f: &mut fmt::Formatter<'_>) -> fmt::Result {
         match self {
             NoPicture::Refused(refusal) => refusal.fmt(f),
-            NoPicture::Differs => f.write_str("the pairs to be drawn do not have the vectors of the listing: a defect of the drawing"),
+            NoPicture::Differs => f.write_str("the pairs to be drawn are not those of the listing and of 'why': a defect of the drawing"),
         }
     }
 }
@@ -67,7 +71,8 @@ impl Error for NoPicture {}
 /// ```
 pub fn picture(ticket: &Ticket, names: &Names) -> Result<Picture, NoPicture> {
     let listing = list(ticket).map_err(NoPicture::Refused)?;
-    let answer = judge(ticket);
+    let reason = why(ticket, MOST_PAIRS);
+    let answer = reason.judgement();
     let nest = ticket.nest().map_err(|_| NoPicture::Differs)?;
     let before = space::points(&nest);
     let conflicts = Conflicts::find(&nest, &before);
@@ -77,7 +82,7 @@ pub fn picture(ticket: &Ticket, names: &Names) -> Result<Picture, NoPicture> {
     }
     let steps = &nest.steps[..steps_drawn(&nest, &answer)];
     let after = space::moved(&before, steps);
-    let traded = conflicts.traded(&space::ranks(&after));
+    let traded = conflicts.traded(&reason, &before, &after).ok_or(NoPicture::Differs)?;
     let panels = [
         Panel {
             points: &before,
