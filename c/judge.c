@@ -1,4 +1,4 @@
-/* Judges a ticket with the five entries of Hurkeztor.
+/* Judges a ticket with the six entries of Hurkeztor.
  *
  *   judge [FILE]     a ticket's bytes, from FILE or from standard input
  *
@@ -14,7 +14,9 @@
 #include <string.h>
 
 /* No ticket that is accepted is longer than 1,008 bytes; whatever follows is refused where it begins. */
-enum { TICKET_BYTES = 65536, NEST_BYTES = 2696, LISTING_BYTES = 21330, MOST_ELEMENTS = 16384 };
+enum { TICKET_BYTES = 65536, NEST_BYTES = 2696, LISTING_BYTES = 21330, MOST_ELEMENTS = 16384, PAIRS_SHOWN = 20, OUT_OF_ORDER = 10 };
+
+_Static_assert(sizeof(hurkeztor_pair) == 22 && _Alignof(hurkeztor_pair) == 2, "the library's records have no padding");
 
 static const char *const names[] = {
     "accepted",      "torn",         "overhang",    "bad count", "bad word", "overfull",     "off the nest", "far index",   "crowded",
@@ -54,6 +56,35 @@ static size_t elements(const uint8_t *ticket)
         total += product;
     }
     return total;
+}
+
+static void print_iteration(const int16_t *indices, int loops)
+{
+    for (int index = 0; index < loops; index++)
+        printf("%s%d", index == 0 ? " (" : ", ", indices[index]);
+    printf(")");
+}
+
+/* The pairs that trade places, where the ticket is out of order. */
+static void give_reason(const uint8_t *ticket, size_t length)
+{
+    static hurkeztor_pair list[PAIRS_SHOWN];
+    uint64_t answer = hurkeztor_reason(ticket, length, list, PAIRS_SHOWN);
+    uint32_t count = hurkeztor_count(answer);
+    printf("reason: step %u, ", hurkeztor_place(answer));
+    if (count == 0)
+        printf("by the table alone\n");
+    else
+        printf("%" PRIu32 " pairs\n", count);
+    for (uint32_t place = 0; place < count && place < PAIRS_SHOWN; place++) {
+        const hurkeztor_pair *pair = &list[place];
+        printf("%c %u %u", pair->kind, pair->source_statement, pair->sink_statement);
+        print_iteration(pair->source, word(ticket, 0));
+        print_iteration(pair->sink, word(ticket, 0));
+        printf("\n");
+    }
+    if (count > PAIRS_SHOWN)
+        printf("(+%" PRIu32 " more)\n", count - PAIRS_SHOWN);
 }
 
 static void write_nest(const uint8_t *ticket, size_t length)
@@ -137,6 +168,8 @@ int main(int argc, char **argv)
     int turned_back = refused("judge", answer);
     if (!turned_back)
         printf(" accepted, %" PRIu32 " iterations\n", hurkeztor_count(answer));
+    if (hurkeztor_number(answer) == OUT_OF_ORDER)
+        give_reason(ticket, length);
     write_nest(ticket, length);
     list_directions(ticket, length);
     test_accesses(ticket, length);

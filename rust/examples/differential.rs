@@ -2,8 +2,8 @@
 //!
 //!     cargo run --release --example differential -- --tickets 1000000 --seed 7
 //!
-//! With `--four-kinds` no ticket has a circulation. The digest of the first five entries is then the same for a library that knows none, if it answers
-//! the other tickets alike. With `--out-of-order` half of the tickets are refused with 10.
+//! With `--four-kinds` no ticket has a circulation. The digest of the first five entries is then the same for a library that knows none, if it
+//! answers the other tickets alike. With `--out-of-order` half of the tickets are refused with 10.
 
 #[path = "../tests/compare/mod.rs"]
 mod compare;

@@ -53,6 +53,9 @@ fn said(output: &Output) -> (Option<i32>, &str, &str) {
 const CASE_1: &str = "2 1 1 0 1 1 1 1 1 0 0 1 1 2 0 2 1 4 2 2 3 1 3 0 1 0 1 1 1 2 0 1 0 0 0 1 1 1 1 2 0";
 const REFUSED: &str = "\
 judge: refused 10 1 out of order
+reason: step 1, 2 pairs
+O 1 1 (0, 1) (1, 0)
+O 1 1 (0, 2) (1, 1)
 write: refused 10 1 out of order
 list:
 2 6 1
@@ -74,6 +77,11 @@ quick 1 2: perhaps
 run: 1 2 3 3 5 6 6 7 9
 ";
 
+/// Case 3, skewed and then exchanged.
+const SKEWED: &str = "2 1 1 1 1 1 2 1 1 0 0 1 1 2 0 1 2 3 4 1 3 0 1 0 1 0 0 0 1 1 1 -1 1 0 1 0 1 2 3 1 2 1 1 1 2 0";
+/// i 0..9, A(0) = 0, reversed.
+const ONE_ELEMENT: &str = "1 1 1 0 1 1 9 1 1 1 1 1 0 1 0 0 0 1 2 1 0 0";
+
 const EMPTY: &str = "\
 judge: refused 1 1 torn
 write: refused 1 1 torn
@@ -88,6 +96,19 @@ fn the_example_answers_whole() {
     assert_eq!(said(&fed(&program, &bytes(CASE_1))), (Some(1), REFUSED, ""));
     assert_eq!(said(&fed(&program, &bytes(TRIANGLE))), (Some(0), ACCEPTED, ""));
     assert_eq!(said(&fed(&program, &[])), (Some(1), EMPTY, ""));
+    let starts = |words: &str, start: &str| {
+        let output = fed(&program, &bytes(words));
+        let (status, out, _) = said(&output);
+        assert!(status == Some(1) && out.starts_with(start), "{out}");
+    };
+    starts(
+        SKEWED,
+        "judge: refused 10 2 out of order\nreason: step 2, by the table alone\nwrite: ",
+    );
+    let from = |source: u32| (source + 1..=9).map(move |sink| format!("O 1 1 ({source}) ({sink})\n"));
+    let first: String = (0..9).flat_map(from).take(20).collect();
+    let start = format!("judge: refused 10 1 out of order\nreason: step 1, 45 pairs\n{first}(+25 more)\nwrite: ");
+    starts(ONE_ELEMENT, &start);
 
     let file = Path::new(env!("CARGO_TARGET_TMPDIR")).join("triangle.ticket");
     fs::write(&file, bytes(TRIANGLE)).expect("a file for the ticket");

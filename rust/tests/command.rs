@@ -118,7 +118,12 @@ const BOTH_WAYS: &str = "array A(5)\narray B(4)\nfor i = 1 to 3\n  A(i) = B(i)\n
 
 #[test]
 fn why_names_the_pairs() {
-    let refused = "refused 10 at step 1, out of order\n<standard input>:9:1: a direction points backwards after the step\n  exchange 1 2\n  ^^^^^^^^^^^^\n";
+    let refused = "\
+refused 10 at step 1, out of order
+<standard input>:9:1: a direction points backwards after the step
+  exchange 1 2
+  ^^^^^^^^^^^^
+";
     let pairs = "  A(1): written at (0, 1), then at (1, 0)\n  A(2): written at (0, 2), then at (1, 1)\n";
     let first = pairs.lines().next().expect("a pair");
     check(&["why"], CASE_1, 1, &format!("{refused}2 pairs trade places\n{pairs}"));

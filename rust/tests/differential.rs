@@ -1,5 +1,5 @@
-//! The six entries answer as the reference does, on 20,000 tickets of a fixed seed, 40 more of many iterations, and the outside ones; reason on 20,000
-//! more that are out of order. The example `differential` does the same for as many as one likes.
+//! The six entries answer as the reference does, on 20,000 tickets of a fixed seed, 40 more of many iterations, and the outside ones; reason on
+//! 20,000 more, half of which are out of order. The example `differential` does the same for as many as one likes.
 
 mod compare;
 
