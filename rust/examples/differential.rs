@@ -20,11 +20,11 @@ const HELP: &str = "Compares the six entries of Hurkeztor with the reference: nu
 
 Usage: differential [--tickets N] [--seed N] [--first N] [--four-kinds | --out-of-order]
 
-  --tickets N    how many tickets (20000)
-  --seed N       the seed that they are made from (1)
-  --first N      the index of the first one (0); with --tickets 1 a ticket is compared again alone
-  --four-kinds   tickets of exchanges, reversals, skews and sections alone; those that have kind 5 by damage are left out
-  --out-of-order half of the tickets are refused with 10, some by the table alone
+  --tickets N      how many tickets (20000)
+  --seed N         the seed that they are made from (1)
+  --first N        the index of the first one (0); with --tickets 1 a ticket is compared again alone
+  --four-kinds     tickets of exchanges, reversals, skews and sections alone; those that have kind 5 by damage are left out
+  --out-of-order   tickets of which half are refused with 10, some by the table alone
 
 The digests are of all answers of the library and of all memory that it leaves, one for judge, write, list, quick and run, one for reason.
 
