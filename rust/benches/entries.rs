@@ -1,4 +1,4 @@
-//! Times each proved entry beside the twin on kernels of 6 to 4096 iterations.
+//! Times each proved entry beside the twin on kernels of 6 to 4096 iterations; the reason entry, which the twin does not have, by itself.
 //!
 //!     cargo bench
 //!     cargo bench -- --quick judge stencil
@@ -10,6 +10,8 @@ mod calls;
 mod circulations;
 #[path = "entries/kernels.rs"]
 mod kernels;
+#[path = "entries/reasons.rs"]
+mod reasons;
 #[path = "entries/timing.rs"]
 mod timing;
 
@@ -29,7 +31,7 @@ Usage: cargo bench [-- [--quick] [NAME ...]]
 
   --quick          fewer and shorter runs
   NAME             only rows whose entry or kernel has all these names in it, such as 'judge' or 'matrix';
-                   'worked' is the table of worked cases, 'circulation' that of circulations
+                   'worked' is the table of worked cases, 'circulation' that of circulations, 'reason' that of the reason entry
   --write FOLDER   time nothing: write every worked case, and every kernel at every size, to FOLDER as a binary ticket
 
 Columns: iterations of the nest; conflicts, the pairs of accesses that name one element (at least one writes); time of the proved entry and of
@@ -176,6 +178,7 @@ fn bench(wanted: &Wanted) -> Result<(), String> {
         }
     }
     circulations::bench(effort, |row| wanted.has(row));
+    reasons::bench(effort, |row| wanted.has(row));
     Ok(())
 }
 

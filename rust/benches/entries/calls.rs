@@ -1,4 +1,4 @@
-//! The five entries and their twins as calls of one form, and what they are called on.
+//! The five entries that have twins, and those, as calls of one form, and what they are called on.
 
 use std::hint::black_box;
 
