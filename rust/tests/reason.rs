@@ -2,11 +2,13 @@
 
 #[path = "../reference/tests/reasons/mod.rs"]
 mod reasons;
+#[path = "compare/records.rs"]
+mod records;
 
 use hurkeztor::entries::{self, PairRecord};
 use hurkeztor::{Kind, Reason, Ticket, judge, why};
+use records::{to_library, to_reference};
 use reference::Answer;
-use reference::reason::Record;
 use std::mem::{align_of, size_of};
 
 #[test]
@@ -24,26 +26,6 @@ fn tickets_of_the_design() {
         }
         Answer { number, place, count }
     });
-}
-
-fn to_library(r: &Record) -> PairRecord {
-    PairRecord {
-        source: r.source,
-        sink: r.sink,
-        source_statement: r.source_statement,
-        sink_statement: r.sink_statement,
-        kind: r.kind,
-    }
-}
-
-fn to_reference(r: &PairRecord) -> Record {
-    Record {
-        source: r.source,
-        sink: r.sink,
-        source_statement: r.source_statement,
-        sink_statement: r.sink_statement,
-        kind: r.kind,
-    }
 }
 
 fn ticket(text: &str) -> Ticket {

@@ -1,5 +1,8 @@
 //! The six entries beside the reference: number, place, count and all lent memory. Shared by the test and the example `differential`.
 
+mod records;
+mod tally;
+
 use std::fmt;
 
 use hurkeztor::entries::{self, PairRecord};
@@ -7,79 +10,17 @@ use reference::reason::Record;
 use reference::tickets::{Random, as_words};
 use reference::{Answers, reading};
 
+use records::{to_library, to_reference};
+pub use tally::Tally;
+
 /// Words, bytes or records on either side of what is lent, which no entry may touch.
 const GUARD: usize = 16;
+/// The place of reason among the entries.
+const REASON: usize = 5;
 /// The longest list that is lent.
 const MOST_RECORDS: usize = 4000;
 /// With more iterations, the reference takes long for each list.
 const MANY_ITERATIONS: usize = 500;
-
-/// All answers of the library and all memory that it left, in their order, as one number (FNV-1a): the same for libraries that answer alike.
-struct Digest(u64);
-
-impl Default for Digest {
-    fn default() -> Digest {
-        Digest(0xcbf2_9ce4_8422_2325)
-    }
-}
-
-impl Digest {
-    fn add(&mut self, bytes: impl IntoIterator<Item = u8>) {
-        for byte in bytes {
-            self.0 = (self.0 ^ u64::from(byte)).wrapping_mul(0x0000_0100_0000_01b3);
-        }
-    }
-}
-
-/// What was compared.
-#[derive(Default)]
-pub struct Tally {
-    /// How often each number 0 to 16 was answered, for judge, write, list, quick, run and reason.
-    answers: [[u64; 17]; 6],
-    pub tickets: u64,
-    /// Those of the tickets that have a circulation among the steps that can be read.
-    pub circulating: u64,
-    /// Those with pairs that trade places, and those that are out of order by the table alone.
-    pub with_pairs: u64,
-    pub table_alone: u64,
-    /// Of the first five entries, so that it can be compared with that of a library that has no sixth.
-    digest: Digest,
-    reason_digest: Digest,
-}
-
-impl Tally {
-    pub fn of_number(&self, number: usize) -> u64 {
-        self.answers.iter().map(|entry| entry[number]).sum()
-    }
-}
-
-impl fmt::Display for Tally {
-    fn fmt(&self, f: &mut fmt::Formatter) -> fmt::Result {
-        writeln!(
-            f,
-            "number {:>9} {:>9} {:>9} {:>9} {:>9} {:>9}",
-            "judge", "write", "list", "quick", "run", "reason"
-        )?;
-        for number in 0..17 {
-            write!(f, "{number:>6}")?;
-            for entry in &self.answers {
-                write!(f, " {:>9}", entry[number])?;
-            }
-            writeln!(f)?;
-        }
-        let (Digest(digest), Digest(reasons)) = (&self.digest, &self.reason_digest);
-        writeln!(
-            f,
-            "{} tickets, {} of them with circulations; digest {digest:016x} of the first five entries",
-            self.tickets, self.circulating
-        )?;
-        writeln!(
-            f,
-            "{} with pairs that trade places, {} by the table alone; digest {reasons:016x} of reason",
-            self.with_pairs, self.table_alone
-        )
-    }
-}
 
 /// A ticket that an entry and the reference answer differently.
 pub struct Difference {
@@ -117,9 +58,6 @@ struct Comparison<'a> {
     tally: &'a mut Tally,
 }
 
-/// The place of reason among the entries.
-const REASON: usize = 5;
-
 /// The call, what the library answered and left, and what the reference did.
 struct Apart {
     call: String,
@@ -148,35 +86,10 @@ impl Unit for u32 {
 
 impl Unit for PairRecord {
     fn bytes(self) -> impl IntoIterator<Item = u8> {
-        let [p0, p1, p2, p3] = self.source;
-        let [q0, q1, q2, q3] = self.sink;
+        let indices = [self.source, self.sink].concat();
         let rest = [self.source_statement, self.sink_statement, self.kind];
-        let indices = [p0, p1, p2, p3, q0, q1, q2, q3];
-        indices
-            .into_iter()
-            .flat_map(i16::to_le_bytes)
-            .chain(rest.into_iter().flat_map(u16::to_le_bytes))
-    }
-}
-
-/// A record of the library as the reference has it, and back.
-fn to_reference(record: &PairRecord) -> Record {
-    Record {
-        source: record.source,
-        sink: record.sink,
-        source_statement: record.source_statement,
-        sink_statement: record.sink_statement,
-        kind: record.kind,
-    }
-}
-
-fn to_library(record: &Record) -> PairRecord {
-    PairRecord {
-        source: record.source,
-        sink: record.sink,
-        source_statement: record.source_statement,
-        sink_statement: record.sink_statement,
-        kind: record.kind,
+        let indices = indices.into_iter().flat_map(i16::to_le_bytes);
+        indices.chain(rest.into_iter().flat_map(u16::to_le_bytes))
     }
 }
 
