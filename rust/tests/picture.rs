@@ -119,7 +119,7 @@ fn captions_say_what_is_drawn() {
 #[test]
 fn pairs_beyond_the_list_are_red_by_their_places() {
     let folded = |last: u32| svg(&format!("array A(1)\nfor i = 0 to {last}\n  A(0) = A(0) + 1\nreverse 1"));
-    let beyond = "Red by the first 65536 of 134550 pairs that trade places; beyond them, by the places of their iterations.";
+    let beyond = "Red by the first 65536 of 134550 records of the reason tool; beyond them, by the places of their iterations.";
     let (few, many) = (folded(147), folded(299));
     assert!(few.contains("10878 of 10878 conflicting pairs") && !few.contains("Red by"));
     assert!(many.contains("44850 of 44850 conflicting pairs") && many.contains(beyond));

@@ -77,6 +77,33 @@ fn very_many_pairs() {
 }
 
 #[test]
+#[ignore = "lends 184 MB twice"]
+fn every_pair_of_4096_iterations_on_one_element() {
+    let ticket = ticket("array A(1)\nfor i = 0 to 4095\n  A(0) = 1\nreverse 1");
+    let (count, junk) = (
+        8_386_560,
+        PairRecord {
+            kind: 7,
+            ..PairRecord::default()
+        },
+    );
+    let all = (0..4096).flat_map(|p| (p + 1..4096).map(move |q| (p, q)));
+    let expected = all.map(|(p, q)| PairRecord {
+        source: [p, 0, 0, 0],
+        sink: [q, 0, 0, 0],
+        source_statement: 1,
+        sink_statement: 1,
+        kind: u16::from(b'O'),
+    });
+    for length in [count, count + 3] {
+        let mut list = vec![junk; length];
+        let answer = entries::reason(ticket.as_bytes(), &mut list);
+        assert_eq!((answer.number, answer.place, answer.count), (0, 1, 8_386_560));
+        assert!(list.iter().copied().eq(expected.clone().chain(vec![junk; length - count])));
+    }
+}
+
+#[test]
 fn no_pair_trades_places() {
     let skewed = "array A(3, 4)\nfor i = 1 to 2\n  for j = 0 to 2\n    A(i, j) = A(i-1, j+1)\nskew 1 2 by 1\nexchange 1 2";
     let table_alone = why(&ticket(skewed), 20);

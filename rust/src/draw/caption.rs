@@ -63,7 +63,7 @@ impl Caption<'_> {
     fn beyond(&self) -> Option<String> {
         let beyond = self.traded.beyond.as_ref()?;
         Some(format!(
-            "Red by the first {} of {} pairs that trade places; beyond them, by the places of their iterations.",
+            "Red by the first {} of {} records of the reason tool; beyond them, by the places of their iterations.",
             beyond.lent, beyond.records
         ))
     }

@@ -70,7 +70,8 @@ fn cases() -> Vec<Case> {
     let limits_full = "4 1 1 0 1 1 0 3 1 0 1 1 0 2 1 0 3 1 1 0 0 2 1 0 0 0 1 0 3 0 1 1 0 0 0 4 1 0 -12 1 1 1 0 -6 1 1 1 0 0 1 1 1 0 6 1 1 1 \
                        1 0 0 0 0 1 1 1 1 1 0 1 0 0 0 0 0 0 2 5 4 1 0 2 1 0 0";
     let sections = |extent, constant| format!("1 1 1 0 1 1 3 1 1 {extent} 1 1 0 1 {constant} 1 1 1 0 1 2 4 1 2 0 1 1 2 0");
-    let one_element = "1 1 1 0 1 1 4095 1 1 1 1 1 0 1 0 0 0 1 2 1 0 0";
+    let one_element = |last: u32| format!("1 1 1 0 1 1 {last} 1 1 1 1 1 0 1 0 0 0 1 2 1 0 0");
+    let pairs_up_to = |last: u32| (0..last).flat_map(move |p| (p + 1..=last).map(move |q| format!("{p} > {q}, 1 1 O")));
     vec![
         out_of_order(&format!("{folded} 1 1 1 2 0"), 1, 2, "0 1 > 1 0, 1 1 O; 0 2 > 1 1, 1 1 O"),
         out_of_order(skewed, 2, 0, ""),
@@ -108,7 +109,8 @@ fn cases() -> Vec<Case> {
         case(limits_full, 11, 1, 0, ""),
         out_of_order(&sections(6, 2), 2, 0, ""),
         out_of_order(&sections(5, 1), 2, 1, "1 > 2, 1 1 F"),
-        out_of_order(one_element, 1, 8_386_560, "0 > 1, 1 1 O; 0 > 2, 1 1 O; 0 > 3, 1 1 O"),
+        out_of_order(&one_element(299), 1, 44_850, &pairs_up_to(299).collect::<Vec<_>>().join(";")),
+        out_of_order(&one_element(4095), 1, 8_386_560, "0 > 1, 1 1 O; 0 > 2, 1 1 O; 0 > 3, 1 1 O"),
         case(&format!("{folded} 0"), 0, 0, 6, ""),
         case("", 1, 1, 0, ""),
     ]
