@@ -1,4 +1,5 @@
--- The records of a ticket. In order: a struct and its record; what the tool answers and leaves, by the records found; a ticket that is refused with 10.
+-- The records of a ticket. In order: a struct and its record; what the tool answers and leaves, by the records found; a ticket that is refused
+-- with 10.
 use mathlib.Core.Path.{_≡_, refl, sym, ap, ap₂, _∙_, subst}
 use mathlib.Core.Bool.{Bool, true, false, cond}
 use mathlib.Core.Logic.{_⊎_, inl, inr, ⊎-elim}

@@ -1,5 +1,5 @@
-// The reason tool: which pairs of instances trade places at a step that is refused as out of order. A finder gives their records one by one, by value;
-// it keeps those that it found last, and looks for more when they are given.
+// The reason tool: which pairs of instances trade places at a step that is refused as out of order. A finder gives their records one by one,
+// by value; it keeps those that it found last, and looks for more when they are given.
 ghost use mathlib.Core.Path.{_≡_};
 ghost use Prim.Native.Nat.{ℕ, _-_, _+_, _≤_, _<_, min};
 ghost use lib.IntN.{pos};

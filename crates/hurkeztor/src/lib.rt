@@ -1,5 +1,5 @@
 // The six entries for C (include/hurkeztor.h). Each contract equates the answer, and what everything lent holds in the end, with the
-// definition of document 01 (crate model, specs/Entries); what is promised of the definitions is stated in crate model, proofs/Demands.
+// definition of crate model (specs/Entries; of reason specs/Pairs); what is promised of the definitions is stated there, proofs/Demands.
 ghost use mathlib.Core.Path.{_≡_};
 ghost use Rattle.model.specs.Entries as Entries;
 ghost use Rattle.model.specs.Pairs.{reason};

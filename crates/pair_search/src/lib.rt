@@ -149,7 +149,7 @@ fn search_few(
 {
     let none = no_head(count);
     let mut points = [0i64; 1024];
-    let mut moved = [0i64; 1536];
+    let mut moved = [0i64; 256 * LOOPS];
     let mut numbers = [0u16; 1024];
     let mut links = [0u16; 1024];
     let mut heads = [none; 1024];
@@ -173,7 +173,7 @@ fn search_few(
     )
 }
 
-// Searches any points. Apart from `search_few`, which would walk through this room page by page too.
+// Searches any points. Apart from `search_few`, which has less room to clear.
 fn search_many(
     header: Header,
     limits: &[i16],
