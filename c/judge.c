@@ -75,7 +75,7 @@ static void give_reason(const uint8_t *ticket, size_t length)
     if (count == 0)
         printf("by the table alone\n");
     else
-        printf("%" PRIu32 " pairs\n", count);
+        printf("%" PRIu32 " %s\n", count, count == 1 ? "pair" : "pairs");
     for (uint32_t place = 0; place < count && place < PAIRS_SHOWN; place++) {
         const hurkeztor_pair *pair = &list[place];
         printf("%c %u %u", pair->kind, pair->source_statement, pair->sink_statement);
