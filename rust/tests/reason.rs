@@ -76,6 +76,18 @@ fn very_many_pairs() {
     assert_eq!(printed(&why(&ticket, 4500)), lines[..4500]);
 }
 
+/// Iterations that read one element conflict only with those that write it.
+#[test]
+fn elements_that_many_read() {
+    let pairs = |text: &str| printed(&why(&ticket(text), 20));
+    let coefficient = "array A(4)\narray B(1)\nfor i = 1 to 3\n  A(i) = A(i-1) + B(0)\nreverse 1";
+    assert_eq!(pairs(coefficient), ["F 1 1 (1) (2)", "F 1 1 (2) (3)"]);
+    let written_first = "array A(4)\nfor i = 0 to 3\n  A(i) = A(0)\nreverse 1";
+    assert_eq!(pairs(written_first), ["F 1 1 (0) (1)", "F 1 1 (0) (2)", "F 1 1 (0) (3)"]);
+    let written_between = "array A(4)\nfor i = 0 to 3\n  A(i) = A(2)\nreverse 1";
+    assert_eq!(pairs(written_between), ["A 1 1 (0) (2)", "A 1 1 (1) (2)", "F 1 1 (2) (3)"]);
+}
+
 #[test]
 #[ignore = "lends 184 MB twice"]
 fn every_pair_of_4096_iterations_on_one_element() {

@@ -1,5 +1,4 @@
--- The partners of a point. In order: the order of two rows, number by number; numbers between two; the points that share an element; one partner
--- more.
+-- The partners of a point. In order: the order of two rows, number by number; numbers between two; the points that conflict; one partner more.
 use mathlib.Core.Path.{_≡_, refl, sym, ap, ap₂, _∙_, subst}
 use mathlib.Core.Bool.{Bool, true, false, cond, _&&_}
 use mathlib.Core.Logic.{_⊎_, ⊎-elim}
@@ -23,8 +22,8 @@ use Rattle.integers.specs.Sign.{Sign, less, equal, greater, sign}
 use Rattle.model.specs.Directions.{earlier, bySign, upFrom}
 use Rattle.dependence_vectors.specs.Numbers.{digit}
 use Rattle.dependence_vectors.specs.Candidates.{row}
-use Rattle.pair_partners.specs.Chains.{numberAt, names, First}
-use Rattle.pair_partners.specs.Partners.{shares, rowBefore, between, isPartner, partners, ChainsAt, Least}
+use Rattle.pair_partners.specs.Chains.{First}
+use Rattle.pair_partners.specs.Partners.{meetsAccess, conflicting, rowBefore, between, isPartner, partners, ChainsAt, Least}
 use Rattle.pair_partners.proofs.ChainLaws.{first-later}
 
 -- ---- the order of two rows
@@ -106,13 +105,13 @@ unfolding between
 between-parts a b c h g = ap (upFrom a) (let q : c - a ≡ (b - a) + (c - b) = omega arith in q) ∙ up-parts a (b - a) (c - b)
     ∙ ap (λ z. upFrom a (b - a) ++ upFrom z (c - b)) (let q : a + (b - a) ≡ b = omega arith in q)
 
--- ---- the points that share an element
+-- ---- the points that conflict
 
-module _ (ids : List ℕ) (n m x : ℕ) where
-  -- the least point that a chain has come to is the first that shares an element
-  pub least-shares : (y r : ℕ) (chains : List ℕ) → y ≤ n → ChainsAt ids n m x y chains → Least m n chains r → First (shares ids n m x) y n r
-  unfolding shares
-  least-shares y r chains b h g = record {
+module _ (ids : List ℕ) (ws : List Bool) (n m x : ℕ) where
+  -- the least point that a chain has come to is the first that conflicts
+  pub least-conflicts : (y r : ℕ) (chains : List ℕ) → y ≤ n → ChainsAt ids ws n m x y chains → Least m n chains r → First (conflicting ids ws n m x) y n r
+  unfolding conflicting
+  least-conflicts y r chains b h g = record {
     after = ⊎-elim (λ e. omega arith) (λ l. let k = g .among l in let a = h (k .0) (k .1) .after in let e = k .2 in
         omega arith) (eq-or-lt-of-le (g .inside));
     inside = g .inside;
@@ -125,28 +124,28 @@ module _ (ids : List ℕ) (n m x : ℕ) where
   }
     where
       at : ℕ → ℕ → Bool
-      at z k = names ids n m (numberAt ids n k x) z
+      at z k = meetsAccess ids ws n m x k z
 
   -- where the chains have come to
-  pub chains-later : (y r : ℕ) (chains : List ℕ) → ChainsAt ids n m x y chains → y ≤ r → Least m n chains r → ChainsAt ids n m x r chains
-  chains-later y r chains h l g k b = first-later (names ids n m (numberAt ids n k x)) n y r (getD chains k 0) l (g .lower k b) (h k b)
+  pub chains-later : (y r : ℕ) (chains : List ℕ) → ChainsAt ids ws n m x y chains → y ≤ r → Least m n chains r → ChainsAt ids ws n m x r chains
+  chains-later y r chains h l g k b = first-later (meetsAccess ids ws n m x k) n y r (getD chains k 0) l (g .lower k b) (h k b)
 
   -- ---- one partner more
 
   module _ (d : ℕ) (s : List ℤ) where
     abbrev found : ℕ → List ℕ
-    found y = select (isPartner ids n m d s x) (between (suc x) y)
+    found y = select (isPartner ids ws n m d s x) (between (suc x) y)
 
-    -- no partner before the first that shares an element
-    none-before : (y r : ℕ) → First (shares ids n m x) y n r → select (isPartner ids n m d s x) (between y r) ≡ []
+    -- no partner before the first that conflicts
+    none-before : (y r : ℕ) → First (conflicting ids ws n m x) y n r → select (isPartner ids ws n m d s x) (between y r) ≡ []
     unfolding isPartner between
-    none-before y r f = select-none (isPartner ids n m d s x) (between y r) (λ z i. let b = upFrom-mem y (r - y) i in let a = f .after in
-        false-not-T (isPartner ids n m d s x z) (ap (_&& rowBefore d s z x) (f .passed z (b .0) (let c = b .1 in omega arith))))
+    none-before y r f = select-none (isPartner ids ws n m d s x) (between y r) (λ z i. let b = upFrom-mem y (r - y) i in let a = f .after in
+        false-not-T (isPartner ids ws n m d s x z) (ap (_&& rowBefore d s z x) (f .passed z (b .0) (let c = b .1 in omega arith))))
 
-    pub found-none : (r : ℕ) → First (shares ids n m x) (suc x) n r → found r ≡ []
+    pub found-none : (r : ℕ) → First (conflicting ids ws n m x) (suc x) n r → found r ≡ []
     found-none r f = none-before (suc x) r f
 
-    pub found-more : (y r : ℕ) → suc x ≤ y → shares ids n m x y ≡ true → First (shares ids n m x) (suc y) n r
+    pub found-more : (y r : ℕ) → suc x ≤ y → conflicting ids ws n m x y ≡ true → First (conflicting ids ws n m x) (suc y) n r
         → found r ≡ found y ++ cond (rowBefore d s y x) (y ∷ []) []
     unfolding isPartner select
     found-more y r h e f =
@@ -156,7 +155,7 @@ module _ (ids : List ℕ) (n m x : ℕ) where
         ∙ rw (e, none-before (suc y) r f) refl)
       where
         t : ℕ → Bool
-        t = isPartner ids n m d s x
+        t = isPartner ids ws n m d s x
 
     -- the chains have come to y, and the partners before it are written
     pub record Finding (out₀ out chains₀ chains : List ℕ) (count y : ℕ) : Type 0 where
@@ -166,12 +165,12 @@ module _ (ids : List ℕ) (n m x : ℕ) where
       pub table : length chains ≡ length chains₀
       pub few : count ≤ y
       pub written : take count out ≡ found y
-      pub come : ChainsAt ids n m x y chains
-      pub there : y < n → shares ids n m x y ≡ true
+      pub come : ChainsAt ids ws n m x y chains
+      pub there : y < n → conflicting ids ws n m x y ≡ true
 
-    pub finding-begin : (out chains : List ℕ) (r : ℕ) → x < n → ChainsAt ids n m x (suc x) chains → Least m n chains r
+    pub finding-begin : (out chains : List ℕ) (r : ℕ) → x < n → ChainsAt ids ws n m x (suc x) chains → Least m n chains r
         → Finding out out chains chains 0 r
-    finding-begin out chains r l h g = let f = least-shares (suc x) r chains l h g in record {
+    finding-begin out chains r l h g = let f = least-conflicts (suc x) r chains l h g in record {
       after = f .after;
       inside = f .inside;
       room = refl;
@@ -185,8 +184,8 @@ module _ (ids : List ℕ) (n m x : ℕ) where
     -- y was written if it is a partner, and the chains were taken on to r
     pub finding-more : (out₀ out out′ chains₀ chains chains′ : List ℕ) (c c′ y r : ℕ) → Finding out₀ out chains₀ chains c y → y < n → c < length out
         → ((rowBefore d s y x ≡ true) × (out′ ≡ set out c y) × (c′ ≡ c + 1)) ⊎ ((rowBefore d s y x ≡ false) × (out′ ≡ out) × (c′ ≡ c))
-        → length chains′ ≡ length chains → ChainsAt ids n m x (suc y) chains′ → Least m n chains′ r → Finding out₀ out′ chains₀ chains′ c′ r
-    finding-more out₀ out out′ chains₀ chains chains′ c c′ y r h l b w t k g = let f = least-shares (suc y) r chains′ l k g in let a = f .after in
+        → length chains′ ≡ length chains → ChainsAt ids ws n m x (suc y) chains′ → Least m n chains′ r → Finding out₀ out′ chains₀ chains′ c′ r
+    finding-more out₀ out out′ chains₀ chains chains′ c c′ y r h l b w t k g = let f = least-conflicts (suc y) r chains′ l k g in let a = f .after in
         let i = h .after in let z = h .few in record {
           after = omega arith;
           inside = f .inside;
@@ -203,7 +202,7 @@ module _ (ids : List ℕ) (n m x : ℕ) where
         }
 
     pub finding-end : (out₀ out chains₀ chains : List ℕ) (c y : ℕ) → Finding out₀ out chains₀ chains c y → n ≤ y
-        → (c ≤ n) × (take c out ≡ partners ids n m d s x)
+        → (c ≤ n) × (take c out ≡ partners ids ws n m d s x)
     unfolding partners
     finding-end out₀ out chains₀ chains c y h l = let i = h .inside in let z = h .few in let e : y ≡ n = omega arith in
         (omega arith, h .written ∙ ap found e)

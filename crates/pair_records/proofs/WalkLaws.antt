@@ -27,10 +27,10 @@ use Rattle.pair_records.proofs.WindowLaws.{windowOf, none-come, full-st
 
 -- ---- partners
 
-pub partners-inside : (ids : List ℕ) (n m d : ℕ) (s : List ℤ) (x : ℕ) → All (λ y. y < n) (partners ids n m d s x)
+pub partners-inside : (ids : List ℕ) (ws : List Bool) (n m d : ℕ) (s : List ℤ) (x : ℕ) → All (λ y. y < n) (partners ids ws n m d s x)
 unfolding partners between
-partners-inside ids n m d s x y h = let r = upFrom-mem (suc x) (n - suc x) (select-mem (isPartner ids n m d s x) (upFrom (suc x) (n - suc x)) h .0)
-    in
+partners-inside ids ws n m d s x y h =
+    let r = upFrom-mem (suc x) (n - suc x) (select-mem (isPartner ids ws n m d s x) (upFrom (suc x) (n - suc x)) h .0) in
     let a = r .0 in let b = r .1 in omega arith
 
 -- ---- how many
@@ -49,7 +49,7 @@ module _ (F : Flat) (d : ℕ) (s : List ℤ) where
     few-from : (x : ℕ) → length (recordsFrom F d s x) ≤ mostPoints * 48
     unfolding recordsFrom partners between
     few-from x =
-        let t = isPartner (F .numbers) (F .count) (length (F .statements)) d s x in let l = upFrom (suc x) (F .count - suc x) in
+        let t = isPartner (F .numbers) (F .writes) (F .count) (length (F .statements)) d s x in let l = upFrom (suc x) (F .count - suc x) in
         let a = length-flatMap-most (recordsBetween F x) 48 (select t l) (λ y m. few-between x y) in
         let b = select-fewer t l in let c = up-length (suc x) (F .count - suc x) in let e = ok .accesses .few-points in
         let q : length (select t l) * 48 ≤ mostPoints * 48 = omega arith in omega arith

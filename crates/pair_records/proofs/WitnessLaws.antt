@@ -1,5 +1,6 @@
 -- What a walk asks can be met: i 0..1, A(0) written once in each iteration, and the loop reversed. The two iterations trade places.
 use mathlib.Core.Path.{_≡_, refl}
+use mathlib.Core.Bool.{Bool, true, false}
 use mathlib.Core.List.{List, [], _∷_, flatMap}
 use Prim.Native.Nat.{ℕ, zero, suc, _+_, _≤_, _<_}
 use native.Mathlib.Omega.{arith}
@@ -18,7 +19,7 @@ use Rattle.dependence_vectors.specs.Candidates.{row}
 use Rattle.dependence_search.specs.Flat.{Flat}
 use Rattle.dependence_marks.specs.Uses.{firstWritten, writtenIn, statementNumbers}
 use Rattle.pair_partners.specs.Chains.{names, LinkedAt}
-use Rattle.pair_partners.specs.Partners.{shares, rowBefore, between, isPartner, partners}
+use Rattle.pair_partners.specs.Partners.{conflicting, rowBefore, between, isPartner, partners}
 use Rattle.pair_records.specs.Conflicts.{blockCount, blockOf, meets, clashes, recordWords, recordsBetween, AccessesIn, PointsIn, sized, Ready}
 use Rattle.pair_records.specs.Statements.{StatementAt, SpanIn}
 use Rattle.pair_records.specs.Walks.{recordsFrom, recordsOf, Walkable}
@@ -71,42 +72,50 @@ points-in = record {
 pub ready : Ready nest sizes
 ready = record { accesses = accesses-in; points = points-in }
 
-linked-at : (y : ℕ) → y < 2 → LinkedAt ids 2 1 links y
-unfolding names some
-linked-at zero h zero g = record {
+linked-at : (all : Bool) (y : ℕ) → y < 2 → LinkedAt ids (nest .writes) 2 1 all links y
+unfolding names some writtenIn firstWritten
+linked-at all zero h zero g = record {
   after = omega arith;
   inside = omega arith;
   passed = λ y a b. absurd (omega arith);
-  there = λ _. refl;
+  there = λ _. counted all;
 }
-linked-at zero h (suc k) g = absurd (omega arith)
-linked-at (suc zero) h zero g = record {
+  where
+    counted : (all : Bool) → names ids (nest .writes) 2 1 all 0 1 ≡ true
+    counted true = refl
+    counted false = refl
+linked-at all zero h (suc k) g = absurd (omega arith)
+linked-at all (suc zero) h zero g = record {
   after = omega arith;
   inside = omega arith;
   passed = λ y a b. absurd (omega arith);
   there = λ a. absurd (omega arith);
 }
-linked-at (suc zero) h (suc k) g = absurd (omega arith)
-linked-at (suc (suc y)) h k g = absurd (omega arith)
+linked-at all (suc zero) h (suc k) g = absurd (omega arith)
+linked-at all (suc (suc y)) h k g = absurd (omega arith)
 
-pub walkable : Walkable nest sizes 1 1 moved links
-unfolding sum
+pub walkable : Walkable nest sizes 1 1 moved (nest .writes) links links
+unfolding sum writtenIn firstWritten
 walkable = record {
   ready = ready;
   all-accesses = refl;
   moved = record { shallow = omega arith; few = omega arith; stored = omega arith };
+  writes-are = refl;
   links-are = record {
     few-points = omega arith;
     few-accesses = omega arith;
     numbers = omega arith;
-    room = omega arith;
-    linked = λ y _ h. linked-at y h;
+    writes = omega arith;
+    named-room = omega arith;
+    written-room = omega arith;
+    to-named = λ y _ h. linked-at true y h;
+    to-written = λ y _ h. linked-at false y h;
   };
 }
 
 -- both iterations, statement 1 with itself, an output dependence
 pub records-are : recordsOf nest 1 moved 0 2
     ≡ (pos 0 ∷ pos 0 ∷ pos 0 ∷ pos 0 ∷ pos 1 ∷ pos 0 ∷ pos 0 ∷ pos 0 ∷ pos 1 ∷ pos 1 ∷ pos 79 ∷ []) ∷ []
-unfolding recordsOf recordsFrom recordsBetween recordWords clashes meets blockOf blockCount partners isPartner between shares rowBefore names some
+unfolding recordsOf recordsFrom recordsBetween recordWords clashes meets blockOf blockCount partners isPartner between conflicting rowBefore names some
     earlier sign kinds upFrom letter indicesIn row select flatMap statementNumbers writtenIn firstWritten
 records-are = refl

@@ -1,5 +1,6 @@
 -- The records of all pairs that trade places, by source point: what a walk through the source points gives.
 use mathlib.Core.Path.{_≡_}
+use mathlib.Core.Bool.{Bool}
 use mathlib.Core.List.{List, flatMap}
 use Prim.Native.Nat.{ℕ, _+_, _≤_, _<_}
 use lib.IntN.{ℤ}
@@ -14,18 +15,19 @@ use Rattle.pair_records.specs.declared.Walked.{Walked}
 
 -- of source point x; the points are moved to rows of d numbers, by whose order places are traded
 unfoldable pub recordsFrom : Flat → ℕ → List ℤ → ℕ → List (List ℤ)
-recordsFrom F d s x = flatMap (recordsBetween F x) (partners (F .numbers) (F .count) (length (F .statements)) d s x)
+recordsFrom F d s x = flatMap (recordsBetween F x) (partners (F .numbers) (F .writes) (F .count) (length (F .statements)) d s x)
 
 -- of the source points a ≤ .. < b
 unfoldable pub recordsOf : Flat → ℕ → List ℤ → ℕ → ℕ → List (List ℤ)
 recordsOf F d s a b = flatMap (recordsFrom F d s) (between a b)
 
--- the flat data of statements of these sizes, of m accesses in all, with their links and moved points
-pub record Walkable (F : Flat) (sizes : List ℕ) (m d : ℕ) (s : List ℤ) (links : List ℕ) : Type 0 where
+-- the flat data of statements of these sizes, of m accesses in all, which of them write, with their links and moved points
+pub record Walkable (F : Flat) (sizes : List ℕ) (m d : ℕ) (s : List ℤ) (writes : List Bool) (named written : List ℕ) : Type 0 where
   pub ready : Ready F sizes
   pub all-accesses : sum sizes ≡ m
   pub moved : RowsOf d (F .count) s
-  pub links-are : Links (F .numbers) (F .count) m links
+  pub writes-are : writes ≡ F .writes
+  pub links-are : Links (F .numbers) writes (F .count) m named written
 
 -- a walk from source point `from` on, past `skip` records; another may go on from its last source
 pub record Walks (F : Flat) (d : ℕ) (s : List ℤ) (from skip : ℕ) (r : Walked) (found : List ℤ) : Type 0 where

@@ -393,7 +393,9 @@ fn pass_source(
     sizes: &[usize],
     accesses: usize,
     body: usize,
-    links: &[u16],
+    writes: &[bool],
+    named: &[u16],
+    written: &[u16],
     moved: &[i64],
     moved_depth: usize,
     x: usize,
@@ -401,15 +403,17 @@ fn pass_source(
     partners: &mut [u16],
     found: &mut [i16],
 ) -> Window
-    requires { ⌜ Walkable (sized (now points) depth count (now numbers) (now sizes) body) (now sizes) accesses «moved_depth» (now moved) (now links)
-        × (x < count) × (count ≤ length (now partners)) × (length (now found) ≡ batchRoom) ⌝ }
+    requires { ⌜ Walkable (sized (now points) depth count (now numbers) (now sizes) body) (now sizes) accesses «moved_depth» (now moved)
+        (now writes) (now named) (now written) × (x < count) × (count ≤ length (now partners)) × (length (now found) ≡ batchRoom) ⌝ }
     ensures { λ r. ⌜ Passes window (now (found .entry)) r (now (found .exit)) (recordsFrom
         (sized (now (points .entry)) depth count (now (numbers .entry)) (now (sizes .entry)) body)
         «moved_depth» (now (moved .entry)) x) ⌝ }
 {
     let m = pair_partners::find_partners(
         numbers,
-        links,
+        writes,
+        named,
+        written,
         count,
         accesses,
         moved,
@@ -440,7 +444,9 @@ pub fn walk(
     sizes: &[usize],
     accesses: usize,
     body: usize,
-    links: &[u16],
+    writes: &[bool],
+    named: &[u16],
+    written: &[u16],
     moved: &[i64],
     moved_depth: usize,
     from: usize,
@@ -448,8 +454,8 @@ pub fn walk(
     partners: &mut [u16],
     found: &mut [i16],
 ) -> Walked
-    requires { ⌜ Walkable (sized (now points) depth count (now numbers) (now sizes) body) (now sizes) accesses «moved_depth» (now moved) (now links)
-        × (from ≤ count) × (count ≤ length (now partners)) × (length (now found) ≡ batchRoom) ⌝ }
+    requires { ⌜ Walkable (sized (now points) depth count (now numbers) (now sizes) body) (now sizes) accesses «moved_depth» (now moved)
+        (now writes) (now named) (now written) × (from ≤ count) × (count ≤ length (now partners)) × (length (now found) ≡ batchRoom) ⌝ }
     ensures { λ r. ⌜ Walks (sized (now (points .entry)) depth count (now (numbers .entry)) (now (sizes .entry)) body)
         «moved_depth» (now (moved .entry)) from skip r (now (found .exit)) ⌝ }
 {
@@ -475,7 +481,9 @@ pub fn walk(
             sizes,
             accesses,
             body,
-            links,
+            writes,
+            named,
+            written,
             moved,
             moved_depth,
             x,

@@ -1,7 +1,7 @@
--- The blocks that are marked for two points are the kinds of conflict that the model finds at them (`conflict-is`); points that share no element
--- have none (`apart-none`).
+-- The blocks that are marked for two points are the kinds of conflict that the model finds at them (`conflict-is`); points without
+-- conflicting accesses have none (`apart-none`).
 use mathlib.Core.Path.{_≡_, sym, ap, ap₂, _∙_, subst}
-use mathlib.Core.Bool.{Bool, false, _&&_}
+use mathlib.Core.Bool.{Bool, true, false, _&&_, _||_}
 use mathlib.Core.List.{List}
 use Prim.Native.Nat.{ℕ, _+_, _*_, _<_}
 use native.Mathlib.Omega.{arith}
@@ -24,7 +24,7 @@ use Rattle.dependence_search.proofs.UseLaws.{side, as-many, access-of, of-acces
 use Rattle.dependence_search.proofs.KindLaws.{sourceWrites, sinkWrites, kind-is, kind-small, is-kind, source-side, sink-side}
 use Rattle.dependence_search.proofs.OrderLaws.{at}
 use Rattle.pair_partners.specs.Chains.{names}
-use Rattle.pair_partners.specs.Partners.{shares}
+use Rattle.pair_partners.specs.Partners.{meetsAccess, conflicting}
 use Rattle.pair_records.specs.Conflicts.{blockOf, meets, clashes}
 
 equal-passes : (m n : ℕ) → m ≡ n → T (eqb m n)
@@ -82,15 +82,23 @@ module _ (F : Flat) (x y : ℕ) where
       (and-intro (ltb (kind a b) kindCount) (eqb (block a b) j) (lt→ltb (kind a b) kindCount (m .conflicts))
       (equal-passes (block a b) j (m .placed)))))
 
-  -- points that share no element
-  pub apart-none : shares (F .numbers) (F .count) (length (F .statements)) x y ≡ false → (j : ℕ) → T (marks j) → ⊥
-  unfolding shares names
+  -- of two accesses with a kind of conflict one writes
+  one-writes : (v w : Bool) → kindOf v w < kindCount → T (v || w)
+  one-writes true w h = tt
+  one-writes false true h = tt
+  one-writes false false h = absurd (omega arith)
+
+  -- points without conflicting accesses
+  pub apart-none : conflicting (F .numbers) (F .writes) (F .count) (length (F .statements)) x y ≡ false → (j : ℕ) → T (marks j) → ⊥
+  unfolding conflicting names
   apart-none e j h =
-      let m = marked-meets j h in
-      false-not-T (shares (F .numbers) (F .count) (length (F .statements)) x y) e
-      (there-some (length (F .statements)) (m .a) (λ k. names (F .numbers) (F .count) (length (F .statements)) (numberAt F k x) y) (m .source)
-      (there-some (length (F .statements)) (m .b) (λ k. eqb (numberAt F k y) (numberAt F (m .a) x)) (m .sink)
-      (equal-passes (numberAt F (m .b) y) (numberAt F (m .a) x) (sym (m .number)))))
+      let m = marked-meets j h in let a = m .a in let b = m .b in
+      let l = length (F .statements) in
+      false-not-T (conflicting (F .numbers) (F .writes) (F .count) l x y) e
+      (there-some l a (λ k. meetsAccess (F .numbers) (F .writes) (F .count) l x k y) (m .source)
+      (there-some l b (λ k. (writesAt F a || writesAt F k) && eqb (numberAt F k y) (numberAt F a x)) (m .sink)
+      (and-intro (writesAt F a || writesAt F b) (eqb (numberAt F b y) (numberAt F a x)) (one-writes (writesAt F a) (writesAt F b) (m .conflicts))
+      (equal-passes (numberAt F b y) (numberAt F a x) (sym (m .number))))))
 
   -- ---- the model's conflicts
 

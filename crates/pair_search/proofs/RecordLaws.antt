@@ -26,7 +26,7 @@ use Rattle.dependence_vectors.specs.Candidates.{row}
 use Rattle.dependence_vectors.specs.Numbers.{kindNumber}
 use Rattle.dependence_listing_text.proofs.IndexLaws.{split, kind-number}
 use Rattle.dependence_search.specs.Flat.{Flat, statementOf, pointAt, pointsOf, Describes}
-use Rattle.pair_partners.specs.Partners.{shares, rowBefore, between, isPartner, partners}
+use Rattle.pair_partners.specs.Partners.{conflicting, rowBefore, between, isPartner, partners}
 use Rattle.pair_records.specs.Conflicts.{blockCount, recordWords, recordsBetween}
 use Rattle.pair_records.specs.Windows.{Windowed}
 use Rattle.pair_records.specs.Walks.{recordsFrom, recordsOf, Walks}
@@ -117,15 +117,15 @@ module _ (ts : List Step) (N : Nest) (F : Flat) (d : ℕ) (s : List ℤ) (h : St
         ∙ map-cond (recordWords (F .points) (F .depth) n x y) (rowBefore d s y x) (select (marks F x y) (upFrom 0 (blockCount n)))
 
     -- points that share no element have no records
-    apart : shares (F .numbers) (F .count) (length (F .statements)) x y ≡ false → recordsBetween F x y ≡ []
+    apart : conflicting (F .numbers) (F .writes) (F .count) (length (F .statements)) x y ≡ false → recordsBetween F x y ≡ []
     unfolding recordsBetween
     apart e = ap (map (recordWords (F .points) (F .depth) n x y))
         (select-none (marks F x y) (upFrom 0 (blockCount n)) (λ j m. apart-none F x y e j))
 
-    pub partner-is : cond (isPartner (F .numbers) (F .count) (length (F .statements)) d s x y) (recordsBetween F x y) []
+    pub partner-is : cond (isPartner (F .numbers) (F .writes) (F .count) (length (F .statements)) d s x y) (recordsBetween F x y) []
         ≡ map pairWords (select clashing (pairsAt n p q))
     unfolding isPartner
-    partner-is = pruned (shares (F .numbers) (F .count) (length (F .statements)) x y) (rowBefore d s y x) (recordsBetween F x y) apart
+    partner-is = pruned (conflicting (F .numbers) (F .writes) (F .count) (length (F .statements)) x y) (rowBefore d s y x) (recordsBetween F x y) apart
         ∙ sym between-is
 
   -- ---- a source
@@ -142,7 +142,7 @@ module _ (ts : List Step) (N : Nest) (F : Flat) (d : ℕ) (s : List ℤ) (h : St
       (length (N .statements)) x (subst (x <_) count-is l)))
     where
       partner : ℕ → Bool
-      partner = isPartner (F .numbers) (F .count) (length (F .statements)) d s x
+      partner = isPartner (F .numbers) (F .writes) (F .count) (length (F .statements)) d s x
 
       found : ℕ → List Pair
       found y = select clashing (pairsAt (length (N .statements)) (getD (iterations (N .loops)) x []) (getD (iterations (N .loops)) y []))

@@ -7,7 +7,7 @@ use native.Mathlib.Nat.{mul-le-mul, mul-comm}
 use native.Mathlib.Omega.{arith}
 use lib.Dec.{leb}
 use lib.IntN.{ℤ, pos}
-use lib.ListN.{length, getD, take, replicate, length-replicate, getD-replicate}
+use lib.ListN.{length, getD, take, replicate, length-replicate}
 use borrow.Author.Tests.{leb-true}
 use Rattle.lists.specs.Membership.{All}
 use Rattle.integers.specs.Affine.{Within}
@@ -19,6 +19,9 @@ use Rattle.model.proofs.Points.WithinLaws.{space-within}
 use Rattle.dependence_vectors.specs.Numbers.{marksFor}
 use Rattle.dependence_search.specs.Flat.{Flat, flat}
 use Rattle.dependence_marks.specs.Lines.{LinesIn}
+use Rattle.dependence_marks.specs.Uses.{writtenIn, UsesAre}
+use Rattle.dependence_marks.specs.declared.Uses.{Uses}
+use Rattle.dependence_marks.proofs.UseLaws.{sizes-flags}
 use Rattle.dependence_marks.proofs.MarkLaws.{number-in, describes-sized, numbers-at}
 use Rattle.ticket_steps.specs.Steps.{stepsOf}
 use Rattle.ticket_steps.specs.declared.Steps.{Steps}
@@ -31,7 +34,7 @@ use Rattle.ticket_admission.specs.CountedTickets.{Laid}
 use Rattle.ticket_admission.proofs.AdmitLaws.{points-counted}
 use Rattle.step_points.specs.Points.{PointsIn}
 use Rattle.step_points.proofs.TicketLaws.{points-move}
-use Rattle.pair_partners.specs.Chains.{Numbered, Links}
+use Rattle.pair_partners.specs.Chains.{Numbered}
 use Rattle.pair_records.specs.Conflicts.{sized}
 use Rattle.pair_records.specs.Walks.{Walkable, Walks}
 use Rattle.pair_records.proofs.StatementLaws.{number-below}
@@ -112,7 +115,12 @@ module _ (P : FlatNest) (S : Steps) (n step from : ℕ) (found : List ℤ) (h : 
 
   -- ---- the walk
 
-  module _ (points : List ℤ) (numbers links : List ℕ) (moved : List ℤ) (depth : ℕ) (k : Linked P S n step points numbers links moved depth) where
+  -- which accesses write
+  pub writes-sized : (u : Uses) → UsesAre P u → take (P .accesses) (u .writes) ≡ writtenIn (sizesIn P)
+  writes-sized u g = g .writes ∙ sym (sizes-flags P flat-nest)
+
+  module _ (points : List ℤ) (numbers : List ℕ) (writes : List Bool) (named written : List ℕ) (moved : List ℤ) (depth : ℕ)
+      (k : Linked P S n step points numbers writes named written moved depth) where
     abbrev F : Flat
     F = sized points (P .depth) n numbers (sizesIn P) (P .statements)
 
@@ -122,7 +130,7 @@ module _ (P : FlatNest) (S : Steps) (n step from : ℕ) (found : List ℤ) (h : 
     near : All (Within 32767) (iterations (nestOf P .loops))
     near = space-within (nestOf P .loops) (h .laid .ticket .formed .runs) (h .laid .space-accepted)
 
-    pub walkable : Walkable F (sizesIn P) (P .accesses) depth moved links
+    pub walkable : Walkable F (sizesIn P) (P .accesses) depth moved writes named written
     walkable = let s = k .points-are .stored in let e = flat-nest .all-accesses in let t = k .numbers-are .room in record {
       ready = record {
         accesses = record {
@@ -142,6 +150,7 @@ module _ (P : FlatNest) (S : Steps) (n step from : ℕ) (found : List ℤ) (h : 
       };
       all-accesses = e;
       moved = record { shallow = k .moved-are .depth-after .shallow; few = few-points; stored = k .moved-are .room };
+      writes-are = k .writes-are;
       links-are = k .links-are;
     }
 
@@ -162,32 +171,29 @@ module _ (P : FlatNest) (S : Steps) (n step from : ℕ) (found : List ℤ) (h : 
   -- ---- rooms
 
   -- room for the points that there are
-  lent : (a b c d e f none : ℕ) → none ≡ n → n * ticketLoops ≤ a → n * mostLoops ≤ b → P .accesses * n ≤ c → P .accesses * n ≤ d
-      → total (nestOf P .arrays) ≤ e → e ≤ mostElements → n ≤ f
-      → Lent P n (replicate a (pos 0)) (replicate b (pos 0)) (replicate c 0) (replicate d 0) (replicate e none) (replicate f 0)
-  lent a b c d e f none q ha hb hc hd he hm hf = record {
-    points-room = let z = length-replicate {A = ℤ} a (pos 0) in let m = mul-le-mul {n₁ = n} {m₁ = P .depth} {n₂ = n} {m₂ = ticketLoops}
-        (omega arith)
-        (h .laid .ticket .shallow) in omega arith;
-    moved-room = let z = length-replicate {A = ℤ} b (pos 0) in omega arith;
-    numbers-room = let z = length-replicate {A = ℕ} c 0 in omega arith;
-    links-room = let z = length-replicate {A = ℕ} d 0 in let m = mul-comm n (P .accesses) in omega arith;
-    heads-room = let z = length-replicate {A = ℕ} e none in omega arith;
-    few-heads = let z = length-replicate {A = ℕ} e none in omega arith;
-    headless = λ i g. let z = length-replicate {A = ℕ} e none in getD-replicate e i none 0 (omega arith) ∙ q;
-    partners-room = let z = length-replicate {A = ℕ} f 0 in omega arith;
-  }
+  lent : (a b c d e : ℕ) → n * ticketLoops ≤ a → n * mostLoops ≤ b → P .accesses * n ≤ c → total (nestOf P .arrays) ≤ d → d ≤ mostElements → n ≤ e
+      → Lent P n (replicate a (pos 0)) (replicate b (pos 0)) (replicate c 0) (replicate c 0) (replicate c 0) (replicate d 0) (replicate e 0)
+  lent a b c d e ha hb hc hd hm he = let m = mul-comm n (P .accesses) in let z = length-replicate {A = ℕ} c 0 in
+      let y = length-replicate {A = ℕ} d 0 in record {
+        points-room = let w = length-replicate {A = ℤ} a (pos 0) in
+            let l = mul-le-mul {n₁ = n} {m₁ = P .depth} {n₂ = n} {m₂ = ticketLoops} (omega arith) (h .laid .ticket .shallow) in omega arith;
+        moved-room = let w = length-replicate {A = ℤ} b (pos 0) in omega arith;
+        numbers-room = omega arith;
+        named-room = omega arith;
+        written-room = omega arith;
+        heads-room = omega arith;
+        few-heads = omega arith;
+        partners-room = let w = length-replicate {A = ℕ} e 0 in omega arith;
+      }
 
-  pub lent-few : Few P n → (none : ℕ) → none ≡ n
-      → Lent P n (replicate 1024 (pos 0)) (replicate 1536 (pos 0)) (replicate 1024 0) (replicate 1024 0) (replicate 1024 none) (replicate 256 0)
-  lent-few f none q = let a = f .points in let b = f .numbers in let c = f .elements in
-      lent 1024 1536 1024 1024 1024 256 none q (omega arith) (omega arith) b b c (omega arith) a
+  pub lent-few : Few P n
+      → Lent P n (replicate 1024 (pos 0)) (replicate 1536 (pos 0)) (replicate 1024 0) (replicate 1024 0) (replicate 1024 0) (replicate 1024 0)
+      (replicate 256 0)
+  lent-few f = let a = f .points in lent 1024 1536 1024 1024 256 (omega arith) (omega arith) (f .numbers) (f .elements) (omega arith) a
 
-  pub lent-many : (none : ℕ) → none ≡ n
-      → Lent P n (replicate (ticketLoops * mostPoints) (pos 0)) (replicate (mostLoops * mostPoints) (pos 0)) (replicate mostNumbers 0)
-      (replicate mostNumbers 0) (replicate mostElements none) (replicate mostPoints 0)
+  pub lent-many : Lent P n (replicate (ticketLoops * mostPoints) (pos 0)) (replicate (mostLoops * mostPoints) (pos 0)) (replicate mostNumbers 0)
+      (replicate mostNumbers 0) (replicate mostNumbers 0) (replicate mostElements 0) (replicate mostPoints 0)
   unfolding nestOf
-  lent-many none q = let f = few-points in let b = numbers-at P n mostPoints flat-nest f in let t = flat-nest .fits in
-      lent (ticketLoops * mostPoints) (mostLoops * mostPoints) mostNumbers mostNumbers mostElements mostPoints none q (omega arith)
-      (omega arith) b b
-      (omega arith) (omega arith) f
+  lent-many = let f = few-points in let t = flat-nest .fits in
+      lent (ticketLoops * mostPoints) (mostLoops * mostPoints) mostNumbers mostElements mostPoints (omega arith) (omega arith)
+      (numbers-at P n mostPoints flat-nest f) (omega arith) (omega arith) f

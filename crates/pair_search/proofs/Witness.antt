@@ -1,5 +1,6 @@
 -- A real ticket meets what the functions ask: one loop from 1 to 1, an array of one element, a statement that stores 0 in it, and a reversal.
 use mathlib.Core.Path.{_≡_, refl, sym, ap, ap₂, _∙_}
+use mathlib.Core.Bool.{Bool, true, false}
 use mathlib.Core.List.{List, [], _∷_, flatMap, List·Memᴰ·head}
 use Prim.Native.Nat.{ℕ, zero, suc, _+_, _*_, _<_}
 use native.Mathlib.Omega.{arith}
@@ -25,12 +26,13 @@ use Rattle.ticket_steps.specs.declared.Numbered.{Numbered}
 use Rattle.ticket_steps.specs.declared.Steps.{Steps}
 use Rattle.nest_flat.specs.Flat.{limitAt, limitsAt, loopAt, loopsFrom}
 use Rattle.nest_flat.specs.Layout.{extentsAt, arraysFrom, arraysOf, formAt, formsFrom, accessAt, accessesFrom}
-use Rattle.nest_flat.specs.FlatNests.{FlatNest, wordsIn, accessedIn, extentsIn, statementsFrom, nestOf, accessOf}
+use Rattle.nest_flat.specs.FlatNests.{FlatNest, wordsIn, accessedIn, extentsIn, statementsFrom, nestOf, accessOf, sizesIn}
 use Rattle.nest_flat.proofs.FlatNestLaws.{access-is}
 use Rattle.nest_flat.proofs.Plain.{plain}
 use Rattle.nest_points.specs.Stored.{RowsIn}
 use Rattle.nest_points.specs.Nests.{PointsAre}
 use Rattle.nest_elements.specs.Nests.{NumbersAre}
+use Rattle.dependence_marks.specs.Uses.{firstWritten, writtenIn}
 use Rattle.step_points.specs.Points.{reach, afterSteps, PointsMoved}
 use Rattle.ticket_decoding.specs.Ticket.{ticketOn, TicketIn}
 use Rattle.ticket_encoding.proofs.Witness.{encodable}
@@ -105,9 +107,9 @@ pub few : Few storing 1
 unfolding nestOf total elements arraysOf arraysFrom extentsAt
 few = record { points = omega arith; numbers = omega arith; elements = omega arith }
 
-pub lent : Lent storing 1 (replicate 1024 (pos 0)) (replicate 1536 (pos 0)) (replicate 1024 0) (replicate 1024 0) (replicate 1024 1)
-    (replicate 256 0)
-lent = lent-few storing reversing 1 1 0 (replicate batchRoom (pos 0)) search-in few 1 refl
+pub lent : Lent storing 1 (replicate 1024 (pos 0)) (replicate 1536 (pos 0)) (replicate 1024 0) (replicate 1024 0) (replicate 1024 0)
+    (replicate 1024 0) (replicate 256 0)
+lent = lent-few storing reversing 1 1 0 (replicate batchRoom (pos 0)) search-in few
 
 -- ---- its one point, which is moved to −1 and has no next one
 
@@ -164,25 +166,38 @@ numbers-are = record { room = omega arith; are = are; small = small }
     small zero (suc x) h g = absurd (omega arith)
     small (suc k) x h g = absurd (omega arith)
 
-links-are : Links (0 ∷ []) 1 1 (1 ∷ [])
+writes-are : true ∷ [] ≡ writtenIn (sizesIn storing)
+unfolding writtenIn firstWritten
+writes-are = refl
+
+links-are : Links (0 ∷ []) (true ∷ []) 1 1 (1 ∷ []) (1 ∷ [])
 links-are = record {
   few-points = omega arith;
   few-accesses = omega arith;
   numbers = omega arith;
-  room = omega arith;
-  linked = none-next;
+  writes = omega arith;
+  named-room = omega arith;
+  written-room = omega arith;
+  to-named = none-next true;
+  to-written = none-next false;
 }
   where
-    none-next : LinkedFrom (0 ∷ []) 1 1 0 (1 ∷ [])
-    none-next zero a h zero g = record {
+    none-next : (all : Bool) → LinkedFrom (0 ∷ []) (true ∷ []) 1 1 all 0 (1 ∷ [])
+    none-next all zero a h zero g = record {
       after = omega arith;
       inside = omega arith;
       passed = λ z u v. absurd (omega arith);
       there = λ u. absurd
           (omega arith);
     }
-    none-next zero a h (suc k) g = absurd (omega arith)
-    none-next (suc y) a h k g = absurd (omega arith)
+    none-next all zero a h (suc k) g = absurd (omega arith)
+    none-next all (suc y) a h k g = absurd (omega arith)
 
-pub linked : Linked storing reversing 1 1 point (0 ∷ []) (1 ∷ []) moved 1
-linked = record { points-are = points-are; moved-are = moved-are; numbers-are = numbers-are; links-are = links-are }
+pub linked : Linked storing reversing 1 1 point (0 ∷ []) (true ∷ []) (1 ∷ []) (1 ∷ []) moved 1
+linked = record {
+  points-are = points-are;
+  moved-are = moved-are;
+  numbers-are = numbers-are;
+  writes-are = writes-are;
+  links-are = links-are;
+}

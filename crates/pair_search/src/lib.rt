@@ -4,7 +4,6 @@ ghost use mathlib.Core.Path.{_≡_};
 ghost use mathlib.Core.Bool.{true};
 ghost use Prim.Native.Nat.{_≤_, _<_};
 ghost use lib.ListN.{length, take};
-ghost use Rattle.model.specs.Grammar.{mostPoints};
 ghost use Rattle.nest_flat.specs.FlatNests.{flatNest, nestOf, FlatNestIn};
 ghost use Rattle.ticket_steps.specs.Steps.{stepsOf};
 ghost use Rattle.pair_search.specs.Searches.{SearchIn, Searched};
@@ -30,14 +29,17 @@ fn walk_points(
     skip: usize,
     points: &[i64],
     numbers: &[u16],
-    links: &[u16],
+    writes: &[bool],
+    named: &[u16],
+    written: &[u16],
     moved: &[i64],
     depth: usize,
     partners: &mut [u16],
     found: &mut [i16],
 ) -> Walked
     requires { ⌜ SearchIn (flatNest header (now limits) (now words)) steps count step from (now found)
-        × Linked (flatNest header (now limits) (now words)) steps count step (now points) (now numbers) (now links) (now moved) depth
+        × Linked (flatNest header (now limits) (now words)) steps count step (now points) (now numbers) (now writes) (now named) (now written)
+        (now moved) depth
         × (count ≤ length (now partners)) ⌝ }
     ensures { λ r. ⌜ Searched (take step (stepsOf steps)) (nestOf (flatNest header (now (limits .entry)) (now (words .entry)))) from skip r
         (now (found .exit)) ⌝ }
@@ -52,7 +54,9 @@ fn walk_points(
         &sizes[..statements],
         header.accesses,
         statements,
-        links,
+        writes,
+        named,
+        written,
         moved,
         depth,
         from,
@@ -75,20 +79,33 @@ fn search_using(
     points: &mut [i64],
     moved: &mut [i64],
     numbers: &mut [u16],
-    links: &mut [u16],
+    named: &mut [u16],
+    written: &mut [u16],
     heads: &mut [u16],
     partners: &mut [u16],
     found: &mut [i16],
 ) -> Walked
     requires { ⌜ SearchIn (flatNest header (now limits) (now words)) steps count step from (now found)
-        × Lent (flatNest header (now limits) (now words)) count (now points) (now moved) (now numbers) (now links) (now heads) (now partners) ⌝ }
+        × Lent (flatNest header (now limits) (now words)) count (now points) (now moved) (now numbers) (now named) (now written) (now heads)
+        (now partners) ⌝ }
     ensures { λ r. ⌜ Searched (take step (stepsOf steps)) (nestOf (flatNest header (now (limits .entry)) (now (words .entry)))) from skip r
         (now (found .exit)) ⌝ }
 {
     nest_points::list_points(header, limits, words, points);
     let depth = step_points::move_points(points, header.depth, count, steps, step, moved);
     nest_elements::number_accesses(header, limits, words, points, count, numbers);
-    pair_partners::link_points(numbers, count, header.accesses, heads, links);
+    let uses = dependence_marks::uses_of(header, limits, words);
+    let writes = uses.writes;
+    let accesses = header.accesses;
+    pair_partners::link_all(
+        numbers,
+        &writes[..accesses],
+        count,
+        accesses,
+        heads,
+        named,
+        written,
+    );
     walk_points(
         header,
         limits,
@@ -100,20 +117,14 @@ fn search_using(
         skip,
         points,
         numbers,
-        links,
+        &writes[..accesses],
+        named,
+        written,
         moved,
         depth,
         partners,
         found,
     )
-}
-
-// No point: one more than the last.
-fn no_head(count: usize) -> u16
-    requires { ⌜ count ≤ mostPoints ⌝ }
-    ensures { λ r. ⌜ r ≡ count ⌝ }
-{
-    count as u16
 }
 
 // Whether the room of `search_few` is enough.
@@ -147,12 +158,12 @@ fn search_few(
     ensures { λ r. ⌜ Searched (take step (stepsOf steps)) (nestOf (flatNest header (now (limits .entry)) (now (words .entry)))) from skip r
         (now (found .exit)) ⌝ }
 {
-    let none = no_head(count);
     let mut points = [0i64; 1024];
     let mut moved = [0i64; 256 * LOOPS];
     let mut numbers = [0u16; 1024];
-    let mut links = [0u16; 1024];
-    let mut heads = [none; 1024];
+    let mut named = [0u16; 1024];
+    let mut written = [0u16; 1024];
+    let mut heads = [0u16; 1024];
     let mut partners = [0u16; 256];
     search_using(
         header,
@@ -166,7 +177,8 @@ fn search_few(
         &mut points,
         &mut moved,
         &mut numbers,
-        &mut links,
+        &mut named,
+        &mut written,
         &mut heads,
         &mut partners,
         found,
@@ -189,12 +201,12 @@ fn search_many(
     ensures { λ r. ⌜ Searched (take step (stepsOf steps)) (nestOf (flatNest header (now (limits .entry)) (now (words .entry)))) from skip r
         (now (found .exit)) ⌝ }
 {
-    let none = no_head(count);
     let mut points = [0i64; TICKET_LOOPS * POINTS];
     let mut moved = [0i64; LOOPS * POINTS];
     let mut numbers = [0u16; NUMBERS];
-    let mut links = [0u16; NUMBERS];
-    let mut heads = [none; ELEMENTS];
+    let mut named = [0u16; NUMBERS];
+    let mut written = [0u16; NUMBERS];
+    let mut heads = [0u16; ELEMENTS];
     let mut partners = [0u16; POINTS];
     search_using(
         header,
@@ -208,7 +220,8 @@ fn search_many(
         &mut points,
         &mut moved,
         &mut numbers,
-        &mut links,
+        &mut named,
+        &mut written,
         &mut heads,
         &mut partners,
         found,

@@ -17,7 +17,7 @@ struct Case {
     lent: &'static [usize],
 }
 
-const CASES: [Case; 7] = [
+const CASES: [Case; 9] = [
     Case {
         name: "worked case 1",
         text: || of_the_course("case-1/exchange"),
@@ -53,6 +53,18 @@ const CASES: [Case; 7] = [
         text: || mirrored(4096),
         pairs: 4096,
         lent: &[0, 64, 4096],
+    },
+    Case {
+        name: "coefficient, read by all",
+        text: || coefficient(4095),
+        pairs: 4094,
+        lent: &[0, 64],
+    },
+    Case {
+        name: "written by one, read by all",
+        text: || first_element(4096),
+        pairs: 4095,
+        lent: &[0, 64],
     },
     Case {
         name: "dense, one element",
@@ -104,7 +116,7 @@ fn sections(count: u32) -> String {
     )
 }
 
-/// What conflicts lies far apart, so that nearly all pairs of iterations have to be looked at.
+/// What conflicts lies far apart.
 fn mirrored(count: u32) -> String {
     format!(
         "array A({count})
@@ -112,6 +124,28 @@ fn mirrored(count: u32) -> String {
            A(i) = A({}-i) + 1
          reverse 1",
         count - 1
+    )
+}
+
+/// Every two iterations share an element that none of them writes.
+fn coefficient(count: u32) -> String {
+    format!(
+        "array A({})
+         array B(1)
+         for i = 1 to {count}
+           A(i) = A(i-1) + B(0)
+         reverse 1",
+        count + 1
+    )
+}
+
+/// Every two iterations share an element that the first of all writes.
+fn first_element(count: u32) -> String {
+    format!(
+        "array A({count})
+         for i = 0 to {count}-1
+           A(i) = A(0) + 1
+         reverse 1"
     )
 }
 

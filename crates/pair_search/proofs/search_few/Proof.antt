@@ -4,9 +4,6 @@ use borrow.Author.Needs.{needs}
 use Rattle.pair_search.proofs.search_few.Statement.{statement}
 use Rattle.pair_search.proofs.search_few.Tie as tie
 
-no-head-requires : tie.Need-no-head-requires
-no-head-requires c κs = search needs
-
 slice-aggregate-search-using : tie.Need-slice-aggregate-search-using
 slice-aggregate-search-using c = search needs
 
@@ -25,29 +22,29 @@ slice-aggregate-search-using-5 c = search needs
 slice-aggregate-search-using-6 : tie.Need-slice-aggregate-search-using-6
 slice-aggregate-search-using-6 c = search needs
 
+slice-aggregate-search-using-7 : tie.Need-slice-aggregate-search-using-7
+slice-aggregate-search-using-7 c = search needs
+
 search-using-requires : tie.Need-search-using-requires
-search-using-requires c κs =
-    let n = c .before .before .before .before .before .before .before in
-    let s = n .before in
-    (s .pre .0, lent-few _ _ _ _ _ _ (s .pre .0) (s .pre .1) (n .no-head .result) (n .no-head .ensures))
+search-using-requires c κs = let s = c .before .before .before .before .before .before .before .before in (s .pre .0, lent-few _ _ _ _ _ _ (s .pre .0) (s .pre .1))
 
 same-length : tie.Need-same-length
 same-length c = search needs
 
 returns : tie.Need-returns
-returns c = c .before .before .before .before .before .before .before .search-using .ensures
+returns c = search needs
 
 pub search-few-spec : {M : Type 1} → statement M
 search-few-spec =
     tie.close
     (tie.spec
-    no-head-requires
     slice-aggregate-search-using
     slice-aggregate-search-using-2
     slice-aggregate-search-using-3
     slice-aggregate-search-using-4
     slice-aggregate-search-using-5
     slice-aggregate-search-using-6
+    slice-aggregate-search-using-7
     search-using-requires
     same-length
     returns)
