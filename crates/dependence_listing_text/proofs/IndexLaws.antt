@@ -9,7 +9,7 @@ use lib.Seq.{getD-append-add}
 use Rattle.integers.specs.Sign.{Sign, less, equal, greater}
 use Rattle.lists.specs.Membership.{Mem}
 use Rattle.lists.proofs.FlatMapLaws.{length-flatMap-even}
-use Rattle.lists.proofs.PartLaws.{row-fits}
+use Rattle.lists.proofs.PartLaws.{getD-map, row-fits}
 use Rattle.model.specs.Directions.{Kind, flow, kinds, Line, upFrom, signVectors, allLines, kindCount, vectorCount}
 use Rattle.model.specs.Grammar.{mostStatements}
 use Rattle.model.proofs.Steps.ChainLaws.{up-length, up-getD}
@@ -30,11 +30,6 @@ flatMap-getD f w (x ∷ l) zero r c e h a b = let i = h x (List·Memᴰ·head re
 flatMap-getD f w (x ∷ l) (suc j) r c e h a b = let i = h x (List·Memᴰ·head refl) in
     ap (λ k. getD (f x ++ flatMap f l) k e) (let s = suc-mul j w in let z : suc j * w + r ≡ length (f x) + (j * w + r) = omega arith in z)
     ∙ getD-append-add (f x) (flatMap f l) (j * w + r) e ∙ flatMap-getD f w l j r c e (λ y m. h y (List·Memᴰ·tail m)) (omega arith) b
-
-map-getD : {A B : Type 0} (f : A → B) (l : List A) (i : ℕ) (a : A) (b : B) → i < length l → getD (map f l) i b ≡ f (getD l i a)
-map-getD f [] i a b h = absurd (omega arith)
-map-getD f (x ∷ l) zero a b h = refl
-map-getD f (x ∷ l) (suc i) a b h = map-getD f l i a b (omega arith)
 
 -- ---- vectors by number
 
@@ -59,7 +54,7 @@ unfolding signVectors
 signVectors-at d c r h g = let l = signVectors-length d in
     flatMap-getD (λ s. map (λ v. s ∷ v) (signVectors d)) (stride d) (less ∷ equal ∷ greater ∷ []) c r equal []
     (λ s m. length-map (signVectors d) (λ v. s ∷ v) ∙ l) h g
-    ∙ map-getD (λ v. signAt c ∷ v) (signVectors d) r [] [] (omega arith)
+    ∙ getD-map (λ v. signAt c ∷ v) (signVectors d) r [] [] (omega arith)
 
 -- a number by its quotient and rest
 pub record Split (x w q : ℕ) : Type 0 where
@@ -163,7 +158,7 @@ module _ (n d : ℕ) where
       (let l = up-length 0 n in omega arith) (omega arith)
       ∙ ap (λ t. getD (ofSink s t) (k * stride d + w) none) (up-getD 0 n t b ∙ zero-add t)
       ∙ flatMap-getD (ofKind s t) (stride d) kinds k w flow none (λ k m. kind-length s t k) c e
-      ∙ map-getD (λ v. record { kind = getD kinds k flow; source = s; sink = t; vector = v }) (signVectors d) w [] none
+      ∙ getD-map (λ v. record { kind = getD kinds k flow; source = s; sink = t; vector = v }) (signVectors d) w [] none
       (let l = signVectors-length d in omega arith))
 
 -- ---- line i

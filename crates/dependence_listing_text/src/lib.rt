@@ -69,7 +69,8 @@ fn is_marked(marks: &[bool], n: usize, depth: usize, i: usize) -> bool
     marks[i * step + (step - 1) / 2]
 }
 
-fn letter(k: usize) -> u8
+// The letter of kind k.
+pub fn letter(k: usize) -> u8
     requires { ⌜ k < kindCount ⌝ }
     ensures { λ r. ⌜ r ≡ «letter-of» (getD kinds k flow) ⌝ }
 {

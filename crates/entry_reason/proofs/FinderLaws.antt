@@ -1,43 +1,38 @@
--- A finder of records. In order: the words of a ticket's records; the tool's answer by their number; rows of words; the search of a ticket that was
--- read; a finder before its first record, with more words, and with a record given.
+-- A finder of records. In order: the tool's answer by the number of records; the words of a ticket's records; a finder before its first record, with
+-- more words, and with a record given.
 use mathlib.Core.Path.{_≡_, refl, sym, ap, ap₂, _∙_, subst}
-use mathlib.Core.Bool.{Bool, true, false, cond}
-use mathlib.Core.Logic.{_⊎_, inl, inr, ⊎-elim}
-use mathlib.Core.List.{List, [], _∷_, _++_, map}
-use Prim.Native.Nat.{ℕ, zero, suc, _+_, _*_, _-_, _≤_, _<_, min}
-use native.Mathlib.Omega.{arith}
-use lib.IntN.{ℤ, pos}
-use lib.ListN.{length, getD, take, drop, replicate, length-map, length-append}
-use lib.ListN.{length-drop}
-use lib.Seq.{take-all, length-take-le, getD-take, getD-drop}
+use mathlib.Core.Bool.{cond}
+use mathlib.Core.List.{List, [], _∷_, _++_, map, map-map}
+use Prim.Native.Nat.{ℕ, zero, suc, _+_, _-_, _≤_, _<_, min}
 use native.Mathlib.Nat.{zero-add, suc-add}
+use native.Mathlib.Omega.{arith}
 use lib.Dec.{eqb, eqb→eq}
-use Rattle.lists.proofs.TestLaws.{not-T-false}
-use Rattle.entry_packing.specs.Packed.{packed}
-use Rattle.pair_records.specs.declared.Walked.{Walked}
+use lib.IntN.{ℤ, pos}
+use lib.ListN.{length, getD, take, drop, replicate, length-map, length-append, length-drop}
+use lib.Seq.{take-all, length-take-le, getD-take, getD-drop}
 use Rattle.lists.specs.Parts.{rows}
-use Rattle.lists.proofs.PartLaws.{rows-getD, row-fits}
-use Rattle.model.specs.Answer.{Answer, accepted, refused, _>>=_}
-use Rattle.model.specs.Ticket.{Ticket, Nest, Step}
+use Rattle.lists.proofs.TestLaws.{not-T-false}
+use Rattle.lists.proofs.PartLaws.{getD-map, rows-getD, row-fits}
+use Rattle.model.specs.Answer.{Answer, accepted, refused}
+use Rattle.model.specs.Ticket.{Nest, Step}
 use Rattle.model.specs.Grammar.{decode, ticketLoops}
-use Rattle.model.specs.Points.{iterations}
-use Rattle.model.specs.Bounds.{space, admitted}
 use Rattle.model.specs.Directions.{flow}
-use Rattle.model.specs.Judge.{admit, admitOf}
+use Rattle.model.specs.Judge.{admitOf}
 use Rattle.model.specs.Entries.{judge}
-use Rattle.model.specs.Pairs.{Pair, Record, recordOf, indicesIn, traded, tradedAt, tableAlone, pairs, explain, reasonOf, reason}
+use Rattle.model.specs.Pairs.{Pair, Record, recordOf, indicesIn, traded, tradedAt, explain, reason}
 use Rattle.model.specs.Promises.{ReasonFits}
 use Rattle.model.proofs.Demands.{reason-fits}
 use Rattle.model.proofs.Promise.ReasonToolLaws.{at-ten, reason-judge}
-use Rattle.entry_packing.specs.Packed.{fields}
+use Rattle.entry_packing.specs.Packed.{fields, packed}
 use Rattle.pair_records.specs.Conflicts.{recordRoom}
 use Rattle.pair_records.specs.Windows.{batch, batchRoom}
+use Rattle.pair_records.specs.declared.Walked.{Walked}
 use Rattle.pair_search.specs.Searches.{recordWordsOf, wordsFrom, wordsBefore, Searched}
 use Rattle.pair_search.proofs.WordLaws.{words-all, words-parts, before-first}
 use Rattle.entry_reason.specs.declared.Pair as Declared
 use Rattle.entry_reason.specs.declared.Finder.{Finder}
 use Rattle.entry_reason.specs.Records.{pairOf, recordsAt, recordsFound, foundIn, packedReason}
-use Rattle.entry_reason.specs.Finders.{TenAt, nestIn, stepsIn, RecordAt, Finding, Ready, Begun, Given, Refilled, gave, noPair}
+use Rattle.entry_reason.specs.Finders.{TenAt, nestIn, stepsIn, RecordAt, Finding, Begun, Given, Refilled, gave, noPair}
 
 -- ---- the tool's answer by the number of records
 
@@ -53,15 +48,6 @@ explained-few k (r ∷ rs) h = h .1
 
 -- ---- the words of a ticket's records
 
-map-twice : {A B C : Type 0} (f : A → B) (g : B → C) (l : List A) → map (λ x. g (f x)) l ≡ map g (map f l)
-map-twice f g [] = refl
-map-twice f g (x ∷ l) = ap (g (f x) ∷_) (map-twice f g l)
-
-map-at : {A B : Type 0} (f : A → B) (l : List A) (i : ℕ) (a : A) (d : B) → i < length l → getD (map f l) i d ≡ f (getD l i a)
-map-at f [] i a d h = absurd (omega arith)
-map-at f (x ∷ l) zero a d h = refl
-map-at f (x ∷ l) (suc i) a d h = map-at f l i a d (omega arith)
-
 module _ {b : List ℕ} {step : ℕ} (t : TenAt b step) where
   abbrev pub allWords : List (List ℤ)
   allWords = wordsFrom (stepsIn t) (nestIn t) 0
@@ -72,7 +58,7 @@ module _ {b : List ℕ} {step : ℕ} (t : TenAt b step) where
       ∙ ap (λ a. map recordOf (tradedAt a step)) (t .admits)
 
   pub words-are : allWords ≡ map recordWordsOf (recordsFound b)
-  words-are = words-all (stepsIn t) (nestIn t) ∙ map-twice recordOf recordWordsOf (traded (stepsIn t) (nestIn t))
+  words-are = words-all (stepsIn t) (nestIn t) ∙ sym (map-map recordWordsOf recordOf (traded (stepsIn t) (nestIn t)))
       ∙ ap (map recordWordsOf) (sym records-are)
 
   pub words-count : length allWords ≡ length (foundIn b)
@@ -244,7 +230,7 @@ module _ {b : List ℕ} {step : ℕ} (t : TenAt b step) (i : ℕ) (l : i < lengt
   its-pair : (r : Pair) × (recordOf r ≡ recordNo)
   its-pair = let e = records-are t in let ps = traded (stepsIn t) (nestIn t) in let n = length-map ps recordOf in let h = there in
       let m = ap length e in
-      (getD ps i nothing, sym (ap (λ rs. getD rs i none) e ∙ map-at recordOf ps i nothing none (omega arith)))
+      (getD ps i nothing, sym (ap (λ rs. getD rs i none) e ∙ getD-map recordOf ps i nothing none (omega arith)))
 
   source-four : length (recordNo .source) ≡ ticketLoops
   unfolding recordOf
@@ -255,11 +241,11 @@ module _ {b : List ℕ} {step : ℕ} (t : TenAt b step) (i : ℕ) (l : i < lengt
   sink-four = subst (λ (r : Record). length (r .sink) ≡ ticketLoops) (its-pair .1) (indices-four (its-pair .0 .sink .iteration))
 
   words-at : getD (allWords t) i [] ≡ recordWordsOf recordNo
-  words-at = ap (λ ws. getD ws i []) (words-are t) ∙ map-at recordWordsOf (recordsFound b) i none [] there
+  words-at = ap (λ ws. getD ws i []) (words-are t) ∙ getD-map recordWordsOf (recordsFound b) i none [] there
 
   pub pair-no : (d : Declared.Pair) → pairOf recordNo ≡ getD (foundIn b) i d
   unfolding foundIn
-  pair-no d = sym (map-at pairOf (recordsFound b) i none d there)
+  pair-no d = sym (getD-map pairOf (recordsFound b) i none d there)
 
 module _ {b : List ℕ} (f : Finder) (h : Finding b f) (l : f .given < length (foundIn b)) (g : f .given < f .first + f .got) where
   -- the next record stands among the words

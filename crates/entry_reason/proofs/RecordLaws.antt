@@ -1,23 +1,18 @@
 -- The records of a ticket. In order: a struct and its record; what the tool answers and leaves, by the records found; a ticket that is refused
 -- with 10.
-use mathlib.Core.Path.{_≡_, refl, sym, ap, ap₂, _∙_, subst}
+use mathlib.Core.Path.{_≡_, refl, sym, ap, ap₂, _∙_}
 use mathlib.Core.Bool.{Bool, true, false, cond}
-use mathlib.Core.Logic.{_⊎_, inl, inr, ⊎-elim}
 use mathlib.Core.List.{List, [], _∷_, _++_, map, map-append}
-use Prim.Native.Nat.{ℕ, zero, suc, _+_, _≤_, _<_}
-use native.Mathlib.Omega.{arith}
-use lib.Dec.{T, eqb, eqb→eq}
+use Prim.Native.Nat.{ℕ, zero, suc}
+use lib.Dec.{eqb}
 use lib.ListN.{length, take, drop, length-map}
-use Rattle.lists.proofs.TestLaws.{not-T-false}
 use Rattle.model.specs.Answer.{Answer, accepted, refused}
-use Rattle.model.specs.Ticket.{Ticket}
 use Rattle.model.specs.Grammar.{decode}
-use Rattle.model.specs.Judge.{admit, admitOf}
+use Rattle.model.specs.Judge.{admitOf}
 use Rattle.model.specs.Entries.{judge}
-use Rattle.model.specs.Pairs.{Record, recordOf, fill, traded, tradedAt, Reason, verdict, tableAlone, pairs, Reasoned, explain, explainTen, reasonOf, reason}
-use Rattle.entry_packing.specs.Packed.{fields, packed}
+use Rattle.model.specs.Pairs.{Record, recordOf, fill, tradedAt, verdict, explain, explainTen, reasonOf, reason}
 use Rattle.entry_reason.specs.declared.Pair.{Pair}
-use Rattle.entry_reason.specs.Records.{recordIn, pairOf, recordsIn, recordsAt, recordsFound, foundIn, filled, packedReason}
+use Rattle.entry_reason.specs.Records.{recordIn, pairOf, recordsIn, recordsAt, recordsFound, foundIn}
 
 -- ---- a struct and its record
 
@@ -39,8 +34,8 @@ drop-records zero l = refl
 drop-records (suc n) [] = refl
 drop-records (suc n) (p ∷ l) = drop-records n l
 
-records-filled : (rs : List Record) (l : List Pair) → recordsIn (filled (map pairOf rs) l) ≡ fill rs (recordsIn l)
-unfolding filled fill
+records-filled : (rs : List Record) (l : List Pair) → recordsIn (fill (map pairOf rs) l) ≡ fill rs (recordsIn l)
+unfolding fill
 records-filled rs l =
     map-append recordIn (take (length l) (map pairOf rs)) (drop (length (map pairOf rs)) l)
     ∙ ap₂ _++_ (take-records (length l) (map pairOf rs) ∙ ap₂ take (sym (length-map l recordIn)) (records-pairs rs))
@@ -82,7 +77,7 @@ explained-answer found l m (refused n p) = by (eqb n 10)
     by false = refl
 
 -- what the list holds in the end
-pub reasoned-list : (b : List ℕ) (ys : List Pair) → recordsIn (filled (foundIn b) ys) ≡ reason b (recordsIn ys) .list
+pub reasoned-list : (b : List ℕ) (ys : List Pair) → recordsIn (fill (foundIn b) ys) ≡ reason b (recordsIn ys) .list
 unfolding foundIn recordsFound reasonOf
 reasoned-list b ys = records-filled (recordsFound b) ys
     ∙ sym (explained-list (λ k. map recordOf (tradedAt (admitOf (decode b)) k)) (recordsIn ys) (judge b))

@@ -1,9 +1,8 @@
 -- The records of a ticket, as the lent list has them, and the tool's answer in one number.
 use mathlib.Core.Bool.{cond}
-use mathlib.Core.List.{List, [], _++_, map}
+use mathlib.Core.List.{List, [], map}
 use Prim.Native.Nat.{ℕ}
 use lib.Dec.{eqb}
-use lib.ListN.{length, take, drop}
 use Rattle.model.specs.Answer.{Answer, accepted, refused}
 use Rattle.model.specs.Grammar.{decode}
 use Rattle.model.specs.Judge.{admitOf}
@@ -44,10 +43,6 @@ recordsFound b = recordsAt (judge b) (λ k. map recordOf (tradedAt (admitOf (dec
 
 unfoldable pub foundIn : List ℕ → List Pair
 foundIn b = map pairOf (recordsFound b)
-
--- as many as the list has are filled; those beyond keep their contents
-unfoldable pub filled : List Pair → List Pair → List Pair
-filled rs list = take (length list) rs ++ drop (length rs) list
 
 -- pairs are number 0, the step and their count; by the table alone is number 0, the step and 0
 unfoldable pub packedReason : Reason → ℕ

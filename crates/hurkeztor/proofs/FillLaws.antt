@@ -9,8 +9,7 @@ use lib.Dec.{leb, leb→le, nleb→lt, not-T}
 use lib.ListN.{length, getD, set, take, drop, drop-of-length-le}
 use lib.Seq.{take-all, take-length, drop-length}
 use Rattle.lists.proofs.TestLaws.{T-cases}
-use Rattle.entry_reason.specs.declared.Pair.{Pair}
-use Rattle.entry_reason.specs.Records.{filled}
+use Rattle.model.specs.Pairs.{fill}
 
 module _ {A : Type 0} where
   abbrev pub mixed : ℕ → List A → List A → List A
@@ -29,15 +28,15 @@ module _ {A : Type 0} where
   length-mixed (suc k) (r ∷ rs) [] h g = absurd (omega arith)
   length-mixed (suc k) (r ∷ rs) (y ∷ ys) h g = ap suc (length-mixed k rs ys (omega arith) (omega arith))
 
--- ---- the filled list
+  -- ---- the filled list
 
-pub all-in : (rs ys : List Pair) → mixed (min (length rs) (length ys)) rs ys ≡ filled rs ys
-unfolding filled
-all-in rs ys = ⊎-elim
-    (λ t. let h = leb→le (length rs) (length ys) t in
-    ap (λ m. mixed m rs ys) (let q : min (length rs) (length ys) ≡ length rs = omega arith in q)
-    ∙ ap (_++ drop (length rs) ys) (take-length rs ∙ sym (take-all (length ys) rs h)))
-    (λ t. let h = nleb→lt (length rs) (length ys) (not-T (leb (length rs) (length ys)) t) in
-    ap (λ m. mixed m rs ys) (let q : min (length rs) (length ys) ≡ length ys = omega arith in q)
-    ∙ ap (take (length ys) rs ++_) (drop-length ys ∙ sym (drop-of-length-le ys {i = length rs} (omega arith))))
-    (T-cases (leb (length rs) (length ys)))
+  pub all-in : (rs ys : List A) → mixed (min (length rs) (length ys)) rs ys ≡ fill rs ys
+  unfolding fill
+  all-in rs ys = ⊎-elim
+      (λ t. let h = leb→le (length rs) (length ys) t in
+      ap (λ m. mixed m rs ys) (let q : min (length rs) (length ys) ≡ length rs = omega arith in q)
+      ∙ ap (_++ drop (length rs) ys) (take-length rs ∙ sym (take-all (length ys) rs h)))
+      (λ t. let h = nleb→lt (length rs) (length ys) (not-T (leb (length rs) (length ys)) t) in
+      ap (λ m. mixed m rs ys) (let q : min (length rs) (length ys) ≡ length ys = omega arith in q)
+      ∙ ap (take (length ys) rs ++_) (drop-length ys ∙ sym (drop-of-length-le ys {i = length rs} (omega arith))))
+      (T-cases (leb (length rs) (length ys)))

@@ -1,5 +1,5 @@
--- Laws of parts of a flat list. In order: a part of a front; a part overwritten (`put`), its length, one write after another, a store
--- as a write, what is read back; rows (`rows`), one more, one of them, the rows of a list that was changed, the parts of `flatMap`.
+-- Laws of parts of a flat list. In order: an element of a mapped list; a part of a front; a part overwritten (`put`), its length, one write after
+-- another, a store as a write, what is read back; rows (`rows`), one more, one of them, the rows of a list that was changed, the parts of `flatMap`.
 -- Not here: `take`, `drop`, `set`, `getD` themselves (`lib.Seq`, `lib.ListN`).
 use mathlib.Core.Path.{_≡_, refl, sym, ap, ap₂, _∙_, subst}
 use mathlib.Core.List.{List, [], _∷_, _++_, map, flatMap, append-assoc, List·Memᴰ·head, List·Memᴰ·tail}
@@ -13,6 +13,13 @@ use lib.Seq.{length-take-le, take-nil, take-append-le, take-at, take-take, take-
 use Rattle.lists.specs.Membership.{Mem, All}
 use Rattle.lists.specs.Parts.{rows, put}
 use Rattle.lists.proofs.MembershipLaws.{all-nil, all-cons}
+
+-- ---- an element of a mapped list, whatever stands beyond both
+
+pub getD-map : {A B : Type 0} (f : A → B) (l : List A) (i : ℕ) (a : A) (b : B) → i < length l → getD (map f l) i b ≡ f (getD l i a)
+getD-map f [] i a b h = absurd (omega arith)
+getD-map f (x ∷ l) zero a b h = refl
+getD-map f (x ∷ l) (suc i) a b h = getD-map f l i a b (omega arith)
 
 module _ {ℓ} {A : Type ℓ} where
   -- ---- a part of a front

@@ -70,7 +70,7 @@ recordOf r = record {
 }
 
 -- as many as the list has are filled; those beyond the records found keep their contents
-unfoldable pub fill : List Record → List Record → List Record
+unfoldable pub fill : {A : Type 0} → List A → List A → List A
 fill rs list = take (length list) rs ++ drop (length rs) list
 
 -- ---- the tool

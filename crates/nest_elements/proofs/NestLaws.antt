@@ -1,14 +1,14 @@
 -- Refusal 9 and the numbers of the accesses of a flat nest are those of the nest that it stands for.
-use mathlib.Core.Path.{_≡_, refl, sym, _∙_, ap, subst}
+use mathlib.Core.Path.{_≡_, sym, _∙_, ap, subst}
 use mathlib.Core.Bool.{false}
-use mathlib.Core.List.{List, [], _∷_, map}
-use Prim.Native.Nat.{ℕ, zero, suc, _+_, _*_, _<_}
+use mathlib.Core.List.{List, []}
+use Prim.Native.Nat.{ℕ, _+_, _*_, _<_}
 use native.Mathlib.Omega.{arith}
 use lib.Dec.{T}
 use lib.IntN.{ℤ}
 use lib.ListN.{length, getD}
 use Rattle.lists.specs.Parts.{rows}
-use Rattle.lists.proofs.PartLaws.{length-rows}
+use Rattle.lists.proofs.PartLaws.{getD-map, length-rows}
 use Rattle.lists.proofs.MembershipLaws.{getD-mem}
 use Rattle.model.specs.Ticket.{Access}
 use Rattle.model.specs.Bounds.{inArrays, violates}
@@ -25,11 +25,6 @@ use Rattle.nest_elements.proofs.NumberLaws.{numbered, same-out, stored-
 use Rattle.nest_flat.specs.FlatNests.{FlatNest, extentsIn, sizesIn, accessedIn, wordsIn, nestOf, FlatNestIn, accessOf}
 use Rattle.nest_elements.specs.Nests.{NestViolationIn, NestSearched, NestNumberIn, NumbersAre}
 use Rattle.nest_flat.proofs.FlatNestLaws.{bodies-are, access-is, access-fits, accessed-count, sizes-count}
-
-getD-map : {A B : Type 0} (f : A → B) (l : List A) (i : ℕ) (d : A) (e : B) → i < length l → getD (map f l) i e ≡ f (getD l i d)
-getD-map f [] i d e h = absurd (omega arith)
-getD-map f (x ∷ l) zero d e h = refl
-getD-map f (x ∷ l) (suc i) d e h = getD-map f l i d e (omega arith)
 
 module _ (P : FlatNest) where
   -- ---- refusal 9

@@ -4,7 +4,7 @@ use mathlib.Core.Path.{_≡_, refl, sym, ap, ap₂, _∙_, subst}
 use mathlib.Core.Bool.{Bool, true, false, cond, _&&_, _||_}
 use mathlib.Core.Logic.{⊎-elim}
 use mathlib.Core.List.{List}
-use Prim.Native.Nat.{ℕ, zero, suc, _+_, _*_, _≤_, _<_}
+use Prim.Native.Nat.{ℕ, suc, _+_, _*_, _≤_, _<_}
 use native.Mathlib.Omega.{arith}
 use native.Mathlib.Decide.{ℕ-discrete}
 use native.Mathlib.Nat.{eq-or-lt-of-le}
@@ -18,7 +18,7 @@ use Rattle.lists.proofs.TestLaws.{true-T, and-both, cond-cases}
 use Rattle.lists.proofs.PartLaws.{row-fits}
 use Rattle.dependence_pair_search.specs.Search.{some}
 use Rattle.dependence_pair_search.proofs.SomeLaws.{some-there}
-use Rattle.pair_partners.specs.Chains.{numberAt, names, First, Numbered, Heads, LinkedAt, LinkedFrom, Links}
+use Rattle.pair_partners.specs.Chains.{numberAt, names, First, Heads, LinkedAt, LinkedFrom, Links}
 use Rattle.pair_partners.specs.Partners.{meetsAccess, Least}
 
 -- ---- the first number that passes

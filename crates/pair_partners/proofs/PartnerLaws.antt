@@ -3,7 +3,7 @@ use mathlib.Core.Path.{_≡_, refl, sym, ap, ap₂, _∙_, subst}
 use mathlib.Core.Bool.{Bool, true, false, cond, _&&_}
 use mathlib.Core.Logic.{_⊎_, ⊎-elim}
 use mathlib.Core.List.{List, [], _∷_, _++_, append-nil}
-use Prim.Native.Nat.{ℕ, zero, suc, _+_, _*_, _-_, _≤_, _<_}
+use Prim.Native.Nat.{ℕ, suc, _+_, _*_, _-_, _≤_, _<_}
 use native.Mathlib.Omega.{arith}
 use native.Mathlib.Nat.{add-zero, eq-or-lt-of-le}
 use lib.Dec.{eqb}
@@ -12,7 +12,6 @@ use lib.ListN.{length, getD, set, take, drop, length-set}
 use lib.Seq.{drop-cons, take-suc-set}
 use native.Mathlib.Numerals.{add-one}
 use Rattle.lists.specs.Tests.{select}
-use Rattle.lists.specs.Membership.{Mem}
 use Rattle.lists.proofs.TestLaws.{true-T, T-true, not-T-false, false-not-T, select-append, select-none}
 use Rattle.dependence_pair_search.specs.Search.{some}
 use Rattle.dependence_pair_search.proofs.SomeLaws.{some-there, there-some}

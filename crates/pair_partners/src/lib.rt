@@ -3,7 +3,7 @@ ghost use mathlib.Core.Path.{_≡_};
 ghost use mathlib.Core.Bool.{false, cond, _||_};
 ghost use Prim.Native.Nat.{ℕ, suc, _+_, _*_, _≤_, _<_};
 ghost use lib.ListN.{length, getD, take};
-ghost use Rattle.model.specs.Grammar.{mostPoints, mostAccesses};
+ghost use Rattle.model.specs.Grammar.{mostPoints};
 ghost use Rattle.pair_partners.specs.Chains.{numberAt, names, Numbered, LinkedFrom, Links};
 ghost use Rattle.pair_partners.specs.Partners.{rowBefore, partners, ChainsAt, Least, RowsOf};
 use model::ACCESSES;
@@ -56,7 +56,7 @@ fn counts(writes: &[bool], all: bool, k: usize) -> bool
     writes[k]
 }
 
-// Makes x the head of the elements that it names.
+// Makes x the head of the elements that it names; unless `all`, of those that it writes.
 fn head_point(
     numbers: &[u16],
     writes: &[bool],
@@ -80,7 +80,8 @@ fn head_point(
     }
 }
 
-// Links all points to the next that names an element, if `all`, or else to the next that writes it. Lent is room for a head of each element.
+// Links each access of every point to the next point that names its element; unless `all`, to the next that writes it. Lent is room for a head of
+// each element.
 fn link_points(
     numbers: &[u16],
     writes: &[bool],
@@ -103,7 +104,7 @@ fn link_points(
     }
 }
 
-// Links all points both ways.
+// Links each access of every point in both tables.
 pub fn link_all(
     numbers: &[u16],
     writes: &[bool],
@@ -125,7 +126,7 @@ pub fn link_all(
 
 // An access of point y that names element e; one does.
 fn access_naming(numbers: &[u16], count: usize, accesses: usize, y: usize, e: u16) -> usize
-    requires { ⌜ (count ≤ mostPoints) × (accesses ≤ mostAccesses) × (accesses * count ≤ length (now numbers)) × (y < count)
+    requires { ⌜ (accesses * count ≤ length (now numbers)) × (y < count)
         × ((k : ℕ) × (k < accesses) × (numberAt (now numbers) count k y ≡ e)) ⌝ }
     ensures { λ r. ⌜ (r < accesses) × (numberAt (now (numbers .entry)) count r y ≡ e) ⌝ }
 {
@@ -139,7 +140,7 @@ fn access_naming(numbers: &[u16], count: usize, accesses: usize, y: usize, e: u1
     0
 }
 
-// The link at a place: of a write to all that name its element, of a read to those that write it.
+// The link at a place in the table that access k follows: a write meets all that name its element, a read those that write it.
 fn link_of(writes: &[bool], named: &[u16], written: &[u16], k: usize, place: usize) -> u16
     requires { ⌜ (k < length (now writes)) × (place < length (now named)) × (place < length (now written)) ⌝ }
     ensures { λ r. ⌜ r ≡ cond (getD (now (writes .entry)) k false) (getD (now (named .entry)) place 0) (getD (now (written .entry)) place 0) ⌝ }

@@ -1,5 +1,5 @@
 -- Laws of a record's words: the indices of a point, the words as they are written, and how many they are.
-use mathlib.Core.Path.{_≡_, refl, sym, ap, _∙_, subst}
+use mathlib.Core.Path.{_≡_, sym, ap, _∙_, subst}
 use mathlib.Core.List.{List, [], _∷_, _++_, append-assoc}
 use Prim.Native.Nat.{ℕ, zero, suc, _+_, _*_, _-_, _/_, _%_, _≤_, _<_}
 use native.Mathlib.Nat.{mul-le-mul, div-lt-iff-lt-mul, mod-lt}
@@ -130,13 +130,6 @@ record-written s d m x y j o o₁ o₂ at a b c e f ea eb ec h =
 pub narrowed : (z : ℤ) → size z ≤ 32767 → (SFits w16 (toZ w64 (ofZ w64 z))) × (toZ w16 (ofZ w16 (toZ w64 (ofZ w64 z))) ≡ z)
 narrowed z h = let e = back {z = z} (size-fits h (omega arith)) in let f = word-fits {z = z} h in
     (subst (SFits w16) (sym e) f, ap (λ y. toZ w16 (ofZ w16 y)) e ∙ toZ-ofZ f)
-
-pub letter-is : (k n : ℕ) → k < kindCount → (k ≡ 0 → n ≡ 70) → (k ≡ 1 → n ≡ 65) → (k ≡ 2 → n ≡ 79) → pos n ≡ pos (letter (getD kinds k flow))
-unfolding letter kinds
-letter-is zero n h a b c = ap pos (a refl)
-letter-is (suc zero) n h a b c = ap pos (b refl)
-letter-is (suc (suc zero)) n h a b c = ap pos (c refl)
-letter-is (suc (suc (suc k))) n h a b c = absurd (omega arith)
 
 pub near-read : (z : ℤ) → size z ≤ 32767 → (size (toZ w64 (ofZ w64 z)) ≤ 32767) × (toZ w64 (ofZ w64 z) ≡ z)
 near-read z h = let e = back {z = z} (size-fits h (omega arith)) in (subst (λ y. size y ≤ 32767) (sym e) h, e)

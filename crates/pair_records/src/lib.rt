@@ -76,13 +76,7 @@ fn letter_word(kind: usize) -> i16
     requires { ⌜ kind < kindCount ⌝ }
     ensures { λ r. ⌜ r ≡ pos (letter (getD kinds kind flow)) ⌝ }
 {
-    if kind == 0 {
-        return 70;
-    }
-    if kind == 1 {
-        return 65;
-    }
-    79
+    number_word(dependence_listing_text::letter(kind) as usize)
 }
 
 // Writes the indices of point x, with 0 for loops that are not there.

@@ -2,7 +2,7 @@
 use mathlib.Core.Path.{_≡_, refl, sym, ap, _∙_, subst}
 use mathlib.Core.Bool.{Bool, true, false}
 use mathlib.Core.List.{List}
-use Prim.Native.Nat.{ℕ, zero, suc, _*_, _≤_, _<_}
+use Prim.Native.Nat.{ℕ, zero, suc, _*_, _≤_}
 use native.Mathlib.Nat.{mul-le-mul, mul-comm}
 use native.Mathlib.Omega.{arith}
 use lib.Dec.{leb}
@@ -17,7 +17,7 @@ use Rattle.model.specs.Bounds.{inArrays, admitted}
 use Rattle.model.specs.Grammar.{total, ticketLoops, mostLoops, mostPoints, mostElements, mostNumbers}
 use Rattle.model.proofs.Points.WithinLaws.{space-within}
 use Rattle.dependence_vectors.specs.Numbers.{marksFor}
-use Rattle.dependence_search.specs.Flat.{Flat, flat}
+use Rattle.dependence_search.specs.Flat.{Flat}
 use Rattle.dependence_marks.specs.Lines.{LinesIn}
 use Rattle.dependence_marks.specs.Uses.{writtenIn, UsesAre}
 use Rattle.dependence_marks.specs.declared.Uses.{Uses}

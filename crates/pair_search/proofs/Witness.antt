@@ -1,6 +1,6 @@
 -- A real ticket meets what the functions ask: one loop from 1 to 1, an array of one element, a statement that stores 0 in it, and a reversal.
-use mathlib.Core.Path.{_≡_, refl, sym, ap, ap₂, _∙_}
-use mathlib.Core.Bool.{Bool, true, false}
+use mathlib.Core.Path.{_≡_, refl, sym, ap, _∙_}
+use mathlib.Core.Bool.{true}
 use mathlib.Core.List.{List, [], _∷_, flatMap, List·Memᴰ·head}
 use Prim.Native.Nat.{ℕ, zero, suc, _+_, _*_, _<_}
 use native.Mathlib.Omega.{arith}
@@ -13,7 +13,7 @@ use Rattle.lists.proofs.MembershipLaws.{all-nil, all-cons}
 use Rattle.integers.specs.Affine.{Within, affine, dot}
 use Rattle.integers.specs.Division.{floorDiv, ceilDiv}
 use Rattle.model.specs.Answer.{accepted, require, _>>_, _>>=_}
-use Rattle.model.specs.Grammar.{elements, total, extents, depthAfter, mostElements}
+use Rattle.model.specs.Grammar.{elements, total, extents, depthAfter}
 use Rattle.model.specs.Points.{largest, smallest, value, firstIndex, lastIndex, span, ints, indices, points, partialPoints, iterations}
 use Rattle.model.specs.Bounds.{lastOf, beyond, survey, space, subscriptAt, outside, violates, accessesOf, inArrays}
 use Rattle.model.specs.Machine.{element}
@@ -37,7 +37,7 @@ use Rattle.step_points.specs.Points.{reach, afterSteps, PointsMoved}
 use Rattle.ticket_decoding.specs.Ticket.{ticketOn, TicketIn}
 use Rattle.ticket_encoding.proofs.Witness.{encodable}
 use Rattle.ticket_admission.specs.CountedTickets.{Laid}
-use Rattle.pair_partners.specs.Chains.{LinkedFrom, Links}
+use Rattle.pair_partners.proofs.Witness as Partners
 use Rattle.pair_records.specs.Windows.{batchRoom}
 use Rattle.pair_search.specs.Searches.{SearchIn}
 use Rattle.pair_search.specs.Rooms.{Few, Lent, Linked}
@@ -170,34 +170,11 @@ writes-are : true ∷ [] ≡ writtenIn (sizesIn storing)
 unfolding writtenIn firstWritten
 writes-are = refl
 
-links-are : Links (0 ∷ []) (true ∷ []) 1 1 (1 ∷ []) (1 ∷ [])
-links-are = record {
-  few-points = omega arith;
-  few-accesses = omega arith;
-  numbers = omega arith;
-  writes = omega arith;
-  named-room = omega arith;
-  written-room = omega arith;
-  to-named = none-next true;
-  to-written = none-next false;
-}
-  where
-    none-next : (all : Bool) → LinkedFrom (0 ∷ []) (true ∷ []) 1 1 all 0 (1 ∷ [])
-    none-next all zero a h zero g = record {
-      after = omega arith;
-      inside = omega arith;
-      passed = λ z u v. absurd (omega arith);
-      there = λ u. absurd
-          (omega arith);
-    }
-    none-next all zero a h (suc k) g = absurd (omega arith)
-    none-next all (suc y) a h k g = absurd (omega arith)
-
 pub linked : Linked storing reversing 1 1 point (0 ∷ []) (true ∷ []) (1 ∷ []) (1 ∷ []) moved 1
 linked = record {
   points-are = points-are;
   moved-are = moved-are;
   numbers-are = numbers-are;
   writes-are = writes-are;
-  links-are = links-are;
+  links-are = Partners.linked;
 }

@@ -1,5 +1,5 @@
 -- `access_naming`. The loop's invariant: no access before k names the element.
-use mathlib.Core.Path.{_≡_, refl}
+use mathlib.Core.Path.{_≡_}
 use Prim.Native.Nat.{ℕ, _-_, _≤_, _<_}
 use native.Mathlib.Omega.{arith}
 use borrow.Author.Needs.{needs}
@@ -20,20 +20,20 @@ loop-holds c = (omega arith, λ j h. absurd (omega arith))
 
 mul-if1 : tie.Need-mul-if1 Inv-loop μ-loop
 mul-if1 c = let s = c .before .before in let f = number-fits (s .args .count) (s .args .accesses) (c .before .loop .k) (s .args .y) _
-    (c .loop-test .taken) (s .pre .3) (s .pre .2) in omega arith
+    (c .loop-test .taken) (s .pre .1) (s .pre .0) in omega arith
 
 add-if1 : tie.Need-add-if1 Inv-loop μ-loop
 add-if1 c = let s = c .before .before in let f = number-fits (s .args .count) (s .args .accesses) (c .before .loop .k) (s .args .y) _
-    (c .loop-test .taken) (s .pre .3) (s .pre .2) in omega arith
+    (c .loop-test .taken) (s .pre .1) (s .pre .0) in omega arith
 
 mul-if1-2 : tie.Need-mul-if1-2 Inv-loop μ-loop
 mul-if1-2 c = let s = c .before .before in let f = number-fits (s .args .count) (s .args .accesses) (c .before .loop .k) (s .args .y) _
-    (c .loop-test .taken) (s .pre .3) (s .pre .2) in omega arith
+    (c .loop-test .taken) (s .pre .1) (s .pre .0) in omega arith
 
 shared-slice-read-if1 : tie.Need-shared-slice-read-if1 Inv-loop μ-loop
 shared-slice-read-if1 c = let s = c .before .before .before in
-    let f = number-fits (s .args .count) (s .args .accesses) (c .before .before .loop .k) (s .args .y) _ (c .before .loop-test .taken) (s .pre .3)
-    (s .pre .2) in omega arith
+    let f = number-fits (s .args .count) (s .args .accesses) (c .before .before .loop .k) (s .args .y) _ (c .before .loop-test .taken) (s .pre .1)
+    (s .pre .0) in omega arith
 
 returns : tie.Need-returns Inv-loop μ-loop
 returns c = (c .before .before .loop-test .taken, c .if1 .taken)
@@ -52,7 +52,7 @@ loop-again c = let s = c .before .before .before .before in let l = c .before .b
     )
 
 returns-2 : tie.Need-returns-2 Inv-loop μ-loop
-returns-2 c = let s = c .before .before in let l = c .before .loop in let t = c .loop-test .left in let w = s .pre .4 in let b = w .1 in
+returns-2 c = let s = c .before .before in let l = c .before .loop in let t = c .loop-test .left in let w = s .pre .2 in let b = w .1 in
     absurd (l .inv .1 (w .0) (omega arith) (w .2))
 
 pub access-naming-spec : {M : Type 1} → statement M

@@ -63,8 +63,6 @@ access-naming-requires c κs = let s = c .before .before .before .before .before
     let l = c .before .before .before .before .before .loop in
     let e : getD (l .chains) (l .k) 0 ≡ a .y = sym (c .before .before .to-index .ensures) ∙ c .before .if1 .taken in
     let f = l .inv .2 .1 (l .k) (omega arith) (c .before .before .before .before .loop-test .taken) in (
-      s .pre .0 .few-points,
-      s .pre .0 .few-accesses,
       s .pre .0 .numbers,
       s .pre .2,
       names-at (a .numbers .now) (a .writes .now) (a .count) (a .accesses) (getD (a .writes .now) (l .k) false)

@@ -1,7 +1,6 @@
 -- `link_of`: by cases of the access.
 use mathlib.Core.Path.{sym, ap}
 use mathlib.Core.Bool.{Bool, cond}
-use Prim.Native.Nat.{ℕ}
 use lib.ListN.{getD}
 use borrow.Author.Needs.{needs}
 use Rattle.pair_partners.proofs.link_of.Statement.{statement}
