@@ -108,7 +108,8 @@ between-parts a b c h g = ap (upFrom a) (let q : c - a ≡ (b - a) + (c - b) = o
 
 module _ (ids : List ℕ) (ws : List Bool) (n m x : ℕ) where
   -- the least point that a chain has come to is the first that conflicts
-  pub least-conflicts : (y r : ℕ) (chains : List ℕ) → y ≤ n → ChainsAt ids ws n m x y chains → Least m n chains r → First (conflicting ids ws n m x) y n r
+  pub least-conflicts : (y r : ℕ) (chains : List ℕ) → y ≤ n → ChainsAt ids ws n m x y chains → Least m n chains r
+      → First (conflicting ids ws n m x) y n r
   unfolding conflicting
   least-conflicts y r chains b h g = record {
     after = ⊎-elim (λ e. omega arith) (λ l. let k = g .among l in let a = h (k .0) (k .1) .after in let e = k .2 in

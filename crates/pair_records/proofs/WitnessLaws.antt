@@ -116,6 +116,7 @@ walkable = record {
 -- both iterations, statement 1 with itself, an output dependence
 pub records-are : recordsOf nest 1 moved 0 2
     ≡ (pos 0 ∷ pos 0 ∷ pos 0 ∷ pos 0 ∷ pos 1 ∷ pos 0 ∷ pos 0 ∷ pos 0 ∷ pos 1 ∷ pos 1 ∷ pos 79 ∷ []) ∷ []
-unfolding recordsOf recordsFrom recordsBetween recordWords clashes meets blockOf blockCount partners isPartner between conflicting rowBefore names some
+unfolding recordsOf recordsFrom recordsBetween recordWords clashes meets blockOf blockCount partners isPartner between conflicting rowBefore names
+    some
     earlier sign kinds upFrom letter indicesIn row select flatMap statementNumbers writtenIn firstWritten
 records-are = refl

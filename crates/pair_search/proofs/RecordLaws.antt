@@ -116,7 +116,7 @@ module _ (ts : List Step) (N : Nest) (F : Flat) (d : ℕ) (s : List ℤ) (h : St
         ∙ select-and (marks F x y) (rowBefore d s y x) (upFrom 0 (blockCount n)))
         ∙ map-cond (recordWords (F .points) (F .depth) n x y) (rowBefore d s y x) (select (marks F x y) (upFrom 0 (blockCount n)))
 
-    -- points that share no element have no records
+    -- points without conflicting accesses have no records
     apart : conflicting (F .numbers) (F .writes) (F .count) (length (F .statements)) x y ≡ false → recordsBetween F x y ≡ []
     unfolding recordsBetween
     apart e = ap (map (recordWords (F .points) (F .depth) n x y))
@@ -125,7 +125,8 @@ module _ (ts : List Step) (N : Nest) (F : Flat) (d : ℕ) (s : List ℤ) (h : St
     pub partner-is : cond (isPartner (F .numbers) (F .writes) (F .count) (length (F .statements)) d s x y) (recordsBetween F x y) []
         ≡ map pairWords (select clashing (pairsAt n p q))
     unfolding isPartner
-    partner-is = pruned (conflicting (F .numbers) (F .writes) (F .count) (length (F .statements)) x y) (rowBefore d s y x) (recordsBetween F x y) apart
+    partner-is =
+        pruned (conflicting (F .numbers) (F .writes) (F .count) (length (F .statements)) x y) (rowBefore d s y x) (recordsBetween F x y) apart
         ∙ sym between-is
 
   -- ---- a source

@@ -14,7 +14,7 @@ use Rattle.integers.specs.Affine.{Within}
 use Rattle.model.specs.Answer.{accepted, _>>_, _>>=_}
 use Rattle.model.specs.Points.{iterations}
 use Rattle.model.specs.Bounds.{inArrays, admitted}
-use Rattle.model.specs.Grammar.{total, ticketLoops, mostLoops, mostPoints, mostElements, mostNumbers}
+use Rattle.model.specs.Grammar.{total, ticketLoops, mostLoops, mostPoints, mostAccesses, mostElements, mostNumbers}
 use Rattle.model.proofs.Points.WithinLaws.{space-within}
 use Rattle.dependence_vectors.specs.Numbers.{marksFor}
 use Rattle.dependence_search.specs.Flat.{Flat}
@@ -40,16 +40,17 @@ use Rattle.pair_records.specs.Walks.{Walkable, Walks}
 use Rattle.pair_records.proofs.StatementLaws.{number-below}
 use Rattle.pair_records.specs.declared.Walked.{Walked}
 use Rattle.pair_search.specs.Searches.{SearchIn, Searched}
-use Rattle.pair_search.specs.Rooms.{Few, Lent, Linked}
+use Rattle.pair_search.specs.Rooms.{fewPoints, fewNumbers, Few, Lent, Linked}
 use Rattle.pair_search.proofs.RecordLaws.{Stands, searched}
 
 -- ---- few points, as they are tested
 
-pub few-fits : (P : FlatNest) (n : ℕ) → FlatNestIn P → n ≤ 256 → P .accesses * n ≤ 20 * 256
-few-fits P n h g = numbers-at P n 256 h g
+pub few-fits : (P : FlatNest) (n : ℕ) → FlatNestIn P → n ≤ fewPoints → P .accesses * n ≤ mostAccesses * fewPoints
+few-fits P n h g = numbers-at P n fewPoints h g
 
-pub few-is : (P : FlatNest) (n t : ℕ) → n ≤ 256 → P .accesses * n ≤ 1024 → t ≡ total (nestOf P .arrays) → leb t 1024 ≡ true → Few P n
-few-is P n t a b e h = let g = leb-true t 1024 h in record { points = a; numbers = b; elements = omega arith }
+pub few-is : (P : FlatNest) (n t : ℕ) → n ≤ fewPoints → P .accesses * n ≤ fewNumbers → t ≡ total (nestOf P .arrays) → leb t fewNumbers ≡ true
+    → Few P n
+few-is P n t a b e h = let g = leb-true t fewNumbers h in record { points = a; numbers = b; elements = omega arith }
 
 -- ---- a ticket whose points were counted and which passes 9
 
@@ -187,9 +188,11 @@ module _ (P : FlatNest) (S : Steps) (n step from : ℕ) (found : List ℤ) (h : 
       }
 
   pub lent-few : Few P n
-      → Lent P n (replicate 1024 (pos 0)) (replicate 1536 (pos 0)) (replicate 1024 0) (replicate 1024 0) (replicate 1024 0) (replicate 1024 0)
-      (replicate 256 0)
-  lent-few f = let a = f .points in lent 1024 1536 1024 1024 256 (omega arith) (omega arith) (f .numbers) (f .elements) (omega arith) a
+      → Lent P n (replicate (ticketLoops * fewPoints) (pos 0)) (replicate (mostLoops * fewPoints) (pos 0)) (replicate fewNumbers 0)
+      (replicate fewNumbers 0) (replicate fewNumbers 0) (replicate fewNumbers 0) (replicate fewPoints 0)
+  lent-few f = let a = f .points in
+      lent (ticketLoops * fewPoints) (mostLoops * fewPoints) fewNumbers fewNumbers fewPoints (omega arith) (omega arith) (f .numbers) (f .elements)
+      (omega arith) a
 
   pub lent-many : Lent P n (replicate (ticketLoops * mostPoints) (pos 0)) (replicate (mostLoops * mostPoints) (pos 0)) (replicate mostNumbers 0)
       (replicate mostNumbers 0) (replicate mostNumbers 0) (replicate mostElements 0) (replicate mostPoints 0)

@@ -13,7 +13,7 @@ use Rattle.lists.proofs.MembershipLaws.{all-nil, all-cons}
 use Rattle.integers.specs.Affine.{Within, affine, dot}
 use Rattle.integers.specs.Division.{floorDiv, ceilDiv}
 use Rattle.model.specs.Answer.{accepted, require, _>>_, _>>=_}
-use Rattle.model.specs.Grammar.{elements, total, extents, depthAfter}
+use Rattle.model.specs.Grammar.{elements, total, extents, depthAfter, ticketLoops, mostLoops}
 use Rattle.model.specs.Points.{largest, smallest, value, firstIndex, lastIndex, span, ints, indices, points, partialPoints, iterations}
 use Rattle.model.specs.Bounds.{lastOf, beyond, survey, space, subscriptAt, outside, violates, accessesOf, inArrays}
 use Rattle.model.specs.Machine.{element}
@@ -40,7 +40,7 @@ use Rattle.ticket_admission.specs.CountedTickets.{Laid}
 use Rattle.pair_partners.proofs.Witness as Partners
 use Rattle.pair_records.specs.Windows.{batchRoom}
 use Rattle.pair_search.specs.Searches.{SearchIn}
-use Rattle.pair_search.specs.Rooms.{Few, Lent, Linked}
+use Rattle.pair_search.specs.Rooms.{fewPoints, fewNumbers, Few, Lent, Linked}
 use Rattle.pair_search.proofs.SearchLaws.{lent-few}
 
 abbrev storing : FlatNest
@@ -107,8 +107,8 @@ pub few : Few storing 1
 unfolding nestOf total elements arraysOf arraysFrom extentsAt
 few = record { points = omega arith; numbers = omega arith; elements = omega arith }
 
-pub lent : Lent storing 1 (replicate 1024 (pos 0)) (replicate 1536 (pos 0)) (replicate 1024 0) (replicate 1024 0) (replicate 1024 0)
-    (replicate 1024 0) (replicate 256 0)
+pub lent : Lent storing 1 (replicate (ticketLoops * fewPoints) (pos 0)) (replicate (mostLoops * fewPoints) (pos 0)) (replicate fewNumbers 0)
+    (replicate fewNumbers 0) (replicate fewNumbers 0) (replicate fewNumbers 0) (replicate fewPoints 0)
 lent = lent-few storing reversing 1 1 0 (replicate batchRoom (pos 0)) search-in few
 
 -- ---- its one point, which is moved to −1 and has no next one

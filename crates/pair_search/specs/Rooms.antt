@@ -14,11 +14,17 @@ use Rattle.dependence_marks.specs.Uses.{writtenIn}
 use Rattle.step_points.specs.Points.{PointsMoved}
 use Rattle.pair_partners.specs.Chains.{Links}
 
+abbrev pub fewPoints : ℕ
+fewPoints = 256
+
+abbrev pub fewNumbers : ℕ
+fewNumbers = 1024
+
 -- few points, few numbers of elements at them and few elements
 pub record Few (P : FlatNest) (n : ℕ) : Type 0 where
-  pub points : n ≤ 256
-  pub numbers : P .accesses * n ≤ 1024
-  pub elements : total (nestOf P .arrays) ≤ 1024
+  pub points : n ≤ fewPoints
+  pub numbers : P .accesses * n ≤ fewNumbers
+  pub elements : total (nestOf P .arrays) ≤ fewNumbers
 
 -- room for all that is kept of n points, and for a head of each element
 pub record Lent (P : FlatNest) (n : ℕ) (points moved : List ℤ) (numbers named written heads partners : List ℕ) : Type 0 where

@@ -17,6 +17,11 @@ use nest_flat::Header;
 use pair_records::Walked;
 use ticket_steps::Steps;
 
+// The points for which `search_few` has room, and the elements and numbers of elements at the points.
+const FEW_POINTS: usize = 256;
+
+const FEW_NUMBERS: usize = 1024;
+
 // Walks through points that are linked.
 fn walk_points(
     header: Header,
@@ -132,13 +137,13 @@ fn is_few(header: Header, limits: &[i16], words: &[i16], count: usize) -> bool
     requires { ⌜ FlatNestIn (flatNest header (now limits) (now words)) ⌝ }
     ensures { λ r. ⌜ (r ≡ true → Few (flatNest header (now (limits .entry)) (now (words .entry))) count) ⌝ }
 {
-    if 256 < count {
+    if FEW_POINTS < count {
         return false;
     }
-    if 1024 < header.accesses * count {
+    if FEW_NUMBERS < header.accesses * count {
         return false;
     }
-    nest_elements::elements_in(header, limits, words) <= 1024
+    nest_elements::elements_in(header, limits, words) <= FEW_NUMBERS
 }
 
 // Searches few points.
@@ -158,13 +163,13 @@ fn search_few(
     ensures { λ r. ⌜ Searched (take step (stepsOf steps)) (nestOf (flatNest header (now (limits .entry)) (now (words .entry)))) from skip r
         (now (found .exit)) ⌝ }
 {
-    let mut points = [0i64; 1024];
-    let mut moved = [0i64; 256 * LOOPS];
-    let mut numbers = [0u16; 1024];
-    let mut named = [0u16; 1024];
-    let mut written = [0u16; 1024];
-    let mut heads = [0u16; 1024];
-    let mut partners = [0u16; 256];
+    let mut points = [0i64; TICKET_LOOPS * FEW_POINTS];
+    let mut moved = [0i64; LOOPS * FEW_POINTS];
+    let mut numbers = [0u16; FEW_NUMBERS];
+    let mut named = [0u16; FEW_NUMBERS];
+    let mut written = [0u16; FEW_NUMBERS];
+    let mut heads = [0u16; FEW_NUMBERS];
+    let mut partners = [0u16; FEW_POINTS];
     search_using(
         header,
         limits,

@@ -32,7 +32,8 @@ mul-to-index : tie.Need-mul-to-index Inv-loop μ-loop
 mul-to-index c = let f = c .before .before .before .before .before .before .before .pre .0 .few-accesses in let t = c .loop-test .taken in omega arith
 
 slice-read-to-index : tie.Need-slice-read-to-index Inv-loop μ-loop
-slice-read-to-index c = let s = c .before .before .before .before .before .before .before .before in let r = s .pre .3 in let t = c .before .loop-test .taken in
+slice-read-to-index c = let s = c .before .before .before .before .before .before .before .before in let r = s .pre .3 in
+    let t = c .before .loop-test .taken in
     let i = c .before .before .loop .inv .1 in omega arith
 
 to-index-requires : tie.Need-to-index-requires Inv-loop μ-loop
@@ -83,11 +84,13 @@ link-of-requires c κs = let s = c .before .before .before .before .before .befo
     let k = c .before .before .before .before .before .loop-test .taken in (omega arith, omega arith, omega arith)
 
 mul-chains : tie.Need-mul-chains Inv-loop μ-loop
-mul-chains c = let f = c .before .before .before .before .before .before .before .before .before .before .before .before .before .pre .0 .few-accesses in
+mul-chains c = let f = c .before .before .before .before .before .before .before .before .before .before .before .before .before .pre .0
+    .few-accesses in
     let t = c .before .before .before .before .before .before .loop-test .taken in omega arith
 
 slice-write-chains : tie.Need-slice-write-chains Inv-loop μ-loop
-slice-write-chains c = let s = c .before .before .before .before .before .before .before .before .before .before .before .before .before in let r = s .pre .3 in
+slice-write-chains c = let s = c .before .before .before .before .before .before .before .before .before .before .before .before .before in
+    let r = s .pre .3 in
     let t = c .before .before .before .before .before .before .loop-test .taken in
     let i = c .before .before .before .before .before .before .before .loop .inv .1 in omega arith
 
@@ -99,7 +102,8 @@ loop-less c = search needs
 
 loop-again : tie.Need-loop-again Inv-loop μ-loop
 loop-again c =
-    let s = c .before .before .before .before .before .before .before .before .before .before in let a = s .args in let l = c .before .before .before .before .loop in
+    let s = c .before .before .before .before .before .before .before .before .before .before in let a = s .args in
+    let l = c .before .before .before .before .loop in
     let t = c .before .before .before .loop-test .taken in
     let ids = a .numbers .now in let ws = a .writes .now in let n = a .count in let m = a .accesses in
     ⊎-elim

@@ -36,11 +36,13 @@ link-of-requires c κs = let s = c .before .before .before .before .before .befo
     let w = s .pre .0 .written-room in let b = s .pre .0 .writes in let t = c .loop-test .taken in (omega arith, omega arith, omega arith)
 
 mul-chains : tie.Need-mul-chains Inv-loop μ-loop
-mul-chains c = let f = c .before .before .before .before .before .before .before .before .pre .0 .few-accesses in let t = c .before .loop-test .taken in
+mul-chains c = let f = c .before .before .before .before .before .before .before .before .pre .0 .few-accesses in
+    let t = c .before .loop-test .taken in
     omega arith
 
 slice-write-chains : tie.Need-slice-write-chains Inv-loop μ-loop
-slice-write-chains c = let s = c .before .before .before .before .before .before .before .before in let r = s .pre .2 in let t = c .before .loop-test .taken in
+slice-write-chains c = let s = c .before .before .before .before .before .before .before .before in let r = s .pre .2 in
+    let t = c .before .loop-test .taken in
     let i = c .before .before .loop .inv .1 in omega arith
 
 add-k : tie.Need-add-k Inv-loop μ-loop

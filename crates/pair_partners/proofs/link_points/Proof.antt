@@ -39,17 +39,20 @@ link-point-requires c κs = let s = c .before .before .before .before .before .b
 
 head-point-requires : tie.Need-head-point-requires Inv-loop μ-loop
 head-point-requires c κs = let s = c .before .before .before .before .before .before .before .before
-    .before .before .before .before .before .before .before .before in let l = c .before .before .before .before .before .before .before .loop in let i = l .inv .0 in
+    .before .before .before .before .before .before .before .before in let l = c .before .before .before .before .before .before .before .loop in
+    let i = l .inv .0 in
     let t = c .before .before .before .before .before .before .loop-test .taken in
     let q = c .before .before .before .before .before .before .before .before .before .before .clear-heads .kept .0 in
     (subst (Numbered (s .args .numbers .now) (s .args .count) (s .args .accesses)) (sym (l .inv .1 ∙ q)) (s .pre .0), s .pre .1, omega arith)
 
 loop-less : tie.Need-loop-less Inv-loop μ-loop
-loop-less c = let i = c .before .before .before .before .before .before .before .before .before .before .loop .inv .0 in let t = c .before .before .before .before .before .before .before .before .before .loop-test .taken in
+loop-less c = let i = c .before .before .before .before .before .before .before .before .before .before .loop .inv .0 in
+    let t = c .before .before .before .before .before .before .before .before .before .loop-test .taken in
     omega arith
 
 loop-again : tie.Need-loop-again Inv-loop μ-loop
-loop-again c = let s = c .before .before .before .before .before .before .before .before .before .before .before .before .before .before .before .before .before .before .before in
+loop-again c = let s = c .before .before .before .before .before .before .before .before .before .before .before .before .before .before .before
+    .before .before .before .before in
     let a = s .args in let l = c .before .before .before .before .before .before .before .before .before .before .loop in let i = l .inv .0 in
     let t = c .before .before .before .before .before .before .before .before .before .loop-test .taken in
     let k = c .before .before .before .before .before .before .link-point in let h = c .before .before .head-point in
@@ -63,7 +66,8 @@ loop-again c = let s = c .before .before .before .before .before .before .before
       heads-before ids ws n (a .all) m (l .heads) (h .last .1 .1 .1 .1 .1 .1 .0) x (omega arith) hl heads-in (h .ensures),
       linked-before ids n m ws (a .all) (l .heads) (l .links) (k .last .1 .1 .1 .1 .1 .0) x (omega arith)
           (λ j b. let f = s .pre .0 .below j x b (omega arith) in let q = l .inv .1 in
-          let r = c .before .before .before .before .before .before .before .before .before .before .before .before .before .clear-heads .kept .0 in omega arith) heads-in
+          let r = c .before .before .before .before .before .before .before .before .before .before .before .before .before .clear-heads .kept .0 in
+          omega arith) heads-in
           (subst (λ (z : ℕ). LinkedFrom ids ws n m (a .all) z (l .links)) e (l .inv .4)) (k .ensures),
     )
 

@@ -45,7 +45,8 @@ same-length-2 c = search needs
 
 returns : tie.Need-returns
 unfolding recordsFrom
-returns c = let s = c .before .before .before .before .before .before .before .before .before .before .before .before .before .before in let a = s .args in
+returns c = let s = c .before .before .before .before .before .before .before .before .before .before .before .before .before .before in
+    let a = s .args in
     let p = c .before .pass-partners in
     let e = sym (numbers-length 0 (a .sizes .now) ∙ s .pre .0 .all-accesses) in
     let F : Flat = sized (a .points .now) (a .depth) (a .count) (a .numbers .now) (a .sizes .now) (a .body) in

@@ -57,7 +57,8 @@ add-before c = let s = c .before .before .before .before .before .before .before
     (s .pre .0 .ready) (c .before .before .if1 .left) .2 in omega arith
 
 pass-source-requires : tie.Need-pass-source-requires Inv-loop μ-loop
-pass-source-requires c κs = let s = c .before .before .before .before .before .before .before .before .before .before .before .before .before .before in
+pass-source-requires c κs = let s = c .before .before .before .before .before .before .before .before .before .before .before .before .before
+    .before in
     let l = c .before .before .before .before .before .before .before .loop in let e = l .inv .1 in let h = s .pre .2 in
     (s .pre .0, c .before .before .before .before .before .before .loop-test .taken, omega arith, l .inv .0 .window .room)
 

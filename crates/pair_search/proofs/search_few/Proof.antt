@@ -26,7 +26,8 @@ slice-aggregate-search-using-7 : tie.Need-slice-aggregate-search-using-7
 slice-aggregate-search-using-7 c = search needs
 
 search-using-requires : tie.Need-search-using-requires
-search-using-requires c κs = let s = c .before .before .before .before .before .before .before .before in (s .pre .0, lent-few _ _ _ _ _ _ (s .pre .0) (s .pre .1))
+search-using-requires c κs = let s = c .before .before .before .before .before .before .before .before in
+    (s .pre .0, lent-few _ _ _ _ _ _ (s .pre .0) (s .pre .1))
 
 same-length : tie.Need-same-length
 same-length c = search needs

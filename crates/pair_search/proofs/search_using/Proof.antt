@@ -23,17 +23,20 @@ number-accesses-requires c κs =
     numbers-in _ _ _ _ _ _ (s .pre .0) _ (points-listed _ _ _ _ _ _ (s .pre .0) _ (l .list-points .ensures .0)) _ (s .pre .1 .numbers-room)
 
 uses-of-requires : tie.Need-uses-of-requires
-uses-of-requires c κs = c .before .before .before .before .before .before .before .before .before .before .before .before .before .before .before .before .before .pre .0 .laid .ticket .flat-nest
+uses-of-requires c κs = c .before .before .before .before .before .before .before .before .before .before .before .before .before .before .before
+    .before .before .pre .0 .laid .ticket .flat-nest
 
 array-share-prefix-writes : tie.Need-array-share-prefix-writes
 array-share-prefix-writes c = let u = c .before .before in
-    let s = u .before .before .before .before .before .before .before .before .before .before .before .before .before .before .before .before .before .before in
+    let s = u .before .before .before .before .before .before .before .before .before .before .before .before .before .before .before .before
+    .before .before in
     let f = s .pre .0 .laid .ticket .flat-nest .few-accesses in let w = u .uses-of .ensures .writes-length in omega arith
 
 slice-aggregate-link-all : tie.Need-slice-aggregate-link-all
 slice-aggregate-link-all c =
     let u = c .before .before .before in
-    let s = u .before .before .before .before .before .before .before .before .before .before .before .before .before .before .before .before .before .before in
+    let s = u .before .before .before .before .before .before .before .before .before .before .before .before .before .before .before .before
+    .before .before in
     sym (writes-count _ (s .pre .0 .laid .ticket .flat-nest) (u .uses-of .result) (u .uses-of .ensures))
 
 link-all-requires : tie.Need-link-all-requires
@@ -57,7 +60,8 @@ array-share-prefix-writes-2 c = search needs
 slice-aggregate-walk-points : tie.Need-slice-aggregate-walk-points
 slice-aggregate-walk-points c =
     let u = c .before .before .before .before .before .before .before .before .before .before .before .before .before .before .before .before in
-    let s = u .before .before .before .before .before .before .before .before .before .before .before .before .before .before .before .before .before .before in
+    let s = u .before .before .before .before .before .before .before .before .before .before .before .before .before .before .before .before
+    .before .before in
     sym (writes-count _ (s .pre .0 .laid .ticket .flat-nest) (u .uses-of .result) (u .uses-of .ensures))
 
 walk-points-requires : tie.Need-walk-points-requires
@@ -80,16 +84,19 @@ walk-points-requires c κs =
     )
 
 same-length : tie.Need-same-length
-same-length c = c .before .before .before .before .before .before .before .before .before .before .before .before .before .before .before .before .before .before .before .before .before .before .before .before
+same-length c = c .before .before .before .before .before .before .before .before .before .before .before .before .before .before .before .before
+    .before .before .before .before .before .before .before .before
     .before .before .before .before .before .before .before .before .before .before .before .before .list-points .ensures .1
 
 same-length-2 : tie.Need-same-length-2
-same-length-2 c = c .before .before .before .before .before .before .before .before .before .before .before .before .before .before .before .before .before .before .before .before .before .before
+same-length-2 c = c .before .before .before .before .before .before .before .before .before .before .before .before .before .before .before .before
+    .before .before .before .before .before .before
     .before .before .before .before .before .before .before .before .before .before .move-points .ensures .1
 
 same-length-3 : tie.Need-same-length-3
 same-length-3 c = c .before .before .before .before .before .before .before .before .before .before .before .before .before .before
-    .before .before .before .before .before .before .before .before .before .before .before .before .before .before .number-accesses .kept .1 .1 .1 .1 .1 .0
+    .before .before .before .before .before .before .before .before .before .before .before .before .before .before .number-accesses .kept .1 .1 .1
+    .1 .1 .0
 
 same-length-4 : tie.Need-same-length-4
 same-length-4 c = search needs

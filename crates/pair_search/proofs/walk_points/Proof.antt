@@ -14,7 +14,8 @@ slice-aggregate-walk c = let s = c .before .before .before .before .before .befo
 
 walk-requires : tie.Need-walk-requires
 walk-requires c κs = let s = c .before .before .before .before .before .before .before .before .before in let a = s .args in (
-  walkable _ _ _ _ _ _ (s .pre .0) (a .points .now) (a .numbers .now) (a .writes .now) (a .named .now) (a .written .now) (a .moved .now) (a .depth) (s .pre .1),
+  walkable _ _ _ _ _ _ (s .pre .0) (a .points .now) (a .numbers .now) (a .writes .now) (a .named .now) (a .written .now) (a .moved .now) (a .depth)
+      (s .pre .1),
   s .pre .0 .source-there,
   s .pre .2,
   s .pre .0 .room,
@@ -28,7 +29,8 @@ same-length-2 c = search needs
 
 returns : tie.Need-returns
 returns c = let s = c .before .before .before .before .before .before .before .before .before .before .before .before .before in let a = s .args in
-    searched-is _ _ _ _ _ _ (s .pre .0) (a .points .now) (a .numbers .now) (a .writes .now) (a .named .now) (a .written .now) (a .moved .now) (a .depth) (s .pre .1)
+    searched-is _ _ _ _ _ _ (s .pre .0) (a .points .now) (a .numbers .now) (a .writes .now) (a .named .now) (a .written .now) (a .moved .now) (a
+    .depth) (s .pre .1)
     (c .before .before .before .walk .ensures)
 
 pub walk-points-spec : {M : Type 1} → statement M
