@@ -1,4 +1,4 @@
-/* Judges a ticket with the six entries of Hurkeztor.
+/* Judges a ticket with the six entries of Hurkeztor. Of pairs that trade places it gives the direction vector too.
  *
  *   judge [FILE]     a ticket's bytes, from FILE or from standard input
  *
@@ -65,6 +65,14 @@ static void print_iteration(const int16_t *indices, int loops)
     printf(")");
 }
 
+/* How the indices of source and sink compare, outermost first. */
+static void print_vector(const hurkeztor_pair *pair, int loops)
+{
+    printf(" ");
+    for (int index = 0; index < loops; index++)
+        putchar("<=>"[hurkeztor_sign(pair->source[index], pair->sink[index]) + 1]);
+}
+
 /* The pairs that trade places, where the ticket is out of order. */
 static void give_reason(const uint8_t *ticket, size_t length)
 {
@@ -81,6 +89,7 @@ static void give_reason(const uint8_t *ticket, size_t length)
         printf("%c %u %u", pair->kind, pair->source_statement, pair->sink_statement);
         print_iteration(pair->source, word(ticket, 0));
         print_iteration(pair->sink, word(ticket, 0));
+        print_vector(pair, word(ticket, 0));
         printf("\n");
     }
     if (count > PAIRS_SHOWN)

@@ -1,5 +1,6 @@
 /* Hurkeztor: judges reorderings of loop nests. Six entries over a ticket's bytes; every one is proved to answer as documents 01 and 02 say,
- * for every ticket, however mangled. No entry keeps memory, calls anything, or fails in any other way than by its answer.
+ * for every ticket, however mangled. No entry keeps memory, calls anything, or fails in any other way than by its answer. Beside them stands the sign
+ * of two indices, hurkeztor_sign.
  *
  * A ticket's steps, up to eight, are of four words each: kind, a, b, c. Loops are numbered from 1, by their place when the step is reached.
  *   1  exchange     loops a and b = a + 1; c is 0
@@ -70,6 +71,10 @@ typedef struct hurkeztor_pair {
  *   any other           what judge answers: number 0 and place 0 on acceptance, or a refusal other than 10
  * Records of list beyond the pairs found keep their contents; where the answer is not pairs, all do. A list of length 0 gets the count. */
 uint64_t hurkeztor_reason(const uint8_t *ticket, size_t ticket_len, hurkeztor_pair *list, size_t list_len);
+
+/* The sign that directions have of a source's index and a sink's: -1, 0 or 1 as the source's is below, equal to or above the sink's. That is <, = or >
+ * in a listing. Proved for all numbers of 64 bits, also where their difference does not fit. */
+int64_t hurkeztor_sign(int64_t source, int64_t sink);
 
 static inline unsigned hurkeztor_number(uint64_t answer) { return (unsigned)(answer & 0xff); }
 static inline unsigned hurkeztor_place(uint64_t answer) { return (unsigned)(answer >> 8 & 0xffffff); }

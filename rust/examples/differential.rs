@@ -3,7 +3,7 @@
 //!     cargo run --release --example differential -- --tickets 1000000 --seed 7
 //!
 //! With `--four-kinds` no ticket has a circulation. The digest of the first five entries is then the same for a library that knows none, if it
-//! answers the other tickets alike. With `--out-of-order` half of the tickets are refused with 10.
+//! answers the other tickets alike. With `--out-of-order` half of the tickets are refused with 10, with `--far-apart` indices are far apart.
 
 #[path = "../tests/compare/mod.rs"]
 mod compare;
@@ -14,17 +14,18 @@ use std::process::ExitCode;
 use std::time::{Duration, Instant};
 
 use compare::{Compared, Tally, compare, has_circulation};
-use reference::tickets::{out_of_order_ticket, ticket, ticket_of_four_kinds};
+use reference::tickets::{far_apart_ticket, out_of_order_ticket, ticket, ticket_of_four_kinds};
 
 const HELP: &str = "Compares the six entries of Hurkeztor with the reference: number, place, count and all lent memory.
 
-Usage: differential [--tickets N] [--seed N] [--first N] [--four-kinds | --out-of-order]
+Usage: differential [--tickets N] [--seed N] [--first N] [--four-kinds | --out-of-order | --far-apart]
 
   --tickets N      how many tickets (20000)
   --seed N         the seed that they are made from (1)
   --first N        the index of the first one (0); with --tickets 1 a ticket is compared again alone
   --four-kinds     tickets of exchanges, reversals, skews and sections alone; those that have kind 5 by damage are left out
   --out-of-order   tickets of which half are refused with 10, some by the table alone
+  --far-apart      tickets with indices whose difference is no word
 
 The digests are of all answers of the library and of all memory that it leaves, one for judge, write, list, quick and run, one for reason.
 
@@ -36,8 +37,36 @@ struct Wanted {
     tickets: u64,
     seed: u64,
     first: u64,
-    four_kinds: bool,
-    out_of_order: bool,
+    stream: Stream,
+}
+
+/// Which tickets are made.
+#[derive(Clone, Copy, PartialEq)]
+enum Stream {
+    All,
+    FourKinds,
+    OutOfOrder,
+    FarApart,
+}
+
+impl Stream {
+    fn made(self) -> fn(u64, u64) -> Vec<u8> {
+        match self {
+            Stream::All => ticket,
+            Stream::FourKinds => ticket_of_four_kinds,
+            Stream::OutOfOrder => out_of_order_ticket,
+            Stream::FarApart => far_apart_ticket,
+        }
+    }
+
+    fn named(option: &str) -> Option<Stream> {
+        match option {
+            "--four-kinds" => Some(Stream::FourKinds),
+            "--out-of-order" => Some(Stream::OutOfOrder),
+            "--far-apart" => Some(Stream::FarApart),
+            _ => None,
+        }
+    }
 }
 
 /// Nothing where help is asked for.
@@ -46,8 +75,7 @@ fn wanted(mut arguments: impl Iterator<Item = String>) -> Result<Option<Wanted>,
         tickets: 20_000,
         seed: 1,
         first: 0,
-        four_kinds: false,
-        out_of_order: false,
+        stream: Stream::All,
     };
     while let Some(name) = arguments.next() {
         let place = match name.as_str() {
@@ -55,21 +83,17 @@ fn wanted(mut arguments: impl Iterator<Item = String>) -> Result<Option<Wanted>,
             "--tickets" => &mut wanted.tickets,
             "--seed" => &mut wanted.seed,
             "--first" => &mut wanted.first,
-            "--four-kinds" => {
-                wanted.four_kinds = true;
-                continue;
-            }
-            "--out-of-order" => {
-                wanted.out_of_order = true;
-                continue;
-            }
-            _ => return Err(format!("There is no option {name}.")),
+            _ => match Stream::named(&name) {
+                Some(_) if wanted.stream != Stream::All => return Err(format!("{name} comes after another choice of tickets.")),
+                Some(stream) => {
+                    wanted.stream = stream;
+                    continue;
+                }
+                None => return Err(format!("There is no option {name}.")),
+            },
         };
         let value = arguments.next().ok_or(format!("{name} needs a number after it."))?;
         *place = value.parse().map_err(|_| format!("{name} needs a number, and {value} is none."))?;
-    }
-    if wanted.four_kinds && wanted.out_of_order {
-        return Err("--four-kinds and --out-of-order exclude each other.".into());
     }
     if wanted.first.checked_add(wanted.tickets).is_none() {
         return Err("--first and --tickets together are beyond 64 bits.".into());
@@ -100,11 +124,7 @@ impl Progress {
 }
 
 fn compare_all(wanted: &Wanted) -> u64 {
-    let made = match (wanted.four_kinds, wanted.out_of_order) {
-        (true, _) => ticket_of_four_kinds,
-        (_, true) => out_of_order_ticket,
-        _ => ticket,
-    };
+    let made = wanted.stream.made();
     let (mut tally, mut differences) = (Tally::default(), 0);
     let begun = Instant::now();
     let mut progress = Progress {
@@ -114,7 +134,7 @@ fn compare_all(wanted: &Wanted) -> u64 {
     for done in 0..wanted.tickets {
         progress.tell(done, wanted.tickets, differences);
         let index = wanted.first + done;
-        if wanted.four_kinds && has_circulation(&made(wanted.seed, index)) {
+        if wanted.stream == Stream::FourKinds && has_circulation(&made(wanted.seed, index)) {
             continue;
         }
         if let Err(difference) = compare(Compared::All, made, wanted.seed, index, &mut tally) {

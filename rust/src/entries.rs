@@ -1,4 +1,5 @@
-//! The six proved entries on bytes as they are: nothing is checked, added or interpreted here but the packed answer.
+//! The six proved entries on bytes as they are: nothing is checked, added or interpreted here but the packed answer. Beside them stands the sign of two
+//! indices.
 //!
 //! The interface above ([`crate::judge`] and so on) is what programs want. This one is for those that look at every number, place and
 //! byte. All `unsafe` of the crate is in this module.
@@ -60,6 +61,7 @@ mod c {
         pub fn hurkeztor_quick(ticket: *const u8, ticket_len: usize, first: u64, second: u64) -> u64;
         pub fn hurkeztor_run(ticket: *const u8, ticket_len: usize, store: *mut u32, store_words: usize) -> u64;
         pub fn hurkeztor_reason(ticket: *const u8, ticket_len: usize, list: *mut PairRecord, list_len: usize) -> u64;
+        pub fn hurkeztor_sign(source: i64, sink: i64) -> i64;
     }
 }
 
@@ -99,6 +101,12 @@ pub fn run(ticket: &[u8], store: &mut [u32]) -> Answer {
 pub fn reason(ticket: &[u8], list: &mut [PairRecord]) -> Answer {
     // SAFETY: as in `write`; a record is laid out as C has it.
     with_stack(|| unsafe { c::hurkeztor_reason(ticket.as_ptr(), ticket.len(), list.as_mut_ptr(), list.len()) })
+}
+
+/// −1, 0 or 1 as the source's index is below, equal to or above the sink's, for any two numbers.
+pub fn sign(source: i64, sink: i64) -> i64 {
+    // SAFETY: no memory is lent, and a few instructions need no stack.
+    unsafe { c::hurkeztor_sign(source, sink) }
 }
 
 /// What has to be left of a stack: the 1 MiB of an entry, and a quarter for whatever else stands on it.

@@ -1,5 +1,6 @@
 //! The listing of directions, taken from the text that the list entry writes.
 
+use crate::entries;
 use std::fmt;
 
 /// The directions of a ticket's nest.
@@ -90,6 +91,15 @@ impl Direction {
 }
 
 impl Sign {
+    /// The sign of a source's index and a sink's, as the library works it out for its vectors.
+    pub fn of(source: i64, sink: i64) -> Sign {
+        match entries::sign(source, sink) {
+            ..0 => Sign::Less,
+            0 => Sign::Equal,
+            1.. => Sign::Greater,
+        }
+    }
+
     fn read(c: char) -> Option<Sign> {
         match c {
             '<' => Some(Sign::Less),

@@ -5,7 +5,6 @@ use crate::entries::PairRecord;
 use crate::listing::{Kind, Sign};
 use crate::nest::{Access, Nest, Step, Subscript};
 use crate::space;
-use std::cmp::Ordering;
 use std::fmt;
 
 /// The true reason of a refusal with number 10, as [`crate::why`] gives it.
@@ -87,12 +86,11 @@ impl Pair {
     pub fn vector(&self, steps: &[Step]) -> Vec<Sign> {
         let [source, sink] = [&self.source, &self.sink].map(|iteration| wide(iteration));
         let moved = space::moved(&[source, sink], steps);
-        let signs = moved[0].iter().zip(&moved[1]).map(|(source, sink)| match source.cmp(sink) {
-            Ordering::Less => Sign::Less,
-            Ordering::Equal => Sign::Equal,
-            Ordering::Greater => Sign::Greater,
-        });
-        signs.collect()
+        moved[0]
+            .iter()
+            .zip(&moved[1])
+            .map(|(source, sink)| Sign::of(*source, *sink))
+            .collect()
     }
 
     /// The element that both use: its array, numbered from 1, and its subscripts.

@@ -54,8 +54,8 @@ const CASE_1: &str = "2 1 1 0 1 1 1 1 1 0 0 1 1 2 0 2 1 4 2 2 3 1 3 0 1 0 1 1 1 
 const REFUSED: &str = "\
 judge: refused 10 1 out of order
 reason: step 1, 2 pairs
-O 1 1 (0, 1) (1, 0)
-O 1 1 (0, 2) (1, 1)
+O 1 1 (0, 1) (1, 0) <>
+O 1 1 (0, 2) (1, 1) <>
 write: refused 10 1 out of order
 list:
 2 6 1
@@ -105,7 +105,7 @@ fn the_example_answers_whole() {
         SKEWED,
         "judge: refused 10 2 out of order\nreason: step 2, by the table alone\nwrite: ",
     );
-    let from = |source: u32| (source + 1..=9).map(move |sink| format!("O 1 1 ({source}) ({sink})\n"));
+    let from = |source: u32| (source + 1..=9).map(move |sink| format!("O 1 1 ({source}) ({sink}) <\n"));
     let first: String = (0..9).flat_map(from).take(20).collect();
     let start = format!("judge: refused 10 1 out of order\nreason: step 1, 45 pairs\n{first}(+25 more)\nwrite: ");
     starts(ONE_ELEMENT, &start);

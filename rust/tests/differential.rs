@@ -1,5 +1,5 @@
-//! The six entries answer as the reference does, on 20,000 tickets of a fixed seed, 40 more of many iterations, and the outside ones; reason on
-//! 20,000 more, half of which are out of order. The example `differential` does the same for as many as one likes.
+//! The six entries answer as the reference does, on 20,000 tickets of a fixed seed, 40 more of many iterations, 2,000 of indices far apart, and the
+//! outside ones; reason on 20,000 more, half of which are out of order. The example `differential` does the same for as many as one likes.
 
 mod compare;
 
@@ -7,11 +7,12 @@ use std::fs;
 use std::path::Path;
 
 use compare::{Compared, Tally, compare};
-use reference::tickets::{large_ticket, out_of_order_ticket, ticket};
+use reference::tickets::{far_apart_ticket, large_ticket, out_of_order_ticket, ticket};
 
 const SEED: u64 = 20_260_101;
 const TICKETS: u64 = 20_000;
 const LARGE_TICKETS: u64 = 40;
+const FAR_APART_TICKETS: u64 = 2_000;
 
 #[test]
 fn the_entries_answer_as_the_reference() {
@@ -51,6 +52,18 @@ fn the_entries_answer_as_the_reference_on_many_iterations() {
     let mut tally = Tally::default();
     for index in 0..LARGE_TICKETS {
         if let Err(difference) = compare(Compared::All, large_ticket, SEED, index, &mut tally) {
+            panic!("{difference}");
+        }
+    }
+    println!("{tally}");
+}
+
+/// The difference of two of their indices is no word of 16 bits.
+#[test]
+fn the_entries_answer_as_the_reference_on_indices_far_apart() {
+    let mut tally = Tally::default();
+    for index in 0..FAR_APART_TICKETS {
+        if let Err(difference) = compare(Compared::All, far_apart_ticket, SEED, index, &mut tally) {
             panic!("{difference}");
         }
     }

@@ -14,17 +14,11 @@ use model::VECTORS;
 
 // ---- vectors
 
-// The digit of a source index and a sink index: 0 is <, 1 is = and 2 is >.
+// The digit of a source index and a sink index: 0 is <, 1 is = and 2 is >. Every comparison of two indices for a vector is this one.
 pub fn sign(a: i64, b: i64) -> usize
     ensures { λ r. ⌜ r ≡ digit («sign-of» a b) ⌝ }
 {
-    if a < b {
-        return 0;
-    }
-    if b < a {
-        return 2;
-    }
-    1
+    (integers::sign_of(a, b) + 1) as usize
 }
 
 // The number that the first k signs of two points make, and one sign more.

@@ -1,6 +1,8 @@
 // The six entries for C (include/hurkeztor.h). Each contract equates the answer, and what everything lent holds in the end, with the
-// definition of crate model (specs/Entries; of reason specs/Pairs); what is promised of the definitions is stated there, proofs/Demands.
+// definition of crate model (specs/Entries; of reason specs/Pairs); what is promised of the definitions is stated there, proofs/Demands. Then the sign
+// of two indices.
 ghost use mathlib.Core.Path.{_≡_};
+ghost use Rattle.integers.specs.Sign.{sign, signValue};
 ghost use Rattle.model.specs.Entries as Entries;
 ghost use Rattle.model.specs.Pairs.{reason};
 ghost use Rattle.entry_packing.specs.Packed.{packed, counted};
@@ -60,4 +62,12 @@ pub extern "C" fn hurkeztor_reason(ticket: &[u8], list: &mut [Pair]) -> u64
         k += 1;
     }
     f.answer
+}
+
+// The sign that the directions have of a source index and a sink index, for callers that work out the vector of a pair.
+#[no_mangle]
+pub extern "C" fn hurkeztor_sign(source: i64, sink: i64) -> i64
+    ensures { λ r. ⌜ r ≡ signValue (sign source sink) ⌝ }
+{
+    integers::sign_of(source, sink)
 }

@@ -1,13 +1,19 @@
--- Signs: what a sign means of two integers, both ways; then of equal, turned and negated ones. Then the test of equality.
-use mathlib.Core.Path.{_≡_, refl, sym, ap}
+-- Signs: what a sign means of two integers, both ways; as a number, and that as a difference of two tests; then of equal, turned and negated ones.
+-- Then the test of equality.
+use mathlib.Core.Path.{_≡_, refl, sym, ap, subst}
+use mathlib.Core.Logic.{_↔_}
 use mathlib.Core.Bool.{Bool, true, false, cond}
+use Prim.Native.Nat.{zero, suc}
+use native.Mathlib.Omega.{arith}
 use lib.Dec.{T, eqb→eq, eqb-refl}
-use lib.IntN.{ℤ, pos, negsuc, negℤ}
+use lib.IntN.{ℤ, pos, negsuc, negℤ, _-ℤ_}
 use Rattle.lists.specs.Tests.{Decides}
 use lib.Signed.{_≤ℤ_, _<ℤ_, ltZ}
-use Rattle.integers.specs.Sign.{Sign, less, equal, greater, sign, turned, eqZ}
+use mir.Syntax.{w64}
+use mir.Val.{SFits}
+use Rattle.integers.specs.Sign.{Sign, less, equal, greater, sign, turned, signValue, yesNo, eqZ}
 use Rattle.integers.proofs.RingLaws.{zarith, ≤ℤ-antisym}
-use Rattle.integers.proofs.RangeLaws.{lt-test, lt-test-no, test-lt, test-lt-no}
+use Rattle.integers.proofs.RangeLaws.{sfits, lt-test, lt-test-no, test-lt, test-lt-no}
 use Rattle.integers.proofs.DifferenceLaws.{neg-fact}
 
 -- s is how x stands to y: case on the sign, and the order is at hand
@@ -31,6 +37,45 @@ means-sign less x y h = ap (λ (t : Bool). cond t less (cond (ltZ y x) greater e
 means-sign equal x y h = let e : x ≤ℤ y = omega zarith in let f : y ≤ℤ x = omega zarith in rw
     (lt-test-no {a = x} {b = y} f, lt-test-no {a = y} {b = x} e)
 means-sign greater x y h = let f : y ≤ℤ x = omega zarith in rw (lt-test-no {a = x} {b = y} f, lt-test h)
+
+-- ---- as a number
+
+abbrev value-sign : ℤ → Sign
+value-sign (negsuc n) = less
+value-sign (pos zero) = equal
+value-sign (pos (suc n)) = greater
+
+value-back : (s : Sign) → value-sign (signValue s) ≡ s
+value-back less = refl
+value-back equal = refl
+value-back greater = refl
+
+pub value-fits : (s : Sign) → SFits w64 (signValue s)
+value-fits less = sfits (omega arith)
+value-fits equal = sfits (omega arith)
+value-fits greater = sfits (omega arith)
+
+pub value-means : (s : Sign) (x y : ℤ) → (signValue (sign x y) ≡ signValue s) ↔ Means s x y
+value-means s x y = (λ e. subst (λ t. Means t x y) (same e) (sign-means x y), λ h. ap signValue (means-sign s x y h))
+  where
+    same : signValue (sign x y) ≡ signValue s → sign x y ≡ s
+    same e = cc (ap value-sign e, value-back (sign x y), value-back s)
+
+pub sign-exact : (x y : ℤ)
+    → ((signValue (sign x y) ≡ negsuc 0) ↔ (x <ℤ y)) × ((signValue (sign x y) ≡ pos 0) ↔ (x ≡ y)) × ((signValue (sign x y) ≡ pos 1) ↔ (y <ℤ x))
+sign-exact x y = (value-means less x y, value-means equal x y, value-means greater x y)
+
+pub sign-difference : (x y : ℤ) → signValue (sign x y) ≡ yesNo (ltZ y x) -ℤ yesNo (ltZ x y)
+unfolding sign
+sign-difference x y = go (ltZ x y) refl (ltZ y x) refl
+  where
+    go : (s : Bool) → ltZ x y ≡ s → (t : Bool) → ltZ y x ≡ t → signValue (cond s less (cond t greater equal)) ≡ yesNo t -ℤ yesNo s
+    go true e true f = absurd (let p = test-lt {a = x} {b = y} e in let q = test-lt {a = y} {b = x} f in omega zarith)
+    go true e false f = refl
+    go false e true f = refl
+    go false e false f = refl
+
+-- ---- of equal, turned and negated numbers
 
 pub means-unique : (s t : Sign) (x y : ℤ) → Means s x y → Means t x y → s ≡ t
 means-unique s t x y h k = cc (means-sign s x y h, means-sign t x y k)

@@ -1,5 +1,5 @@
 -- How one index stands to another, as data: <, = or >. The sign of a direction vector for one loop. Then equality as a test.
-use mathlib.Core.Bool.{Bool, false, cond}
+use mathlib.Core.Bool.{Bool, true, false, cond}
 use lib.Dec.{eqb}
 use lib.IntN.{ℤ, pos, negsuc}
 use lib.Signed.{ltZ}
@@ -21,6 +21,11 @@ abbrev pub signValue : Sign → ℤ
 signValue less = negsuc 0
 signValue equal = pos 0
 signValue greater = pos 1
+
+-- a yes/no number
+abbrev pub yesNo : Bool → ℤ
+yesNo true = pos 1
+yesNo false = pos 0
 
 abbrev pub eqZ : ℤ → ℤ → Bool
 eqZ (pos a) (pos b) = eqb a b

@@ -171,15 +171,9 @@ pub fn affine_at(words: &[i16], at: usize, indices: &[i64]) -> i64
     sum.value
 }
 
-// −1, 0 or 1 as a is below, equal to or above b.
+// −1, 0 or 1 as a is below, equal to or above b: a difference of two yes/no numbers, with no branch. a - b would not fit.
 pub fn sign_of(a: i64, b: i64) -> i64
     ensures { λ r. ⌜ r ≡ signValue (sign a b) ⌝ }
 {
-    if a < b {
-        return -1;
-    }
-    if b < a {
-        return 1;
-    }
-    0
+    (b < a) as i64 - (a < b) as i64
 }

@@ -5,15 +5,17 @@
 --   `a ≡ b` they are equal; `T t` the test t passes; `Mem x l` x stands in l; `All P l` every x in l has P; `Ordered R l` each R every later one
 --   `accepted v` the number 0 with the value v; `refused n p` the number n with the place p
 --   a record (`specs/Promises`, `specs/Reasons`) is the list of what holds together; `r .field` is one of these
+--   `pos n` is the integer n, `negsuc n` is −1 − n; `ltZ x y` the test x < y
 --   `List ℕ` are bytes, or the words of a store; `decode b` is what the grammar makes of a ticket's bytes b
 use mathlib.Core.Path.{_≡_}
 use mathlib.Core.Logic.{_↔_, _⊎_}
 use mathlib.Core.List.{List, [], _∷_, _++_, map}
 use Prim.Native.Nat.{ℕ, suc, _+_, _≤_, _<_}
 use lib.Dec.{T}
-use lib.IntN.{ℤ}
+use lib.IntN.{ℤ, pos, negsuc, _-ℤ_}
+use lib.Signed.{_<ℤ_, ltZ}
 use lib.ListN.{length, take, getD}
-use Rattle.integers.specs.Sign.{Sign}
+use Rattle.integers.specs.Sign.{Sign, sign, signValue, yesNo}
 use Rattle.lists.specs.Membership.{Mem, All, Distinct, SameMembers}
 use Rattle.lists.specs.Order.{Ordered, Precedes}
 use Rattle.lists.specs.Place.{swapAll, movedTo}
@@ -43,6 +45,7 @@ use Rattle.model.specs.Reasons.{StepsPass, NotAdmitted, Because, Short, 
 use Rattle.model.specs.Promises.{Fitting, Dependence, LineBefore, KeepsPoints, Turns, AtOnce, Attained, moved, Crossed, Trade, NeverMeet}
 use Rattle.model.specs.Promises.{TradesAt, PairBefore, QuickRule, HandedOut, OneToOne, FitsFields, ReasonFits, Promise, Left, SomeAccepts}
 use Rattle.model.specs.Promises.{Whole}
+use Rattle.integers.proofs.SignLaws as SignLaws
 use Rattle.model.proofs.CaseLaws as CaseLaws
 use Rattle.model.proofs.Grammar.TicketLaws as TicketLaws
 use Rattle.model.proofs.Grammar.GrammarLaws.{decode-sound}
@@ -109,6 +112,16 @@ iterations-counted b = PromiseLaws.judge-counts (decode b)
 
 pub step-keeps-points : (t : Step) → Proper t → (N : List Loop) → Shaped 0 N → All Runs N → KeepsPoints t N
 step-keeps-points = StepLaws.keeps-points
+
+-- ---- the sign of two indices (document 02, L3): as a number −1, 0 or 1, exactly as the first is below, equal to or above the second
+
+pub sign-exact : (x y : ℤ)
+    → ((signValue (sign x y) ≡ negsuc 0) ↔ (x <ℤ y)) × ((signValue (sign x y) ≡ pos 0) ↔ (x ≡ y)) × ((signValue (sign x y) ≡ pos 1) ↔ (y <ℤ x))
+sign-exact = SignLaws.sign-exact
+
+-- it is a difference of two yes/no numbers
+pub sign-difference : (x y : ℤ) → signValue (sign x y) ≡ yesNo (ltZ y x) -ℤ yesNo (ltZ x y)
+sign-difference = SignLaws.sign-difference
 
 -- ---- signs, for a general loop number
 

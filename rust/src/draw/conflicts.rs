@@ -112,8 +112,8 @@ impl Conflicts {
         let depth = points.first().map_or(0, Vec::len);
         let mut marks = vec![false; 3usize.pow(depth as u32)];
         for (a, b) in self.pairs() {
-            let signs = points[a].iter().zip(&points[b]).map(|(x, y)| y.cmp(x) as i8);
-            let mark = signs.fold(0, |mark, sign| mark * 3 + usize::from((1 - sign) as u8));
+            let signs = points[a].iter().zip(&points[b]).map(|(x, y)| Sign::of(*x, *y));
+            let mark = signs.fold(0, |mark, sign| mark * 3 + sign as usize);
             marks[mark] = true;
         }
         let mut vectors: BTreeSet<Vec<Sign>> = (0..marks.len())

@@ -1,31 +1,58 @@
--- `sign`: each branch has the order that the sign means.
-use mathlib.Core.Path.{sym, ap}
-use lib.Signed.{_≤ℤ_}
-use Rattle.integers.specs.Sign.{less, equal, greater}
-use Rattle.integers.proofs.RingLaws.{≤ℤ-antisym}
-use Rattle.integers.proofs.RangeLaws.{back, test-lt, test-lt-no}
-use Rattle.integers.proofs.SignLaws.{means-sign}
+-- `sign`: the digit is the sign's number and 1.
+use mathlib.Core.Path.{_≡_, refl, sym, ap, _∙_, subst}
+use native.Mathlib.Omega.{arith}
+use lib.Dec.{T}
+use lib.IntN.{ℤ, pos, natAbs, _+ℤ_}
+use lib.Signed.{nonNeg}
+use mir.Syntax.{w64}
+use mir.Val.{SFits, Fits, toZ, ofZ}
+use borrow.Author.Needs.{needs}
+use Rattle.integers.specs.Sign.{Sign, less, equal, greater, sign, signValue}
+use Rattle.integers.proofs.RingLaws.{zarith}
+use Rattle.integers.proofs.RangeLaws.{back, cast-ok}
+use Rattle.integers.proofs.SignLaws.{value-fits}
 use Rattle.dependence_vectors.specs.Numbers.{digit}
+use Rattle.dependence_vectors.proofs.NumberLaws.{digit-lt}
 use Rattle.dependence_vectors.proofs.sign.Statement.{statement}
 use Rattle.dependence_vectors.proofs.sign.Tie as tie
 
+value-digit : (s : Sign) → signValue s +ℤ pos 1 ≡ pos (digit s)
+unfolding digit
+value-digit less = refl
+value-digit equal = refl
+value-digit greater = refl
+
+-- r is what `sign_of` answers, the number of the sign s
+module _ (r : ℤ) (s : Sign) (e : r ≡ signValue s) where
+  digit-fits : SFits w64 (pos (digit s))
+  digit-fits = let d = digit-lt s in record { sfits = omega arith }
+
+  sum : toZ w64 (ofZ w64 r) +ℤ pos 1 ≡ pos (digit s)
+  sum = rw (e, back (value-fits s)) (value-digit s)
+
+  sum-fits : SFits w64 (toZ w64 (ofZ w64 r) +ℤ pos 1)
+  sum-fits = subst (SFits w64) (sym sum) digit-fits
+
+  read : toZ w64 (ofZ w64 (toZ w64 (ofZ w64 r) +ℤ pos 1)) ≡ pos (digit s)
+  read = back sum-fits ∙ sum
+
+  sum-casts : T (nonNeg (toZ w64 (ofZ w64 (toZ w64 (ofZ w64 r) +ℤ pos 1)))) × Fits w64 (natAbs (toZ w64 (ofZ w64 (toZ w64 (ofZ w64 r) +ℤ pos 1))))
+  sum-casts = subst (λ z. T (nonNeg z) × Fits w64 (natAbs z)) (sym read) (cast-ok (pos (digit s)) (omega zarith) digit-fits)
+
+sign-of-requires : tie.Need-sign-of-requires
+sign-of-requires c κs = search needs
+
+add-result : tie.Need-add-result
+add-result c = let s = c .before in
+    sum-fits (c .sign-of .result) (sign (s .args .a) (s .args .b)) (simp (back, s .fits .a, s .fits .b) at (c .sign-of .ensures))
+
+cast-result : tie.Need-cast-result
+cast-result c = let s = c .before in
+    sum-casts (c .sign-of .result) (sign (s .args .a) (s .args .b)) (simp (back, s .fits .a, s .fits .b) at (c .sign-of .ensures))
+
 returns : tie.Need-returns
-unfolding digit
 returns c = let s = c .before in
-    ap digit (sym (means-sign less (s .args .a) (s .args .b) (test-lt (simp (back, s .fits .a, s .fits .b) at (c .if1 .taken)))))
-
-returns-2 : tie.Need-returns-2
-unfolding digit
-returns-2 c = let s = c .before .before in
-    ap digit (sym (means-sign greater (s .args .a) (s .args .b) (test-lt (simp (back, s .fits .a, s .fits .b) at (c .if2 .taken)))))
-
-returns-3 : tie.Need-returns-3
-unfolding digit
-returns-3 c =
-    let s = c .before .before in
-    let p : s .args .b ≤ℤ s .args .a = test-lt-no (simp (back, s .fits .a, s .fits .b) at (c .before .if1 .left)) in
-    let q : s .args .a ≤ℤ s .args .b = test-lt-no (simp (back, s .fits .a, s .fits .b) at (c .if2 .left)) in
-    ap digit (sym (means-sign equal (s .args .a) (s .args .b) (≤ℤ-antisym q p)))
+    ap natAbs (read (c .sign-of .result) (sign (s .args .a) (s .args .b)) (simp (back, s .fits .a, s .fits .b) at (c .sign-of .ensures)))
 
 pub sign-spec : {M : Type 1} → statement M
-sign-spec = tie.close (tie.spec returns returns-2 returns-3)
+sign-spec = tie.close (tie.spec sign-of-requires add-result cast-result returns)

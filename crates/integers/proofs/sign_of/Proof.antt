@@ -1,27 +1,53 @@
--- `sign_of`: each branch has the order that the sign means.
-use mathlib.Core.Path.{sym, ap}
-use lib.Signed.{_≤ℤ_}
-use Rattle.integers.specs.Sign.{less, equal, greater, signValue}
-use Rattle.integers.proofs.RingLaws.{≤ℤ-antisym}
-use Rattle.integers.proofs.RangeLaws.{back, test-lt, test-lt-no}
-use Rattle.integers.proofs.SignLaws.{means-sign}
+-- `sign_of`: the difference of the two tests is the sign.
+use mathlib.Core.Path.{_≡_, refl, sym, _∙_, ap, ap₂}
+use mathlib.Core.Bool.{Bool, true, false}
+use native.Mathlib.Omega.{arith}
+use lib.IntN.{ℤ, _-ℤ_}
+use lib.Signed.{ltZ}
+use mir.Syntax.{w64}
+use mir.Val.{SFits, toZ, ofZ, boolByte}
+use borrow.Author.Needs.{needs}
+use Rattle.integers.specs.Sign.{sign, signValue, yesNo}
+use Rattle.integers.proofs.RangeLaws.{sfits, back, held}
+use Rattle.integers.proofs.SignLaws.{value-fits, sign-difference}
 use Rattle.integers.proofs.sign_of.Statement.{statement}
 use Rattle.integers.proofs.sign_of.Tie as tie
 
+-- what the code makes of x and y
+abbrev worked : ℤ → ℤ → ℤ
+worked x y = toZ w64 (boolByte (ltZ y x)) -ℤ toZ w64 (boolByte (ltZ x y))
+
+is-yes-no : (b : Bool) → toZ w64 (boolByte b) ≡ yesNo b
+is-yes-no true = refl
+is-yes-no false = refl
+
+is-sign : (x y : ℤ) → worked x y ≡ signValue (sign x y)
+is-sign x y = ap₂ _-ℤ_ (is-yes-no (ltZ y x)) (is-yes-no (ltZ x y)) ∙ sym (sign-difference x y)
+
+read : (x y : ℤ) → toZ w64 (ofZ w64 (worked x y)) ≡ signValue (sign x y)
+read x y = held (value-fits (sign x y)) (ap (ofZ w64) (is-sign x y))
+
+-- of any two tests
+difference-fits : (s t : Bool) → SFits w64 (toZ w64 (boolByte s) -ℤ toZ w64 (boolByte t))
+difference-fits true true = sfits (omega arith)
+difference-fits true false = sfits (omega arith)
+difference-fits false true = sfits (omega arith)
+difference-fits false false = sfits (omega arith)
+
+cast-result : tie.Need-cast-result
+cast-result c = search needs
+
+cast-result-2 : tie.Need-cast-result-2
+cast-result-2 c = search needs
+
+sub-result : tie.Need-sub-result
+sub-result c = search (needs, difference-fits)
+
+-- both indices are read back from their bits, and so is the sign
 returns : tie.Need-returns
-returns c = let s = c .before in
-    ap signValue (sym (means-sign less (s .args .a) (s .args .b) (test-lt (simp (back, s .fits .a, s .fits .b) at (c .if1 .taken)))))
-
-returns-2 : tie.Need-returns-2
-returns-2 c = let s = c .before .before in
-    ap signValue (sym (means-sign greater (s .args .a) (s .args .b) (test-lt (simp (back, s .fits .a, s .fits .b) at (c .if2 .taken)))))
-
-returns-3 : tie.Need-returns-3
-returns-3 c =
-    let s = c .before .before in
-    let p : s .args .b ≤ℤ s .args .a = test-lt-no (simp (back, s .fits .a, s .fits .b) at (c .before .if1 .left)) in
-    let q : s .args .a ≤ℤ s .args .b = test-lt-no (simp (back, s .fits .a, s .fits .b) at (c .if2 .left)) in
-    ap signValue (sym (means-sign equal (s .args .a) (s .args .b) (≤ℤ-antisym q p)))
+returns c =
+    read (toZ w64 (ofZ w64 (c .args .a))) (toZ w64 (ofZ w64 (c .args .b)))
+    ∙ ap₂ (λ x y. signValue (sign x y)) (back (c .fits .a)) (back (c .fits .b))
 
 pub sign-of-spec : {M : Type 1} → statement M
-sign-of-spec = tie.close (tie.spec returns returns-2 returns-3)
+sign-of-spec = tie.close (tie.spec cast-result cast-result-2 sub-result returns)

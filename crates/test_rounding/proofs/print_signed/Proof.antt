@@ -1,23 +1,36 @@
--- `print_signed`: within ±32767 the negated number fits, and in each branch the number that is cast is not negative.
-use Prim.Native.Nat.{_≤_}
+-- `print_signed`: in each branch the number that is cast is not negative.
+use Prim.Native.Nat.{_+_}
 use native.Mathlib.Omega.{arith}
-use lib.IntN.{ℤ, pos, _-ℤ_}
-use lib.Signed.{_≤ℤ_, _<ℤ_}
+use lib.Dec.{T}
+use lib.IntN.{ℤ, pos, negsuc, natAbs, _-ℤ_}
+use lib.Signed.{_≤ℤ_, _<ℤ_, nonNeg}
 use mir.Syntax.{w64}
-use mir.Val.{SFits}
+use mir.Val.{SFits, Fits, toZ, ofZ}
 use borrow.Author.Needs.{needs}
-use Rattle.integers.specs.Difference.{size}
 use Rattle.integers.proofs.DifferenceLaws.{sub-fact}
 use Rattle.integers.proofs.RingLaws.{zarith}
-use Rattle.integers.proofs.RangeLaws.{zneeds, sfits, size-sub, back, cast-ok}
+use Rattle.integers.proofs.RangeLaws.{zneeds, fits-range, range-fits, back, cast-ok, abs-below}
 use Rattle.test_rounding.proofs.print_signed.Statement.{statement}
 use Rattle.test_rounding.proofs.print_signed.Tie as tie
 
-negated-fits : (n : ℤ) → size n ≤ 32767 → SFits w64 (pos 0 -ℤ n)
-negated-fits n h = sfits (omega (arith, size-sub (pos 0) n))
+module _ (n : ℤ) (f : SFits w64 n) (h : n <ℤ pos 0) where
+  less-fits : SFits w64 (negsuc 0 -ℤ n)
+  less-fits = let r = fits-range n f in range-fits (negsuc 0 -ℤ n) (omega (zarith, sub-fact (negsuc 0) n), omega (zarith, sub-fact (negsuc 0) n))
 
-negated-not-negative : (n : ℤ) → n <ℤ pos 0 → pos 0 ≤ℤ (pos 0 -ℤ n)
-negated-not-negative n h = omega (zarith, sub-fact (pos 0) n)
+  less-positive : pos 0 ≤ℤ (negsuc 0 -ℤ n)
+  less-positive = omega (zarith, sub-fact (negsuc 0) n)
+
+  -- what is written to a local is read back from its bits
+  subtracts : SFits w64 (negsuc 0 -ℤ toZ w64 (ofZ w64 n))
+  subtracts = rw (back f) less-fits
+
+  casts : T (nonNeg (toZ w64 (ofZ w64 (negsuc 0 -ℤ toZ w64 (ofZ w64 n))))) × Fits w64 (natAbs (toZ w64 (ofZ w64 (negsuc 0 -ℤ toZ w64 (ofZ w64 n)))))
+  casts = rw (back f, back less-fits) (cast-ok (negsuc 0 -ℤ n) less-positive less-fits)
+
+  adds : Fits w64 (natAbs (toZ w64 (ofZ w64 (negsuc 0 -ℤ toZ w64 (ofZ w64 n)))) + 1)
+  adds = rw (back f, back less-fits)
+      (let r = fits-range (negsuc 0 -ℤ n) less-fits in
+      let b = abs-below (negsuc 0 -ℤ n) 9223372036854775808 less-positive (omega zarith) in record { fits = omega arith })
 
 slice-aggregate-write-all : tie.Need-slice-aggregate-write-all
 slice-aggregate-write-all c = search needs
@@ -26,15 +39,16 @@ write-all-requires : tie.Need-write-all-requires
 write-all-requires c κs = search needs
 
 sub-print-decimal : tie.Need-sub-print-decimal
-sub-print-decimal c = let s = c .before .before .before in let f = negated-fits (s .args .n) (s .pre) in search needs
+sub-print-decimal c = let s = c .before .before .before in
+    subtracts (s .args .n) (s .fits .n) (omega (zneeds, simp (back, s .fits .n) at (c .before .before .if1 .taken)))
 
 cast-print-decimal : tie.Need-cast-print-decimal
-cast-print-decimal c =
-    let s = c .before .before .before in
-    let f = negated-fits (s .args .n) (s .pre) in
-    let p = negated-not-negative (s .args .n) (omega (zneeds, simp (back, s .fits .n) at (c .before .before .if1 .taken))) in
-    let k = cast-ok (pos 0 -ℤ s .args .n) p f in
-    search needs
+cast-print-decimal c = let s = c .before .before .before in
+    casts (s .args .n) (s .fits .n) (omega (zneeds, simp (back, s .fits .n) at (c .before .before .if1 .taken)))
+
+add-print-decimal : tie.Need-add-print-decimal
+add-print-decimal c = let s = c .before .before .before in
+    adds (s .args .n) (s .fits .n) (omega (zneeds, simp (back, s .fits .n) at (c .before .before .if1 .taken)))
 
 print-decimal-requires : tie.Need-print-decimal-requires
 print-decimal-requires c κs = search needs
@@ -62,6 +76,7 @@ print-signed-spec =
     write-all-requires
     sub-print-decimal
     cast-print-decimal
+    add-print-decimal
     print-decimal-requires
     cast-print-decimal-2
     print-decimal-requires-2

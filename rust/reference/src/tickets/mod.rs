@@ -107,6 +107,19 @@ fn far(random: &mut Random, kinds: Kinds) -> Ticket {
     Ticket { nest, steps }
 }
 
+/// Signs of indices whose difference is no word.
+fn far_apart(random: &mut Random) -> Ticket {
+    let loops = few(random, spaces::far_apart);
+    let nest = bodies::nest(random, loops, Body::Any);
+    let parts = [(count(random), Kinds::Five.evenly())];
+    let steps = if random.percent(50) {
+        chains::accepted(random, &nest, &parts)
+    } else {
+        chains::free(random, nest.loops.len(), &parts)
+    };
+    Ticket { nest, steps }
+}
+
 /// Exchanges with an empty loop, or circulations of one: 13.
 fn spreading(random: &mut Random, kinds: Kinds) -> Ticket {
     let loops = spaces::spreading(random);
@@ -230,6 +243,12 @@ pub fn out_of_order_ticket(seed: u64, index: u64) -> Vec<u8> {
         1 => refused(random, true),
         _ => return made(random, Kinds::Five),
     };
+    bytes_of(&words_of(&ticket))
+}
+
+/// One with indices that are farther apart than a word goes.
+pub fn far_apart_ticket(seed: u64, index: u64) -> Vec<u8> {
+    let ticket = far_apart(&mut Random::of(seed, index));
     bytes_of(&words_of(&ticket))
 }
 

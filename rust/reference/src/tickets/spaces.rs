@@ -145,6 +145,38 @@ pub fn far(random: &mut Random) -> Vec<Loop> {
     (0..depth).map(one).collect()
 }
 
+/// A loop of few indices for each of the `outer` + 1 indices of the first loop. They rise or fall with it by more than 32,767 in all, so that the
+/// difference of two is no word.
+fn steep(random: &mut Random, outer: i64, outside: usize) -> Loop {
+    let within = random.between(0, 2);
+    let slope = random.between(32_767 / outer + 1, (65_534 - within) / outer);
+    let first = random.between(-32_767, 32_767 - within - slope * outer);
+    let mut coefficients = vec![0; outside];
+    let rising = random.percent(50);
+    coefficients[0] = if rising { slope } else { -slope };
+    let low = if rising { first } else { first + slope * outer };
+    Loop {
+        lower: vec![limit(1, low, coefficients.clone())],
+        upper: vec![limit(1, low + within, coefficients)],
+    }
+}
+
+/// One loop at least is steep.
+pub fn far_apart(random: &mut Random) -> Vec<Loop> {
+    let depth = random.between(2, 4) as usize;
+    let outer = random.between(3, 5);
+    let certain = random.between(1, depth as i64 - 1) as usize;
+    let mut loops = vec![plain(0, outer, 0)];
+    for outside in 1..depth {
+        loops.push(if outside == certain || random.percent(40) {
+            steep(random, outer, outside)
+        } else {
+            small_loop(random, outside, 2, 0)
+        });
+    }
+    loops
+}
+
 /// The last loop is empty, and an exchange of it spreads over many partial points.
 pub fn spreading(random: &mut Random) -> Vec<Loop> {
     let outer = random.between(0, 11);
