@@ -72,8 +72,8 @@ typedef struct hurkeztor_pair {
  * Records of list beyond the pairs found keep their contents; where the answer is not pairs, all do. A list of length 0 gets the count. */
 uint64_t hurkeztor_reason(const uint8_t *ticket, size_t ticket_len, hurkeztor_pair *list, size_t list_len);
 
-/* The sign that directions have of a source's index and a sink's: -1, 0 or 1 as the source's is below, equal to or above the sink's. That is <, = or >
- * in a listing. Proved for all numbers of 64 bits, also where their difference does not fit. */
+/* The sign that directions have of a source's index and a sink's: -1, 0 or 1 as the source's is below, equal to or above the sink's; in a listing
+ * that is <, = or >. It is proved for all numbers of 64 bits, also where their difference does not fit. */
 int64_t hurkeztor_sign(int64_t source, int64_t sink);
 
 static inline unsigned hurkeztor_number(uint64_t answer) { return (unsigned)(answer & 0xff); }

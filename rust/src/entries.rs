@@ -1,5 +1,5 @@
-//! The six proved entries on bytes as they are: nothing is checked, added or interpreted here but the packed answer. Beside them stands the sign of two
-//! indices.
+//! The six proved entries on bytes as they are: nothing is checked, added or interpreted here but the packed answer. Beside them stands the sign of
+//! two indices.
 //!
 //! The interface above ([`crate::judge`] and so on) is what programs want. This one is for those that look at every number, place and
 //! byte. All `unsafe` of the crate is in this module.

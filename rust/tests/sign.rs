@@ -137,23 +137,26 @@ fn no_branch_in_the_middle_form() {
     }
 }
 
+/// The names of a function's instructions in the archive, up to its end.
+fn instructions(function: &str) -> Vec<String> {
+    let symbol = format!("--disassemble={function}");
+    let code = printed("objdump", &["-d", "--no-show-raw-insn", &symbol, env!("HURKEZTOR_ARCHIVE")]);
+    let (_, body) = code.split_once(&format!("<{function}>:\n")).expect(function);
+    let lines = body.lines().take_while(|line| !line.is_empty());
+    let names = lines.filter_map(|line| line.split_once(":\t")?.1.split_whitespace().next());
+    names.map(String::from).collect()
+}
+
 #[test]
 fn no_jump_in_the_machine_code() {
-    let code = printed(
-        "objdump",
-        &[
-            "-d",
-            "--no-show-raw-insn",
-            "--disassemble=hurkeztor_sign",
-            env!("HURKEZTOR_ARCHIVE"),
-        ],
-    );
-    let (_, body) = code.split_once("<hurkeztor_sign>:\n").expect("the function");
-    let instructions: Vec<&str> = body.lines().take_while(|line| !line.is_empty()).collect();
-    let names = instructions
-        .iter()
-        .map(|line| line.split_whitespace().nth(1).expect("an instruction"));
-    let names: Vec<&str> = names.take_while(|name| *name != "ret").collect();
-    assert!(names.contains(&"sub"), "{body}");
-    assert!(!names.iter().any(|name| name.starts_with('j') || *name == "call"), "{body}");
+    let by_itself = instructions("hurkeztor_sign");
+    let (sign, after) = by_itself.split_at(by_itself.iter().position(|name| name == "ret").expect("its end"));
+    assert!(after[1..].iter().all(|name| name.starts_with("nop")), "{by_itself:?}");
+    assert!(sign.iter().any(|name| name == "sub"), "{by_itself:?}");
+    assert!(!sign.iter().any(|name| name.starts_with('j') || name == "call"), "{by_itself:?}");
+
+    // drawn into the search it is the same: two answers from one comparison, for each sign of the vectors of one to four loops
+    let drawn_in = instructions("dependence_search::mark_sources");
+    let signs = drawn_in.windows(2).filter(|pair| pair[0] == "setl" && pair[1] == "setg").count();
+    assert!(signs >= 1 + 2 + 3 + 4, "{signs} signs");
 }

@@ -1,6 +1,6 @@
 // The six entries for C (include/hurkeztor.h). Each contract equates the answer, and what everything lent holds in the end, with the
-// definition of crate model (specs/Entries; of reason specs/Pairs); what is promised of the definitions is stated there, proofs/Demands. Then the sign
-// of two indices.
+// definition of crate model (specs/Entries; of reason specs/Pairs); what is promised of the definitions is stated there, proofs/Demands. Then
+// the sign of two indices.
 ghost use mathlib.Core.Path.{_≡_};
 ghost use Rattle.integers.specs.Sign.{sign, signValue};
 ghost use Rattle.model.specs.Entries as Entries;

@@ -171,7 +171,7 @@ pub fn affine_at(words: &[i16], at: usize, indices: &[i64]) -> i64
     sum.value
 }
 
-// −1, 0 or 1 as a is below, equal to or above b: a difference of two yes/no numbers, with no branch. a - b would not fit.
+// −1, 0 or 1 as a is below, equal to or above b: a difference of two yes/no numbers, with no branch. a - b need not fit.
 pub fn sign_of(a: i64, b: i64) -> i64
     ensures { λ r. ⌜ r ≡ signValue (sign a b) ⌝ }
 {

@@ -1,5 +1,5 @@
-// Prints a table of the two divisions around zero: dividend, divisor, rounded down, rounded up. Then one of signs: two numbers, and how the first stands
-// to the second.
+// Prints a table of the two divisions around zero: dividend, divisor, rounded down, rounded up. Then one of signs: two numbers, and how the
+// first stands to the second.
 ghost use Prim.Native.Nat.{_<_};
 ghost use lib.IntN.{pos};
 ghost use lib.Signed.{_<ℤ_};

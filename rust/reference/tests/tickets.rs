@@ -3,7 +3,7 @@
 use reference::plain_run::{Turn, order, plain_run};
 use reference::reading::kinds;
 use reference::ticket::{Nest, Ticket};
-use reference::tickets::{as_words, ticket};
+use reference::tickets::{as_words, far_apart_ticket, ticket};
 use reference::{Answers, judge};
 
 const SEED: u64 = 1;
@@ -19,6 +19,27 @@ fn every_number_of_judge_occurs() {
     for (number, times) in seen[..14].iter().enumerate() {
         assert!(*times >= 15, "number {number} occurs {times} times: {seen:?}");
     }
+}
+
+/// Most have conflicts, and two iterations whose indices differ by more than a word holds.
+#[test]
+fn indices_lie_far_apart() {
+    let far_apart = |index: &u64| {
+        let Ok(admitted) = Answers::to(&far_apart_ticket(SEED, *index)).admitted else {
+            return false;
+        };
+        let spread = |place: usize| {
+            let values = admitted.points.iter().map(|point| point[place]);
+            values
+                .clone()
+                .max()
+                .zip(values.min())
+                .is_some_and(|(most, least)| most - least > 32_767)
+        };
+        !admitted.lines.is_empty() && (0..admitted.ticket.nest.loops.len()).any(spread)
+    };
+    let tickets = (0..300).filter(far_apart).count();
+    assert!(tickets > 200, "{tickets} of 300");
 }
 
 /// A rule whose value tells statement, reads and original iteration apart.
