@@ -14,15 +14,21 @@ const TICKETS: u64 = 20_000;
 const LARGE_TICKETS: u64 = 40;
 const FAR_APART_TICKETS: u64 = 2_000;
 
-#[test]
-fn the_entries_answer_as_the_reference() {
+/// Compares these tickets, and prints what they were answered.
+fn compared(what: Compared, made: impl Fn(u64, u64) -> Vec<u8> + Copy, tickets: u64) -> Tally {
     let mut tally = Tally::default();
-    for index in 0..TICKETS {
-        if let Err(difference) = compare(Compared::All, ticket, SEED, index, &mut tally) {
+    for index in 0..tickets {
+        if let Err(difference) = compare(what, made, SEED, index, &mut tally) {
             panic!("{difference}");
         }
     }
     println!("{tally}");
+    tally
+}
+
+#[test]
+fn the_entries_answer_as_the_reference() {
+    let tally = compared(Compared::All, ticket, TICKETS);
     for number in 0..=16 {
         let times = tally.of_number(number);
         assert!(times >= 100, "number {number} was answered {times} times only:\n{tally}");
@@ -33,13 +39,7 @@ fn the_entries_answer_as_the_reference() {
 /// A third of them have pairs that trade places, and a tenth are refused by the table alone.
 #[test]
 fn reason_answers_as_the_reference_on_tickets_out_of_order() {
-    let mut tally = Tally::default();
-    for index in 0..TICKETS {
-        if let Err(difference) = compare(Compared::Reason, out_of_order_ticket, SEED, index, &mut tally) {
-            panic!("{difference}");
-        }
-    }
-    println!("{tally}");
+    let tally = compared(Compared::Reason, out_of_order_ticket, TICKETS);
     assert!(
         tally.with_pairs >= TICKETS / 3 && tally.table_alone >= TICKETS / 10,
         "too few are out of order:\n{tally}"
@@ -49,25 +49,13 @@ fn reason_answers_as_the_reference_on_tickets_out_of_order() {
 /// They are judged without their points where that can be, and by all of them otherwise.
 #[test]
 fn the_entries_answer_as_the_reference_on_many_iterations() {
-    let mut tally = Tally::default();
-    for index in 0..LARGE_TICKETS {
-        if let Err(difference) = compare(Compared::All, large_ticket, SEED, index, &mut tally) {
-            panic!("{difference}");
-        }
-    }
-    println!("{tally}");
+    compared(Compared::All, large_ticket, LARGE_TICKETS);
 }
 
 /// The difference of two of their indices is no word of 16 bits.
 #[test]
 fn the_entries_answer_as_the_reference_on_indices_far_apart() {
-    let mut tally = Tally::default();
-    for index in 0..FAR_APART_TICKETS {
-        if let Err(difference) = compare(Compared::All, far_apart_ticket, SEED, index, &mut tally) {
-            panic!("{difference}");
-        }
-    }
-    println!("{tally}");
+    compared(Compared::All, far_apart_ticket, FAR_APART_TICKETS);
 }
 
 fn bytes(digits: &str) -> Vec<u8> {
@@ -92,13 +80,8 @@ fn outside_tickets() -> Vec<Vec<u8>> {
 
 #[test]
 fn the_entries_answer_as_the_reference_on_outside_tickets() {
-    let (tickets, mut tally) = (outside_tickets(), Tally::default());
-    for index in 0..tickets.len() as u64 {
-        if let Err(difference) = compare(Compared::All, |_, index| tickets[index as usize].clone(), 0, index, &mut tally) {
-            panic!("{difference}");
-        }
-    }
-    println!("{tally}");
+    let tickets = outside_tickets();
+    let tally = compared(Compared::All, |_, index| tickets[index as usize].clone(), tickets.len() as u64);
     assert!(tally.circulating >= 200, "too few circulations:\n{tally}");
     assert!(tally.with_pairs >= 14 && tally.table_alone >= 14, "too few out of order:\n{tally}");
 }

@@ -14,15 +14,20 @@ fn print_signed(n: i64) {
     }
 }
 
+// Writes two numbers, with a blank behind each.
+fn print_two(a: i64, b: i64) {
+    print_signed(a);
+    io::write_all(1, b" ");
+    print_signed(b);
+    io::write_all(1, b" ");
+}
+
 // Writes one line of the table: a is k - 9.
 fn print_line(k: usize, b: i64)
     requires { ⌜ (k < 19) × (pos 0 <ℤ b) ⌝ }
 {
     let a = (k as i64) - 9;
-    print_signed(a);
-    io::write_all(1, b" ");
-    print_signed(b);
-    io::write_all(1, b" ");
+    print_two(a, b);
     print_signed(integers::floor_div(a, b));
     io::write_all(1, b" ");
     print_signed(integers::ceil_div(a, b));
@@ -31,10 +36,7 @@ fn print_line(k: usize, b: i64)
 
 // Writes one line of the signs.
 fn print_sign(a: i64, b: i64) {
-    print_signed(a);
-    io::write_all(1, b" ");
-    print_signed(b);
-    io::write_all(1, b" ");
+    print_two(a, b);
     print_signed(integers::sign_of(a, b));
     io::write_all(1, b"\n");
 }

@@ -19,6 +19,12 @@ cast-a c = search needs
 sub-a : tie.Need-sub-a
 sub-a c = dividend-fits (c .args .k) (c .pre .0)
 
+print-two-requires : tie.Need-print-two-requires
+print-two-requires c κs = search needs
+
+floor-div-requires : tie.Need-floor-div-requires
+floor-div-requires c κs = search needs
+
 print-signed-requires : tie.Need-print-signed-requires
 print-signed-requires c κs = search needs
 
@@ -27,6 +33,9 @@ slice-aggregate-write-all c = search needs
 
 write-all-requires : tie.Need-write-all-requires
 write-all-requires c κs = search needs
+
+ceil-div-requires : tie.Need-ceil-div-requires
+ceil-div-requires c κs = search needs
 
 print-signed-requires-2 : tie.Need-print-signed-requires-2
 print-signed-requires-2 c κs = search needs
@@ -37,30 +46,6 @@ slice-aggregate-write-all-2 c = search needs
 write-all-requires-2 : tie.Need-write-all-requires-2
 write-all-requires-2 c κs = search needs
 
-floor-div-requires : tie.Need-floor-div-requires
-floor-div-requires c κs = search needs
-
-print-signed-requires-3 : tie.Need-print-signed-requires-3
-print-signed-requires-3 c κs = search needs
-
-slice-aggregate-write-all-3 : tie.Need-slice-aggregate-write-all-3
-slice-aggregate-write-all-3 c = search needs
-
-write-all-requires-3 : tie.Need-write-all-requires-3
-write-all-requires-3 c κs = search needs
-
-ceil-div-requires : tie.Need-ceil-div-requires
-ceil-div-requires c κs = search needs
-
-print-signed-requires-4 : tie.Need-print-signed-requires-4
-print-signed-requires-4 c κs = search needs
-
-slice-aggregate-write-all-4 : tie.Need-slice-aggregate-write-all-4
-slice-aggregate-write-all-4 c = search needs
-
-write-all-requires-4 : tie.Need-write-all-requires-4
-write-all-requires-4 c κs = search needs
-
 returns : tie.Need-returns
 returns c = search needs
 
@@ -70,18 +55,13 @@ print-line-spec =
     (tie.spec
     cast-a
     sub-a
+    print-two-requires
+    floor-div-requires
     print-signed-requires
     slice-aggregate-write-all
     write-all-requires
+    ceil-div-requires
     print-signed-requires-2
     slice-aggregate-write-all-2
     write-all-requires-2
-    floor-div-requires
-    print-signed-requires-3
-    slice-aggregate-write-all-3
-    write-all-requires-3
-    ceil-div-requires
-    print-signed-requires-4
-    slice-aggregate-write-all-4
-    write-all-requires-4
     returns)
