@@ -155,8 +155,8 @@ fn no_jump_in_the_machine_code() {
     assert!(sign.iter().any(|name| name == "sub"), "{by_itself:?}");
     assert!(!sign.iter().any(|name| name.starts_with('j') || name == "call"), "{by_itself:?}");
 
-    // drawn into the search it is the same: two answers from one comparison, for each sign of the vectors of one to four loops
-    let drawn_in = instructions("dependence_search::mark_sources");
-    let signs = drawn_in.windows(2).filter(|pair| pair[0] == "setl" && pair[1] == "setg").count();
+    // inlined in the search it is the same: two answers from one comparison, for each sign of the vectors of one to four loops
+    let inlined = instructions("dependence_search::mark_sources");
+    let signs = inlined.windows(2).filter(|pair| pair[0] == "setl" && pair[1] == "setg").count();
     assert!(signs >= 1 + 2 + 3 + 4, "{signs} signs");
 }

@@ -10,10 +10,10 @@ use lib.IntN.{ℤ, pos, negsuc, negℤ, _-ℤ_}
 use Rattle.lists.specs.Tests.{Decides}
 use lib.Signed.{_≤ℤ_, _<ℤ_, ltZ}
 use mir.Syntax.{w64}
-use mir.Val.{SFits}
+use mir.Val.{SFits, toZ, ofZ}
 use Rattle.integers.specs.Sign.{Sign, less, equal, greater, sign, turned, signValue, yesNo, eqZ}
 use Rattle.integers.proofs.RingLaws.{zarith, ≤ℤ-antisym}
-use Rattle.integers.proofs.RangeLaws.{sfits, lt-test, lt-test-no, test-lt, test-lt-no}
+use Rattle.integers.proofs.RangeLaws.{sfits, held, lt-test, lt-test-no, test-lt, test-lt-no}
 use Rattle.integers.proofs.DifferenceLaws.{neg-fact}
 
 -- s is how x stands to y: case on the sign, and the order is at hand
@@ -54,6 +54,10 @@ pub value-fits : (s : Sign) → SFits w64 (signValue s)
 value-fits less = sfits (omega arith)
 value-fits equal = sfits (omega arith)
 value-fits greater = sfits (omega arith)
+
+-- read back from its bits
+pub value-read : {r : ℤ} (s : Sign) → r ≡ signValue s → toZ w64 (ofZ w64 r) ≡ signValue s
+value-read s e = held (value-fits s) (ap (ofZ w64) e)
 
 pub value-means : (s : Sign) (x y : ℤ) → (signValue (sign x y) ≡ signValue s) ↔ Means s x y
 value-means s x y = (λ e. subst (λ t. Means t x y) (same e) (sign-means x y), λ h. ap signValue (means-sign s x y h))

@@ -1,5 +1,5 @@
 -- `sign_of`: the difference of the two tests is the sign.
-use mathlib.Core.Path.{_≡_, refl, sym, _∙_, ap, ap₂}
+use mathlib.Core.Path.{_≡_, refl, sym, _∙_, ap₂}
 use mathlib.Core.Bool.{Bool, true, false}
 use native.Mathlib.Omega.{arith}
 use lib.IntN.{ℤ, _-ℤ_}
@@ -8,8 +8,8 @@ use mir.Syntax.{w64}
 use mir.Val.{SFits, toZ, ofZ, boolByte}
 use borrow.Author.Needs.{needs}
 use Rattle.integers.specs.Sign.{sign, signValue, yesNo}
-use Rattle.integers.proofs.RangeLaws.{sfits, back, held}
-use Rattle.integers.proofs.SignLaws.{value-fits, sign-difference}
+use Rattle.integers.proofs.RangeLaws.{sfits, back}
+use Rattle.integers.proofs.SignLaws.{value-read, sign-difference}
 use Rattle.integers.proofs.sign_of.Statement.{statement}
 use Rattle.integers.proofs.sign_of.Tie as tie
 
@@ -23,9 +23,6 @@ is-yes-no false = refl
 
 is-sign : (x y : ℤ) → worked x y ≡ signValue (sign x y)
 is-sign x y = ap₂ _-ℤ_ (is-yes-no (ltZ y x)) (is-yes-no (ltZ x y)) ∙ sym (sign-difference x y)
-
-read : (x y : ℤ) → toZ w64 (ofZ w64 (worked x y)) ≡ signValue (sign x y)
-read x y = held (value-fits (sign x y)) (ap (ofZ w64) (is-sign x y))
 
 -- of any two tests
 difference-fits : (s t : Bool) → SFits w64 (toZ w64 (boolByte s) -ℤ toZ w64 (boolByte t))
@@ -46,7 +43,7 @@ sub-result c = search (needs, difference-fits)
 -- both indices are read back from their bits, and so is the sign
 returns : tie.Need-returns
 returns c =
-    read (toZ w64 (ofZ w64 (c .args .a))) (toZ w64 (ofZ w64 (c .args .b)))
+    value-read (sign (toZ w64 (ofZ w64 (c .args .a))) (toZ w64 (ofZ w64 (c .args .b)))) (is-sign _ _)
     ∙ ap₂ (λ x y. signValue (sign x y)) (back (c .fits .a)) (back (c .fits .b))
 
 pub sign-of-spec : {M : Type 1} → statement M
