@@ -2,6 +2,8 @@
 // in the sum of all, 0 lies outside the least and the greatest difference of their subscripts at iterations that
 // have the vector. With some loops left to their greatest common divisor: if no multiple of it lies there.
 // Words, ranges and marks are flat, as crates nest_elements, nest_loop_ranges and dependence_vectors have them.
+#![tactic(auto)]
+
 ghost use Rattle.std.specs.Prelude.{◌≡◌, true, ◌≤◌, ◌<◌, neg_ℤ, ◌+ℤ◌, ◌-ℤ◌, ◌*ℤ◌};
 ghost use Rattle.std.specs.Int.Signed.{le_z};
 ghost use Rattle.integers.specs.Difference.{size};

@@ -1,6 +1,8 @@
 // The lines of a nest without its points. They are bounded from both sides: the lines of a part of the nest are among them, and Banerjee's
 // inequalities allow no others than are marked. Where the two agree the lines are known; where they do not, nothing is said. The part is the nest's
 // corner or its centre.
+#![tactic(auto)]
+
 ghost use Rattle.std.specs.Prelude.{◌≡◌, true, ◌<◌, length};
 ghost use Rattle.nest_loop_ranges.specs.Values.{RangesAre};
 ghost use Rattle.nest_flat.specs.FlatNests.{flat_nest};

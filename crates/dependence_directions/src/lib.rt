@@ -1,5 +1,7 @@
 // Refusal 9 of a nest that passes 7 and 8, or the lines of its listing and the directions of the nest. Few points are searched; of many the search is
 // made where the lines are not known without them.
+#![tactic(auto)]
+
 ghost use Rattle.std.specs.Prelude.{◌≡◌, ◌*◌, ◌≤◌, length};
 ghost use Rattle.model.specs.Grammar.{ticket_loops, most_points};
 ghost use Rattle.model.specs.Directions.{vector_count};

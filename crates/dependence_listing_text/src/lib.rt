@@ -1,4 +1,6 @@
 // The text of a listing from the marks of its lines: the size first, then the bytes.
+#![tactic(auto)]
+
 ghost use Rattle.std.specs.Prelude.{◌≡◌, ◌+◌, ◌*◌, ◌-◌, ◌/◌, ◌%◌, ◌≤◌, ◌<◌, length, get_or, take};
 ghost use mathlib.Core.List.{flat_map};
 ghost use Rattle.lists.specs.Parts.{put};
@@ -155,7 +157,7 @@ fn write_lines(marks: &[bool], n: usize, depth: usize, out: &mut [u8], at: usize
 // ---- the whole
 
 // A number and the byte after it, in the first `len` bytes.
-#[derive(Drop)]
+#[derive(Clone, Copy)]
 pub struct Digits {
     pub bytes: [u8; 6],
     pub len: usize,

@@ -1,4 +1,6 @@
 // The lines of a nest's listing, found in its flat form: a mark for each that there could be; and the set of their vectors.
+#![tactic(auto)]
+
 ghost use Rattle.std.specs.Prelude.{◌≡◌, false, ℕ, ◌*◌, ◌≤◌, length, get_or, replicate};
 ghost use Rattle.lists.specs.Parts.{put};
 ghost use Rattle.model.specs.Grammar.{ticket_loops, most_points};
@@ -14,7 +16,7 @@ use model::{ACCESSES, KINDS, NUMBERS, POINTS, TICKET_LOOPS, VECTORS};
 use nest_flat::Header;
 
 // Of each access its statement, counted from 0, and whether it is the one that is written.
-#[derive(Drop)]
+#[derive(Clone, Copy)]
 pub struct Uses {
     pub statements: [usize; ACCESSES],
     pub writes: [bool; ACCESSES],

@@ -1,4 +1,6 @@
 // The search of two accesses along chains of points with one element.
+#![tactic(auto)]
+
 ghost use Rattle.std.specs.Prelude.{◌≡◌, true, false, ◌+◌, ◌-◌, ◌≤◌, ◌<◌, length, get_or};
 ghost use Rattle.model.specs.Directions.{vector_count};
 ghost use Rattle.model.specs.Grammar.{most_elements};

@@ -1,4 +1,6 @@
 // The search for dependences: from stored points and element numbers, the mark of every line that a listing has.
+#![tactic(auto)]
+
 ghost use Rattle.std.specs.Prelude.{◌≡◌, true, false, ◌+◌, ◌*◌, ◌-◌, ◌^◌, ◌≤◌, ◌<◌, length};
 ghost use Rattle.model.specs.Directions.{kind_count, vector_count};
 ghost use Rattle.dependence_vectors.specs.Numbers.{place_of, marks_for};
@@ -9,7 +11,7 @@ ghost use Rattle.dependence_search.specs.Flat.{Lent, Listed, Alike, FirstLike};
 use model::{ELEMENTS, KINDS, POINTS, VECTORS};
 
 // How much is searched: the nest's loops, its points, the elements that its accesses can name, its statements.
-#[derive(Drop)]
+#[derive(Clone, Copy)]
 pub struct Sizes {
     pub depth: usize,
     pub count: usize,

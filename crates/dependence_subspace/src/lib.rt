@@ -1,5 +1,7 @@
 // The corner or the centre of an iteration space: the nest with one more limit on a side of each loop, or on both, so that few of its points are
 // left.
+#![tactic(auto)]
+
 ghost use Rattle.std.specs.Prelude.{◌≡◌, ◌≤◌, ◌<◌};
 ghost use Rattle.integers.specs.Difference.{size};
 ghost use Rattle.nest_flat.specs.Flat.{NestOk};
@@ -12,7 +14,7 @@ use nest_loop_ranges::Range;
 use ticket_loops::Limit;
 
 // A part of a nest has few values of each loop: the least ones, or those round the middle.
-#[derive(Drop)]
+#[derive(Clone, Copy)]
 pub enum Part {
     Corner,
     Centre,

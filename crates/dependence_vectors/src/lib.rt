@@ -1,4 +1,6 @@
 // The numbers of vectors, and those of vectors that are = at some loops.
+#![tactic(auto)]
+
 ghost use Rattle.std.specs.Prelude.{◌≡◌, true, false, ◌+◌, ◌*◌, ◌-◌, ◌≤◌, ◌<◌, length};
 ghost use Rattle.integers.specs.Sign.{sign as «sign_of»};
 ghost use Rattle.model.specs.Directions.{signs, vector_count};

@@ -1,4 +1,6 @@
 // The entry `judge`: whether the new order of a ticket is accepted, and how many iterations there are.
+#![tactic(auto)]
+
 ghost use Rattle.std.specs.Prelude.{◌≡◌, List, ℕ};
 ghost use Rattle.model.specs.Entries as Entries;
 ghost use Rattle.entry_answers.specs.Answers.{answer_of, Demand3};

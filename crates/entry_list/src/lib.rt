@@ -1,4 +1,6 @@
 // The entry `list`: the listing of a ticket's directions.
+#![tactic(auto)]
+
 ghost use Rattle.model.specs.Answer.{accepted};
 ghost use Rattle.model.specs.Entries as Entries;
 ghost use Rattle.model.specs.Listing.{listing};

@@ -1,4 +1,6 @@
 // An answer in one number: document 01's number, the place and the count.
+#![tactic(auto)]
+
 ghost use Rattle.std.specs.Prelude.{◌≡◌};
 ghost use Rattle.ticket_refusals.specs.Refusals.{number_of, place_of};
 ghost use Rattle.entry_answers.specs.Answers as Answers;

@@ -1,4 +1,6 @@
 // The entry `quick`: whether two accesses of a ticket are apart.
+#![tactic(auto)]
+
 ghost use Rattle.std.specs.Prelude.{◌≡◌, ◌&&◌, leb};
 ghost use Rattle.model.specs.Entries as Entries;
 ghost use Rattle.nest_flat.specs.FlatNests.{flat_nest, nest_of, FlatNestIn};
@@ -12,7 +14,7 @@ use nest_flat::Header;
 use ticket_decoding::Decoded;
 use ticket_refusals::{Refusal, Status};
 
-#[derive(Drop)]
+#[derive(Clone, Copy)]
 pub enum Tested {
     Apart,
     Perhaps,

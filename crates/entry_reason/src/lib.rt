@@ -1,5 +1,7 @@
 // The reason tool: which pairs of instances trade places at a step that is refused as out of order. A finder gives their records one by one,
 // by value; it keeps those that it found last, and looks for more when they are given.
+#![tactic(auto)]
+
 ghost use Rattle.std.specs.Prelude.{◌≡◌, ℕ, ◌-◌, ◌+◌, ◌≤◌, ◌<◌, min, pos, length};
 ghost use Rattle.model.specs.Entries.{judge};
 ghost use Rattle.model.specs.Pairs.{Record};
@@ -19,7 +21,7 @@ use ticket_refusals::Refusal;
 // A pair of instances that trades places: both iterations in the ticket's own indices, with 0 for loops that are not there; both statements, from 1;
 // the kind's letter. It has 22 bytes, and none between its fields.
 #[repr(C)]
-#[derive(Drop)]
+#[derive(Clone, Copy)]
 pub struct Pair {
     pub source: [i16; TICKET_LOOPS],
     pub sink: [i16; TICKET_LOOPS],
@@ -30,7 +32,7 @@ pub struct Pair {
 
 // The tool's answer, how many records are asked for, how many were given and the last of these. Then what it goes on from: the refused step, a source
 // point and how many records those before it have, and the words of `got` records from record `first` on.
-#[derive(Drop)]
+#[derive(Clone, Copy)]
 pub struct Finder {
     pub answer: u64,
     pub most: usize,

@@ -1,4 +1,6 @@
 // The entry `run`: the nest of a ticket in its new order, on a store.
+#![tactic(auto)]
+
 ghost use Rattle.std.specs.Prelude.{List, ℕ};
 ghost use Rattle.model.specs.Entries as Entries;
 ghost use Rattle.entry_answers.specs.Answers.{OutcomeIs, Demand3};

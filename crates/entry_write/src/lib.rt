@@ -1,4 +1,6 @@
 // The entry `write`: the new nest of an accepted ticket as bytes.
+#![tactic(auto)]
+
 ghost use Rattle.std.specs.Prelude.{List, ℕ};
 ghost use Rattle.model.specs.Entries as Entries;
 ghost use Rattle.entry_answers.specs.Answers.{OutcomeIs, Demand3};

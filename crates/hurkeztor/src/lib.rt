@@ -1,6 +1,8 @@
 // The six entries for C (include/hurkeztor.h). Each contract equates the answer, and what everything lent holds in the end, with the
 // definition of crate model (specs/Entries; of reason specs/Pairs); what is promised of the definitions is stated there, proofs/Demands. Then
 // the sign of two indices.
+#![tactic(auto)]
+
 ghost use Rattle.std.specs.Prelude.{◌≡◌};
 ghost use Rattle.integers.specs.Sign.{sign, sign_value};
 ghost use Rattle.model.specs.Entries as Entries;

@@ -1,4 +1,6 @@
 // Exact integers: the arithmetic of limits and subscripts. The solver for proofs over them is in proofs/.
+#![tactic(auto)]
+
 ghost use Rattle.std.specs.Prelude.{◌≡◌, ◌+◌, ◌≤◌, ◌<◌, pos, ◌+ℤ◌, ◌*ℤ◌, ◌<ℤ◌, length, get_or};
 ghost use Rattle.integers.specs.Difference.{size};
 ghost use Rattle.integers.specs.Gcd.{gcd};
@@ -47,7 +49,7 @@ pub fn gcd(x: u64, y: u64) -> u64
 }
 
 // A number under way: in a struct, so that a loop's invariant sees the integer and not its bits.
-#[derive(Drop)]
+#[derive(Clone, Copy)]
 struct PartialSum {
     value: i64,
 }

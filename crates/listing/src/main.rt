@@ -1,4 +1,6 @@
 // Reads a ticket from standard input and prints its listing, or `refused` with number and place.
+#![tactic(auto)]
+
 use entry_answers::Answer;
 use libc::{STDIN_FILENO, STDOUT_FILENO};
 use ticket_refusals::Refusal;

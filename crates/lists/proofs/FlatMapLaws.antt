@@ -24,6 +24,7 @@ module _ {A B : Type 0} (f : A → List B) where
 
   pub mem-flat_map : {x : A} {y : B} (l : List A) → Mem x l → Mem y (f x) → Mem y (flat_map f l)
   unfolding flat_map
+  mem-flat_map {y = y} [] x3 j = elim x3 [ ]
   mem-flat_map {y} (z ∷ l) (Memᴰ.head e) j = Memᴰ.append_left (flat_map f l) (subst (λ w. Mem y (f w)) e j)
   mem-flat_map (z ∷ l) (Memᴰ.tail m) j = Memᴰ.append_right (f z) (mem-flat_map l m j)
 
@@ -147,6 +148,7 @@ module _ {A B : Type 0} (f : A → List B) where
 
   pub precedes-flat_map-in : {x : A} (l : List A) (u v : B) → Mem x l → Precedes (f x) u v → Precedes (flat_map f l) u v
   unfolding flat_map
+  precedes-flat_map-in [] u v x3 p = elim x3 [ ]
   precedes-flat_map-in (z ∷ l) u v (Memᴰ.head e) p = precedes-left (f z) (flat_map f l) u v (subst (λ w. Precedes (f w) u v) e p)
   precedes-flat_map-in (z ∷ l) u v (Memᴰ.tail m) p = precedes-right (f z) (flat_map f l) u v (precedes-flat_map-in l u v m p)
 

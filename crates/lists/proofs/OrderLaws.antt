@@ -23,6 +23,7 @@ module _ {A : Type 0} (R : A → A → Type 0) where
   ordered-right (z ∷ p) q o = ordered-right p q o.1
 
   pub ordered-across : (p q : List A) → Ordered R (p ++ q) → (x y : A) → Mem x p → Mem y q → R x y
+  ordered-across [] q o x y x5 n = elim x5 [ ]
   ordered-across (z ∷ p) q o x y (Memᴰ.head e) n = subst (λ w. R w y) (sym e) (o.0 y (Memᴰ.append_right p n))
   ordered-across (z ∷ p) q o x y (Memᴰ.tail m) n = ordered-across p q o.1 x y m n
 
@@ -91,6 +92,7 @@ module _ {A : Type 0} where
 
   -- of two members, by where they stand
   pub precedes-cases : {x y : A} (l : List A) → Mem x l → Mem y l → (x ≡ y) ⊎ (Precedes l x y ⊎ Precedes l y x)
+  precedes-cases {y = y} [] x3 _ = elim x3 [ ]
   precedes-cases (z ∷ l) (Memᴰ.head e) (Memᴰ.head f) = inl (e ∙ sym f)
   precedes-cases (z ∷ l) (Memᴰ.head e) (Memᴰ.tail n) = inr (inl (inl (e, n)))
   precedes-cases (z ∷ l) (Memᴰ.tail m) (Memᴰ.head f) = inr (inr (inl (f, m)))
@@ -126,6 +128,7 @@ module _ {A : Type 0} where
   precedes-left (z ∷ a) b x y (inr p) = inr (precedes-left a b x y p)
 
   pub precedes-across : (a b : List A) (x y : A) → Mem x a → Mem y b → Precedes (a ++ b) x y
+  precedes-across [] b x y x4 n = elim x4 [ ]
   precedes-across (z ∷ a) b x y (Memᴰ.head e) n = inl (e, Memᴰ.append_right a n)
   precedes-across (z ∷ a) b x y (Memᴰ.tail m) n = inr (precedes-across a b x y m n)
 

@@ -106,6 +106,7 @@ module _ {A : Type 0} (t : A → Bool) where
 
   pub some-any : {x : A} (l : List A) → Mem x l → T (t x) → T (any t l)
   unfolding any
+  some-any [] x3 h = elim x3 [ ]
   some-any (y ∷ l) (Memᴰ.head e) h = or_left (t y) (any t l) (subst (λ z. T (t z)) e h)
   some-any (y ∷ l) (Memᴰ.tail m) h = or_right (t y) (any t l) (some-any l m h)
 
@@ -160,6 +161,7 @@ module _ {A : Type 0} (t : A → Bool) where
 
   pub mem-select : {x : A} (l : List A) → Mem x l → T (t x) → Mem x (select t l)
   unfolding select
+  mem-select {x = x} [] x3 h = elim x3 [ ]
   mem-select {x} (y ∷ l) (Memᴰ.head e) h =
       subst (λ b. Mem x (cond b (y ∷ select t l) (select t l))) (sym (T_true (t y) (subst (λ z. T (t z)) e h))) (Memᴰ.head e)
   mem-select {x} (y ∷ l) (Memᴰ.tail m) h = let r = mem-select l m h in cond_cases (λ k. Mem x k) (t y) (y ∷ select t l) (select t l)
@@ -272,6 +274,7 @@ module _ {A : Type 0} (t : A → A → Bool) (x : A) where
 
   pub mem-without : {y : A} (l : List A) → Mem y l → (T (t x y) → ⊥) → Mem y (without t x l)
   unfolding without
+  mem-without {y = y} [] x3 n = elim x3 [ ]
   mem-without {y} (z ∷ l) (Memᴰ.head e) n = cond_cases (Mem y) (t x z) (without t x l) (z ∷ without t x l)
       (λ h. absurd (n (subst (λ w. T (t x w)) (sym e) (true-T (t x z) h)))) (λ _. Memᴰ.head e)
   mem-without {y} (z ∷ l) (Memᴰ.tail m) n = let later = mem-without l m n in
@@ -323,6 +326,7 @@ module _ {A : Type 0} (t : A → A → Bool) (d : Decides t) where
 
   pub mem_unique : {x : A} (l : List A) → Mem x l → Mem x (unique t l)
   unfolding unique
+  mem_unique {x = x} [] x'' = elim x'' [ ]
   mem_unique (z ∷ l) (Memᴰ.head e) = Memᴰ.head e
   mem_unique {x} (z ∷ l) (Memᴰ.tail m) = let later = mem_unique l m in
       ⊎_elim (λ h. Memᴰ.head (sym (d.equal z x h))) (λ n. Memᴰ.tail (mem-without t z (unique t l) later n)) (T-cases (t z x))

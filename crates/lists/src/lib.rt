@@ -1,1 +1,2 @@
 // Laws of lists that several crates cite; no code.
+#![tactic(auto)]

@@ -1,5 +1,6 @@
 // Document 01 as definitions (specs/) and the theorems about them (proofs/). The only code is the sizes by name; for contracts the same numbers
 // stand in specs/Grammar, those of dependences in specs/Directions.
+#![tactic(auto)]
 
 // ---- the most that a nest has
 

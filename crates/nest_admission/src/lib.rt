@@ -1,4 +1,6 @@
 // Whether a nest in its flat form is admitted: refusals 7 and 8 and the count of its points, then its points and refusal 9.
+#![tactic(auto)]
+
 ghost use Rattle.std.specs.Prelude.{◌≡◌, ◌*◌, length};
 ghost use Rattle.model.specs.Grammar.{ticket_loops, most_points};
 ghost use Rattle.nest_elements.specs.Search.{answer_of};
@@ -11,7 +13,7 @@ use nest_flat::Header;
 use nest_points::SpaceCheck;
 use ticket_refusals::{Refusal, Status};
 
-#[derive(Drop)]
+#[derive(Clone, Copy)]
 pub enum Counted {
     // so many
     Points(usize),

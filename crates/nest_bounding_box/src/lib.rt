@@ -1,5 +1,7 @@
 // Two refusals ruled out by the ranges of the loops alone, without a walk over the points: 9, where every subscript stays within its extent
 // over the ranges, and 13, where the box of the ranges is small enough at every depth. Where an answer is false, the points decide.
+#![tactic(auto)]
+
 ghost use Rattle.std.specs.Prelude.{◌≡◌, true, ◌*◌, ◌≤◌, ◌<◌, length, get_or};
 ghost use Rattle.model.specs.Grammar.{array_room};
 ghost use Rattle.nest_flat.specs.Layout.{form_at};

@@ -1,5 +1,7 @@
 // Subscripts within their extents, and the elements of a store that the accesses name. Arrays and accesses are lent as flat slices
 // (specs/Layout), points as rows.
+#![tactic(auto)]
+
 ghost use Rattle.std.specs.Prelude.{◌≡◌, ◌+◌, ◌*◌, ◌≤◌, ◌<◌, pos, nat_abs, ◌+ℤ◌, ◌*ℤ◌, length};
 ghost use Rattle.lists.specs.Parts.{rows, put};
 ghost use Rattle.integers.specs.Difference.{size};

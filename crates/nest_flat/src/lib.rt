@@ -1,9 +1,11 @@
 // The flat form of a nest: its numbers on two slices that are lent, and beside them the rest by value.
+#![tactic(auto)]
+
 use model::{ACCESSES, EXTENTS, SIDES, STATEMENTS};
 
 // All of a flat nest but its two large slices, the words of all limits and of all accesses. As many arrays, statements and accesses are in use as the
 // fields of these names say. A function whose contract speaks of the flat nest is lent both slices, also where it reads one alone.
-#[derive(Drop)]
+#[derive(Clone, Copy)]
 pub struct Header {
     pub depth: usize,
     pub counts: [usize; SIDES],

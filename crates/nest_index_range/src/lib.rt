@@ -1,4 +1,6 @@
 // The range of a loop at its outer indices, on flat slices: the limits that hold there, rounded.
+#![tactic(auto)]
+
 ghost use Rattle.std.specs.Prelude.{◌≡◌, ◌+◌, ◌≤◌, ◌<◌, ◌-ℤ◌, length};
 ghost use Rattle.model.specs.Points.{value, max_z, min_z, span};
 ghost use Rattle.nest_flat.specs.Flat.{limit_at, loop_at};
@@ -30,7 +32,7 @@ fn upper_index(nest: &[i16], j: usize, outer: &[i64]) -> i64
 }
 
 // A number under way: in a struct, so that a loop's invariant sees the integer and not its bits.
-#[derive(Drop)]
+#[derive(Clone, Copy)]
 pub struct Whole {
     pub value: i64,
 }
@@ -91,7 +93,7 @@ fn last_index(nest: &[i16], j: usize, n: usize, outer: &[i64]) -> i64
 }
 
 // The first and the last index of a loop; the range is empty where the first exceeds the last.
-#[derive(Drop)]
+#[derive(Clone, Copy)]
 pub struct Ends {
     pub lo: i64,
     pub hi: i64,

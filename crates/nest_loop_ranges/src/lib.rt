@@ -1,4 +1,6 @@
 // The least and the greatest value of every loop, and of sums over them.
+#![tactic(auto)]
+
 ghost use Rattle.std.specs.Prelude.{◌≡◌, true, false, suc, ◌+◌, ◌*◌, ◌≤◌, ◌<◌, ◌+ℤ◌, length, take, drop};
 ghost use Rattle.integers.specs.Difference.{size};
 ghost use Rattle.model.specs.Quick.{range_of};
@@ -12,7 +14,7 @@ use model::LOOPS;
 use nest_index_range::Whole;
 
 // The least and the greatest value of an index.
-#[derive(Drop)]
+#[derive(Clone, Copy)]
 pub struct Range {
     pub least: i64,
     pub greatest: i64,

@@ -1,5 +1,7 @@
 // The iteration points of a loop nest: how many there are, whether one is far, and all of them in order. A nest is lent as flat slices (crate flat
 // nest), the indices outside a loop as a slice.
+#![tactic(auto)]
+
 ghost use Rattle.std.specs.Prelude.{◌≡◌, [], ◌∷◌, ◌++◌, suc, ◌+◌, ◌≤◌, ◌<◌, pos, ◌+ℤ◌, length, take};
 ghost use Rattle.lists.specs.Parts.{put};
 ghost use Rattle.nest_flat.specs.Flat.{loop_at};
@@ -13,7 +15,7 @@ use nest_flat::Header;
 use nest_index_range::Ends;
 
 // What a survey of one depth has seen: a far index, and how many points, or one more than are allowed.
-#[derive(Drop)]
+#[derive(Clone, Copy)]
 pub struct Tally {
     pub far: bool,
     pub count: usize,
@@ -95,7 +97,7 @@ pub fn tally_points(
 }
 
 // Whether every depth of a nest keeps its bounds, or the first that does not.
-#[derive(Drop)]
+#[derive(Clone, Copy)]
 pub enum SpaceCheck {
     // so many points
     Admitted(usize),

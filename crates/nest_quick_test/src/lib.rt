@@ -1,5 +1,7 @@
 // The quick test of two accesses: subscript by subscript the greatest common divisor and the range of the
 // difference. A nest and its accesses are lent as flat slices (crate flat nest).
+#![tactic(auto)]
+
 ghost use Rattle.std.specs.Prelude.{◌≡◌, ◌||◌, ◌++◌, ◌+◌, ◌*◌, ◌≤◌, pos, nat_abs, ◌+ℤ◌, ◌-ℤ◌, take, drop};
 ghost use Rattle.std.specs.Int.Signed.{lt_z};
 ghost use Rattle.integers.specs.Difference.{size};

@@ -1,4 +1,6 @@
 // Numbers of flat slices as wide rows, to reckon with, and back with the test of refusal 12: every number is within ±32767.
+#![tactic(auto)]
+
 ghost use Rattle.std.specs.Prelude.{◌≡◌, ◌+◌, ◌<◌, ◌≤◌, pos, length, get_or, take, drop};
 ghost use Rattle.lists.specs.Parts.{put};
 ghost use Rattle.lists.specs.Tests.{all};

@@ -1,4 +1,6 @@
 // Which points conflict with a point, along chains of points by element; and which of them come before it in another order.
+#![tactic(auto)]
+
 ghost use Rattle.std.specs.Prelude.{◌≡◌, false, cond, ◌||◌, ℕ, suc, ◌+◌, ◌*◌, ◌≤◌, ◌<◌, length, get_or, take};
 ghost use Rattle.model.specs.Grammar.{most_points};
 ghost use Rattle.pair_partners.specs.Chains.{number_at, names, Numbered, LinkedFrom, Links};

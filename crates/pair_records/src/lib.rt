@@ -1,4 +1,6 @@
 // The records of the pairs that trade places, found source point by source point: all are counted, and those in a window are kept.
+#![tactic(auto)]
+
 ghost use Rattle.std.specs.Prelude.{◌≡◌, cond, ◌+◌, ◌*◌, ◌≤◌, ◌<◌, pos, length, get_or};
 ghost use mathlib.Core.List.{◌∷◌, [], flat_map};
 ghost use Rattle.lists.specs.Membership.{All};
@@ -39,14 +41,14 @@ pub const RECORD_ROOM: usize = 2 * TICKET_LOOPS + 3;
 pub const BATCH_ROOM: usize = BATCH * RECORD_ROOM;
 
 // How many records are still to be passed over, and how many are kept.
-#[derive(Drop)]
+#[derive(Clone, Copy)]
 pub struct Window {
     pub skip: usize,
     pub got: usize,
 }
 
 // What a walk found; `source` is the last source point that it came to, and `before` counts the records of those before it.
-#[derive(Drop)]
+#[derive(Clone, Copy)]
 pub struct Walked {
     pub window: Window,
     pub source: usize,

@@ -1,5 +1,7 @@
 // The records of the pairs that trade places at a step, found in a ticket's flat form: its points are listed, moved by the steps, numbered by the
 // elements that they name and linked; then a walk goes through the source points.
+#![tactic(auto)]
+
 ghost use Rattle.std.specs.Prelude.{◌≡◌, true, ◌≤◌, ◌<◌, length, take};
 ghost use Rattle.nest_flat.specs.FlatNests.{flat_nest, nest_of, FlatNestIn};
 ghost use Rattle.ticket_steps.specs.Steps.{steps_of};

@@ -1,4 +1,6 @@
 // The run of an accepted nest in its flat form.
+#![tactic(auto)]
+
 ghost use Rattle.std.specs.Prelude.{◌≡◌, ◌*◌, ◌≤◌, length};
 ghost use Rattle.lists.specs.Parts.{rows};
 ghost use Rattle.model.specs.Grammar.{most_loops};

@@ -1,5 +1,7 @@
 // The run of a nest on a store, at some of its points. Its accesses are lent as the numbers of their places: access k at point x, of `count`
 // points, at `count` k + x.
+#![tactic(auto)]
+
 ghost use Rattle.std.specs.Prelude.{◌≡◌, ℕ, ◌+◌, ◌*◌, ◌%◌, ◌^◌, ◌<◌, ◌≤◌, length, slice_index, slice_set};
 ghost use Rattle.lists.specs.Parts.{rows};
 ghost use Rattle.model.specs.Store.{sum, most, first_of, make};

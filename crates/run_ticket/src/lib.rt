@@ -1,4 +1,6 @@
 // The run of an accepted ticket: refusals 15 and 16, then the new nest on the store.
+#![tactic(auto)]
+
 ghost use Rattle.nest_flat.specs.FlatNests.{flat_nest, nest_of};
 ghost use Rattle.entry_answers.specs.Answers.{OutcomeIs};
 ghost use Rattle.run_ticket.specs.Outcomes.{RunIn, tested, outcome};

@@ -1,5 +1,7 @@
 // A stage of a step taken on the limits and the subscripts of a nest where they stand, with the tests of refusals 11 and 12. Loops are counted from
 // 0.
+#![tactic(auto)]
+
 ghost use Rattle.std.specs.Prelude.{◌≡◌};
 ghost use Rattle.step_kinds.specs.Kinds.{stage_of};
 ghost use Rattle.step_loops.specs.After.{After};

@@ -1,5 +1,7 @@
 // Sides and loops on the flat slices of a nest, changed limit by limit, in place or further in. It ends at the first limit that has a number
 // beyond ±32767; what the slices hold then does not matter.
+#![tactic(auto)]
+
 ghost use Rattle.std.specs.Prelude.{◌≤◌};
 ghost use Rattle.model.specs.Grammar.{most_limits};
 ghost use Rattle.nest_flat.specs.Flat.{loop_at};

@@ -1,4 +1,6 @@
 // The set of direction vectors of a nest, by value through each step. Loops are counted from 0.
+#![tactic(auto)]
+
 ghost use Rattle.std.specs.Prelude.{◌≡◌, true, false, ◌||◌, [], ◌≤◌, length, replicate};
 ghost use Rattle.model.specs.Steps.{some_points_back};
 ghost use Rattle.model.specs.Directions.{vector_count};
@@ -11,7 +13,7 @@ use model::VECTORS;
 use step_kinds::Step;
 
 // 729 marks, one for each vector of six signs by its number, and the loops that there are. A loop that is missing has the sign =.
-#[derive(Drop)]
+#[derive(Clone, Copy)]
 pub struct DirectionSet {
     pub marks: [bool; VECTORS],
     pub depth: usize,

@@ -1,5 +1,7 @@
 // The two loops that an exchange makes of loop I at place a and loop J inside it, put in their places among the words of the nest. Each side is
 // filled first, in wide numbers and with no limit twice.
+#![tactic(auto)]
+
 ghost use Rattle.std.specs.Prelude.{◌≡◌, not, ◌&&◌, ◌+◌, ◌*◌, ◌<◌, ◌≤◌, leb, pos, length};
 ghost use mathlib.Core.List.{◌++◌, map, flat_map};
 ghost use Rattle.integers.specs.Difference.{size};
@@ -83,7 +85,7 @@ fn widened(l: Limit, n: usize) -> Limit
 // ---- the loop that J becomes, outside
 
 // A side of a loop: limits from limit `from` on.
-#[derive(Drop)]
+#[derive(Clone, Copy)]
 pub struct SideLimits {
     pub from: usize,
     pub count: usize,
@@ -273,7 +275,7 @@ fn upper_side(counts: &[usize], k: usize) -> SideLimits
 }
 
 // How many limits the two sides of a loop have; 17 for a side that is full.
-#[derive(Drop)]
+#[derive(Clone, Copy)]
 pub struct SideCounts {
     pub lower: usize,
     pub upper: usize,
@@ -357,7 +359,7 @@ fn put_filled_loop(
 }
 
 // `is_full` where a side has more than 16 limits; else `small` where every number is within ±32767, and then the two loops are in their places.
-#[derive(Drop)]
+#[derive(Clone, Copy)]
 pub struct Exchanged {
     pub full: bool,
     pub small: bool,

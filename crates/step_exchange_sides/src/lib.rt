@@ -1,4 +1,6 @@
 // A side that is filled limit by limit, in wide numbers. n is the number of loops outside.
+#![tactic(auto)]
+
 ghost use Rattle.std.specs.Prelude.{◌≡◌, [], ◌∷◌, ℕ, ◌+◌, ◌*◌, ◌<◌, ◌≤◌, length, take, drop};
 ghost use Rattle.integers.specs.Sign.{eq_z};
 ghost use Rattle.lists.specs.Parts.{put};

@@ -1,5 +1,7 @@
 // From an admitted nest in its flat form, its steps and its directions to the new nest in its flat form; or the first refusal of 10 to 13. Loops are
 // counted from 0.
+#![tactic(auto)]
+
 ghost use Rattle.std.specs.Prelude.{◌≡◌, ◌≤◌};
 ghost use Rattle.ticket_refusals.specs.declared.Status.TheVariants.{Refused};
 ghost use Rattle.model.specs.Grammar.{depth_after};
@@ -19,7 +21,7 @@ use ticket_refusals::{Refusal, Status};
 use ticket_steps::Steps;
 
 // The new nest and its directions where the status is Fine; its limits and the words of its accesses stand where the old ones stood.
-#[derive(Drop)]
+#[derive(Clone, Copy)]
 pub struct Judged {
     pub status: Status,
     pub header: Header,

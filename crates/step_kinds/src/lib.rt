@@ -1,5 +1,7 @@
 // A step of one of the five kinds, and the stages in which it is taken on a nest: a circulation exchange by exchange, any other at once. Loops are
 // counted from 0.
+#![tactic(auto)]
+
 ghost use Rattle.std.specs.Prelude.{◌≡◌, ◌≤◌, ◌<◌, length, get_or};
 ghost use Rattle.model.specs.Ticket.{exchange};
 ghost use Rattle.model.specs.Grammar.{most_loops};
@@ -7,38 +9,38 @@ ghost use Rattle.model.specs.Steps.{chain};
 ghost use Rattle.model.specs.Judge.{stages};
 ghost use Rattle.step_kinds.specs.Kinds.{step_of, stage_of};
 
-#[derive(Drop)]
+#[derive(Clone, Copy)]
 pub struct Exchange {
     pub outer: usize,
 }
 
-#[derive(Drop)]
+#[derive(Clone, Copy)]
 pub struct Reversal {
     pub target: usize,
 }
 
 // By loop `outer` the loop `distance` + 1 places inside it.
-#[derive(Drop)]
+#[derive(Clone, Copy)]
 pub struct Skew {
     pub outer: usize,
     pub distance: usize,
     pub factor: i32,
 }
 
-#[derive(Drop)]
+#[derive(Clone, Copy)]
 pub struct Section {
     pub target: usize,
     pub width: usize,
 }
 
 // Loop `from` goes to place `to`, and those between close up.
-#[derive(Drop)]
+#[derive(Clone, Copy)]
 pub struct Circulation {
     pub from: usize,
     pub to: usize,
 }
 
-#[derive(Drop)]
+#[derive(Clone, Copy)]
 pub enum Step {
     Exchange(Exchange),
     Reversal(Reversal),
@@ -47,7 +49,7 @@ pub enum Step {
     Circulation(Circulation),
 }
 
-#[derive(Drop)]
+#[derive(Clone, Copy)]
 pub enum Stage {
     Exchange(Exchange),
     Reversal(Reversal),

@@ -1,4 +1,6 @@
 // Limits on the flat words of a nest, and what a step makes of rows of coefficients and of limits. n is the number of loops outside.
+#![tactic(auto)]
+
 ghost use Rattle.std.specs.Prelude.{◌≡◌, ◌+◌, ◌*◌, ◌<◌, ◌≤◌, pos, neg_ℤ, ◌+ℤ◌, ◌*ℤ◌, take};
 ghost use Rattle.integers.specs.Affine.{Within};
 ghost use Rattle.integers.specs.Difference.{size};
@@ -254,20 +256,20 @@ pub fn put_limit(words: &mut [i16], j: usize, l: Limit, n: usize) -> bool
 // ---- the changes that a step makes to every limit of a side
 
 // Of the skew of the loop `between` + 1 places inside loop `outer`.
-#[derive(Drop)]
+#[derive(Clone, Copy)]
 pub struct CoefficientSkew {
     pub outer: usize,
     pub between: usize,
     pub factor: i32,
 }
 
-#[derive(Drop)]
+#[derive(Clone, Copy)]
 pub struct CoefficientSection {
     pub place: usize,
     pub width: u32,
 }
 
-#[derive(Drop)]
+#[derive(Clone, Copy)]
 pub enum Change {
     // the reversed loop's own limits, and those inside it
     ReverseLimit,

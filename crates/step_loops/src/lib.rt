@@ -1,4 +1,6 @@
 // The nest after each step, on its flat slices, with the tests of refusals 11 and 12. Loops are counted from 0.
+#![tactic(auto)]
+
 ghost use Rattle.std.specs.Prelude.{◌≡◌, ℕ, ◌+◌, ◌<◌, ◌≤◌};
 ghost use Rattle.model.specs.Ticket.{reversal, skew, section, exchange};
 ghost use Rattle.model.specs.Grammar.{most_loops};
@@ -14,7 +16,7 @@ use step_limits::{Change, CoefficientSection, CoefficientSkew};
 use ticket_loops::Limit;
 
 // `full` where a side of a loop has more than 16 limits; else `small` where every number is within ±32767.
-#[derive(Drop)]
+#[derive(Clone, Copy)]
 pub struct Stepped {
     pub full: bool,
     pub small: bool,

@@ -1,5 +1,7 @@
 // Where the steps of a ticket take the points of its nest. A point stands in the first places of a row, an index for each loop; loops are counted
 // from 0.
+#![tactic(auto)]
+
 ghost use Rattle.std.specs.Prelude.{◌≡◌, ◌+◌, ◌<◌, ◌≤◌, neg_ℤ, ◌+ℤ◌, ◌-ℤ◌, ◌*ℤ◌, length, get_or, take, drop};
 ghost use Rattle.lists.specs.Parts.{put};
 ghost use Rattle.lists.specs.Place.{under, on_head, swapped, swap_all};
@@ -19,7 +21,7 @@ use step_kinds::Step;
 use ticket_steps::Steps;
 
 // A point in the first `depth` places of a row.
-#[derive(Drop)]
+#[derive(Clone, Copy)]
 pub struct MovedPoint {
     pub row: [i64; LOOPS],
     pub depth: usize,

@@ -1,4 +1,6 @@
 // Which vector a step makes into the one with a number: the numbers of vectors before a step, digit by digit.
+#![tactic(auto)]
+
 ghost use Rattle.std.specs.Prelude.{◌≡◌, false, ℕ, ◌+◌, ◌-◌, ◌^◌, ◌≤◌, ◌<◌};
 ghost use Rattle.integers.specs.Sign.{turned};
 ghost use Rattle.lists.specs.Place.{«under», on_head, swapped, swap_all};

@@ -1,5 +1,7 @@
 // What a stage of a step makes of the subscripts of all accesses, on the slice where they are laid out (`nest_flat`, specs/Layout), with the test of
 // refusal 12. n is the number of loops before the stage, m that after it.
+#![tactic(auto)]
+
 ghost use Rattle.std.specs.Prelude.{take};
 ghost use Rattle.integers.specs.Affine.{Within};
 ghost use Rattle.model.specs.Grammar.{depth_after};

@@ -3,6 +3,8 @@
 // the store's words, in four bytes each, lowest first. It prints `accepted` with the count, `apart`, `perhaps`, or `refused` with number and place;
 // the bytes of a new nest in hexadecimal, the text of a listing, and the words that an accepted run leaves. It prints `changed` where a byte around
 // what was written, of 65,536 bytes filled with 170, or a word of a store that was not to change, is not what it was.
+#![tactic(auto)]
+
 ghost use Rattle.std.specs.Prelude.{◌≡◌, ◌+◌, ◌*◌, ◌<◌, ◌≤◌, length};
 ghost use Rattle.model.specs.Answer.{count_in};
 ghost use Rattle.entry_answers.specs.Answers.{answer_of};

@@ -1,5 +1,7 @@
 // Prints a table of the two divisions around zero: dividend, divisor, rounded down, rounded up. Then one of signs: two numbers, and how the
 // first stands to the second.
+#![tactic(auto)]
+
 ghost use Rattle.std.specs.Prelude.{◌<◌, pos, ◌<ℤ◌};
 
 // Writes n. Of a negative number one less than its size is cast: the least number, negated, would not fit.

@@ -1,4 +1,6 @@
 // The points of a decoded ticket, counted; or the first refusal of 1 to 8.
+#![tactic(auto)]
+
 ghost use Rattle.ticket_decoding.specs.Ticket.{DecodedIn};
 ghost use Rattle.ticket_admission.specs.CountedTickets.{Counts};
 

@@ -1,4 +1,6 @@
 // The arrays of a ticket, read onto a flat slice (`nest_flat`, specs/Layout). `at` is the number of a word, from 1.
+#![tactic(auto)]
+
 ghost use Rattle.std.specs.Prelude.{◌≡◌, ◌*◌, ◌≤◌, length};
 ghost use Rattle.lists.specs.Parts.{put};
 ghost use Rattle.model.specs.Grammar.{most_dimensions, array_room, most_extents, most_elements};
@@ -12,14 +14,14 @@ use ticket_refusals::{Refusal, Status};
 use ticket_words::Natural;
 
 // An array: its first `dimensions` extents.
-#[derive(Drop)]
+#[derive(Clone, Copy)]
 pub struct Shape {
     pub dimensions: usize,
     pub extents: [usize; DIMENSIONS],
 }
 
 // With the number of its elements.
-#[derive(Drop)]
+#[derive(Clone, Copy)]
 pub struct ShapeRead {
     pub status: Status,
     pub shape: Shape,
@@ -28,7 +30,7 @@ pub struct ShapeRead {
 }
 
 // The first `count` arrays are laid.
-#[derive(Drop)]
+#[derive(Clone, Copy)]
 pub struct ArraysRead {
     pub status: Status,
     pub count: usize,

@@ -1,4 +1,6 @@
 // From any byte slice to a ticket in its flat form, or the first refusal.
+#![tactic(auto)]
+
 ghost use Rattle.std.specs.Prelude.{◌≡◌, length};
 ghost use Rattle.ticket_words.specs.Reads.{Reached};
 ghost use Rattle.model.specs.Grammar as Grammar;
@@ -10,7 +12,7 @@ use ticket_refusals::{Refusal, Status};
 use ticket_steps::Steps;
 
 // The ticket where the status is Fine; its limits and the words of its accesses stand in the slices that were lent.
-#[derive(Drop)]
+#[derive(Clone, Copy)]
 pub struct Decoded {
     pub status: Status,
     pub steps: Steps,

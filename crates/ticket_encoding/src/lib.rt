@@ -1,4 +1,6 @@
 // A nest as a ticket's bytes in a lent buffer. `at` is a place in the buffer, and a writer answers the place behind what it wrote.
+#![tactic(auto)]
+
 ghost use Rattle.model.specs.Encode.{counted, array_words, access_words, statement_words, nest_words};
 ghost use Rattle.nest_flat.specs.Layout.{arrays_of, access_at, accesses_from};
 ghost use Rattle.nest_flat.specs.FlatNests.{flat_nest, nest_of};
@@ -12,7 +14,7 @@ use model::{ACCESS_ROOM, ARRAY_ROOM, DIMENSIONS, ROW_ROOM};
 use nest_flat::Header;
 
 // How many bytes were written, or how many there would be.
-#[derive(Drop)]
+#[derive(Clone, Copy)]
 pub enum Encoded {
     Complete(usize),
     TooShort(usize),

@@ -1,4 +1,6 @@
 // Words and loops as bytes into a lent buffer. `at` is a place in the buffer, and a writer answers the place behind what it wrote.
+#![tactic(auto)]
+
 ghost use Rattle.std.specs.Prelude.{◌≡◌, [], ◌∷◌, map, ◌+◌, ◌≤◌, ◌<◌, ◌%◌, ◌/◌, pos, nat_abs, length, get_or, take, drop};
 ghost use Rattle.lists.specs.Parts.{put};
 ghost use Rattle.model.specs.Words.{bits};

@@ -1,4 +1,6 @@
 // A decoded ticket judged: refusals 1 to 13, then all that the entries ask of it.
+#![tactic(auto)]
+
 ghost use Rattle.std.specs.Prelude.{◌≡◌};
 ghost use Rattle.ticket_refusals.specs.declared.Status.TheVariants.{Refused};
 ghost use Rattle.ticket_decoding.specs.Ticket.{ticket_of, DecodedIn};
@@ -16,7 +18,7 @@ use ticket_steps::Steps;
 
 // Where the status is Fine. Of the ticket's own nest: how many iterations it has, its first opaque statement, from 1, or 0, and how many elements.
 // Of the new nest: its header and its directions; its limits and the words of its accesses stand in the slices that were lent.
-#[derive(Drop)]
+#[derive(Clone, Copy)]
 pub struct Decided {
     pub status: Status,
     pub count: usize,

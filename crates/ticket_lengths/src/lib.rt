@@ -1,4 +1,6 @@
 // How many words a nest has when it is written: sums over counts and numbers of dimensions.
+#![tactic(auto)]
+
 ghost use Rattle.std.specs.Prelude.{◌≡◌, ◌+◌, ◌*◌, ◌≤◌, ◌<◌, ◌/◌, length};
 ghost use Rattle.model.specs.Grammar.{most_accesses, most_loops, array_room, most_extents};
 ghost use Rattle.ticket_lengths.specs.Lengths.{sums, loop_length, array_length, access_length, nest_length, CountsIn, ArraysIn, AccessedIn};

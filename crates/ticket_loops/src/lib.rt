@@ -1,4 +1,6 @@
 // The loops section of a ticket, read onto flat slices (`nest_flat`, specs/Flat). `at` is the number of a word, from 1.
+#![tactic(auto)]
+
 ghost use Rattle.std.specs.Prelude.{◌≡◌, ◌+◌, ◌*◌, ◌<◌, ◌≤◌, length};
 ghost use Rattle.lists.specs.Parts.{put};
 ghost use Rattle.model.specs.Encode.{limit_words};
@@ -14,20 +16,20 @@ use ticket_refusals::{Refusal, Status};
 use ticket_words::{Natural, Number};
 
 // constant + coefficients · indices.
-#[derive(Drop)]
+#[derive(Clone, Copy)]
 pub struct Affine {
     pub constant: i32,
     pub coefficients: [i32; LOOPS],
 }
 
-#[derive(Drop)]
+#[derive(Clone, Copy)]
 pub struct ConstantRead {
     pub status: Status,
     pub value: i32,
     pub next: usize,
 }
 
-#[derive(Drop)]
+#[derive(Clone, Copy)]
 pub struct AffineRead {
     pub status: Status,
     pub affine: Affine,
@@ -36,14 +38,14 @@ pub struct AffineRead {
 
 // multiplier × index against constant + coefficients · indices of the loops outside. Words have 16 bits, and of such numbers a step makes
 // none beyond 2 × 32767² < 2³¹ before the test of refusal 12: 32 bits hold all, and a limit goes by value, so its size is its price.
-#[derive(Drop)]
+#[derive(Clone, Copy)]
 pub struct Limit {
     pub multiplier: u32,
     pub constant: i32,
     pub coefficients: [i32; LOOPS],
 }
 
-#[derive(Drop)]
+#[derive(Clone, Copy)]
 pub struct LimitRead {
     pub status: Status,
     pub limit: Limit,
@@ -51,20 +53,20 @@ pub struct LimitRead {
 }
 
 // The first `count` limits are laid.
-#[derive(Drop)]
+#[derive(Clone, Copy)]
 pub struct SideRead {
     pub status: Status,
     pub count: usize,
     pub next: usize,
 }
 
-#[derive(Drop)]
+#[derive(Clone, Copy)]
 pub struct LoopRead {
     pub status: Status,
     pub next: usize,
 }
 
-#[derive(Drop)]
+#[derive(Clone, Copy)]
 pub struct LoopsRead {
     pub status: Status,
     pub depth: usize,

@@ -1,9 +1,11 @@
 // The refusals of document 01, each with its place; and a status, which stands beside a value where an enum cannot hold it.
+#![tactic(auto)]
+
 ghost use Rattle.std.specs.Prelude.{◌≡◌};
 ghost use Rattle.ticket_refusals.specs.Refusals.{number_of, place_of, first_of};
 
 // Document 01's numbers 1 to 16 in their order, with the place: a word, a step, a loop or a statement.
-#[derive(Drop)]
+#[derive(Clone, Copy)]
 pub enum Refusal {
     // words
     Truncated(usize),
@@ -77,7 +79,7 @@ pub fn place_of(r: Refusal) -> usize
 }
 
 // Beside a value that holds an array.
-#[derive(Drop)]
+#[derive(Clone, Copy)]
 pub enum Status {
     Fine,
     Refused(Refusal),

@@ -1,4 +1,6 @@
 // The statements of a ticket, read onto flat slices (`nest_flat`, specs/Layout). `at` is the number of a word, from 1.
+#![tactic(auto)]
+
 ghost use Rattle.std.specs.Prelude.{◌≡◌, ◌+◌, ◌*◌, ◌<◌, ◌≤◌, cond, eqb, length};
 ghost use Rattle.model.specs.Grammar.{most_statements, most_writes, most_reads, most_accesses};
 ghost use Rattle.ticket_words.specs.Reads.{Reached};
@@ -9,13 +11,13 @@ use model::{ARRAY_ROOM, DIMENSIONS, READS, ROW_ROOM, STATEMENTS};
 use ticket_refusals::{Refusal, Status};
 use ticket_words::Natural;
 
-#[derive(Drop)]
+#[derive(Clone, Copy)]
 pub struct AccessRead {
     pub status: Status,
     pub next: usize,
 }
 
-#[derive(Drop)]
+#[derive(Clone, Copy)]
 pub struct AccessesRead {
     pub status: Status,
     pub count: usize,
@@ -23,7 +25,7 @@ pub struct AccessesRead {
 }
 
 // With the number of its accesses.
-#[derive(Drop)]
+#[derive(Clone, Copy)]
 pub struct StatementRead {
     pub status: Status,
     pub rule: usize,
@@ -33,7 +35,7 @@ pub struct StatementRead {
 }
 
 // With the number of the accesses of all statements.
-#[derive(Drop)]
+#[derive(Clone, Copy)]
 pub struct StatementsRead {
     pub status: Status,
     pub count: usize,

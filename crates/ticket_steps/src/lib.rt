@@ -1,4 +1,6 @@
 // The steps section of a ticket. `at` is the number of a word, from 1.
+#![tactic(auto)]
+
 ghost use Rattle.std.specs.Prelude.{◌≡◌, ◌+◌, ◌≤◌, length};
 ghost use Rattle.model.specs.Words.{signed};
 ghost use Rattle.model.specs.Grammar as Grammar;
@@ -15,19 +17,19 @@ use ticket_refusals::{Refusal, Status};
 use ticket_words::{Bits, Natural, Number};
 
 // A step with its number, from 1.
-#[derive(Drop)]
+#[derive(Clone, Copy)]
 pub struct Numbered {
     pub number: usize,
     pub step: Step,
 }
 
-#[derive(Drop)]
+#[derive(Clone, Copy)]
 pub struct Steps {
     pub count: usize,
     pub steps: [Numbered; 8],
 }
 
-#[derive(Drop)]
+#[derive(Clone, Copy)]
 pub enum StepRead {
     Taken(Step),
     Refused(Refusal),
@@ -215,7 +217,7 @@ pub fn read_step(s: &[u8], at: usize, number: usize, depth: usize) -> StepRead
     }
 }
 
-#[derive(Drop)]
+#[derive(Clone, Copy)]
 pub struct StepsRead {
     pub status: Status,
     pub steps: Steps,

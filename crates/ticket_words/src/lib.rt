@@ -1,4 +1,6 @@
 // One word of a ticket in its range, or the refusal of that word; and a row of numbers. `at` is the number of a word, from 1.
+#![tactic(auto)]
+
 ghost use Rattle.std.specs.Prelude.{◌≡◌, ◌<◌, ◌≤◌, pos, length, take};
 ghost use Rattle.model.specs.Words.{signed};
 ghost use Rattle.model.specs.Grammar.{count, natural, number, loop_number, times, between, most_loops};
@@ -9,20 +11,20 @@ use model::LOOPS;
 use ticket_refusals::{Refusal, Status};
 
 // A word as its 16 bits.
-#[derive(Drop)]
+#[derive(Clone, Copy)]
 pub enum Bits {
     Value(u16),
     // missing or half there; document 01: torn
     Truncated,
 }
 
-#[derive(Drop)]
+#[derive(Clone, Copy)]
 pub enum Natural {
     Value(usize),
     Refused(Refusal),
 }
 
-#[derive(Drop)]
+#[derive(Clone, Copy)]
 pub enum Number {
     Value(i32),
     Refused(Refusal),
@@ -127,7 +129,7 @@ pub fn read_number(s: &[u8], at: usize) -> Number
 }
 
 // One number for each loop.
-#[derive(Drop)]
+#[derive(Clone, Copy)]
 pub struct RowRead {
     pub status: Status,
     pub row: [i32; LOOPS],
