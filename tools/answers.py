@@ -94,7 +94,8 @@ class Turner:
     def body(self, text):
         aliases = {}
         # c.before.before.X -> c.X
-        text = re.sub(r"(?<![\w.'])(\w+)((?:\.before)+)(?![\w-])", r"\1", text)
+        text = re.sub(r"(?<![\w.'])(\w+)((?:\.before)+)(?=\.[a-z])", r"\1", text)
+        text = re.sub(r"let (\w+) = (\w+)((?:\.before)+) in", r"let \1 = \2 in", text)
 
         def fields(m):
             var, rest = m.group(1), m.group(2)
@@ -156,7 +157,7 @@ class Turner:
                 aliases.pop(var, None)
                 result.append(token.sub(fields, m.group(0)))
             pos = m.end()
-        return "".join(result)
+        return without_aliases("".join(result), self.contexts)
 
     def loop_of(self, old):
         """the new name of invariant-OLD"""
@@ -238,6 +239,15 @@ class Turner:
             text = re.sub(rf"tie\.({NAME})", at, self.body(text) if self.contexts else text)
             answers.append("\n".join(comment + [text]))
         return header, uses, invariants, answers
+
+
+def without_aliases(text, contexts):
+    """`let s = c in .. s.args` is `.. c.args`"""
+    for var, base in re.findall(r"let (\w+) = (\w+) in", text):
+        if var in contexts and base in contexts and len(re.findall(rf"let {var} =", text)) == 1 and not re.search(rf"λ[^.]*\b{var}\b", text):
+            text = re.sub(rf"\s*\bin\s+let {var} = {base}(?=\s+in\b)", "", text) if re.search(rf"in\s+let {var} = {base}\s+in", text) else re.sub(rf"let {var} = {base} in\s+", "", text)
+            text = re.sub(rf"(?<![\w.'′]){var}(?![\w'′-])", base, text)
+    return text
 
 
 def norm2(name):

@@ -10,7 +10,7 @@ ghost use Rattle.model.specs.Listing.{letter as «letter-of»};
 ghost use Rattle.model.specs.Grammar.{most_statements, most_loops};
 ghost use Rattle.dependence_vectors.specs.Numbers.{marks_for};
 ghost use Rattle.dependence_vectors.specs.Candidates.{stride, middle};
-ghost use Rattle.dependence_listing_text.specs.Text.{marked, shown, line_at, Marks, Field, Written};
+ghost use Rattle.dependence_listing_text.specs.Text.{marked, shown, line_at, Marks, Field, Written, line_count};
 ghost use Rattle.dependence_listing_text.specs.Text.{text as «text_of»};
 
 use model::KINDS;
@@ -38,7 +38,7 @@ fn copy_bytes(out: &mut [u8], at: usize, src: &[u8])
 
 fn line_count(n: usize, depth: usize) -> usize
     requires { (n ≤ most_statements) × (depth ≤ most_loops) }
-    ensures { (result ≡ Rattle.dependence_listing_text.specs.Text.line_count n depth) × (result ≤ marks_for most_statements) }
+    ensures { (result ≡ line_count n depth) × (result ≤ marks_for most_statements) }
 {
     n * n * KINDS * dependence_vectors::stride(6 - depth)
 }
@@ -63,7 +63,7 @@ fn line_vector(depth: usize, i: usize) -> usize
 // Whether it is marked. A block of VECTORS marks holds the lines of one source, sink and kind, `step` places from one to the next: so they go
 // on in the next block.
 fn is_marked(marks: &[bool], n: usize, depth: usize, i: usize) -> bool
-    requires { Marks marks.now n depth × (i < Rattle.dependence_listing_text.specs.Text.line_count n depth) }
+    requires { Marks marks.now n depth × (i < line_count n depth) }
     ensures { result ≡ marked marks.now n (line_at n depth i) }
 {
     let step = dependence_vectors::stride(depth);
@@ -86,7 +86,7 @@ pub fn letter(k: usize) -> u8
 
 // Its text, in the first depth + 7 bytes.
 fn line(n: usize, depth: usize, i: usize) -> [u8; 13]
-    requires { (n ≤ most_statements) × (depth ≤ most_loops) × (i < Rattle.dependence_listing_text.specs.Text.line_count n depth) }
+    requires { (n ≤ most_statements) × (depth ≤ most_loops) × (i < line_count n depth) }
     ensures { (length result ≡ 13) × (take (depth + 7) result ≡ line_text (line_at n depth i)) }
 {
     let b = line_block(depth, i);
@@ -112,7 +112,7 @@ fn line(n: usize, depth: usize, i: usize) -> [u8; 13]
 
 // Writes it at p.
 fn write_line(out: &mut [u8], p: usize, n: usize, depth: usize, i: usize)
-    requires { (n ≤ most_statements) × (depth ≤ most_loops) × (i < Rattle.dependence_listing_text.specs.Text.line_count n depth) × (p + (depth + 7) ≤ length out.old) }
+    requires { (n ≤ most_statements) × (depth ≤ most_loops) × (i < line_count n depth) × (p + (depth + 7) ≤ length out.old) }
     ensures { out.new ≡ put out.old p (line_text (line_at n depth i)) }
 {
     let b = line(n, depth, i);

@@ -9,7 +9,7 @@ ghost use Rattle.nest_admission.specs.Admission.{PointsCounted};
 ghost use Rattle.ticket_decoding.specs.Ticket.{DecodedIn, ticket_of};
 ghost use Rattle.entry_answers.specs.Answers.{OutcomeIs};
 ghost use Rattle.dependence_directions.specs.SearchResults.{FindIn};
-ghost use Rattle.entry_list.specs.Listable.{Listable, FoundIn};
+ghost use Rattle.entry_list.specs.Listable.{Listable, FoundIn, list_nest};
 
 use entry_answers::Answer;
 use model::{MARKS, NEST_ROOM, PAIR_MARKS, WORDS};
@@ -55,7 +55,7 @@ fn write_admitted(
     out: &mut [u8],
 ) -> Answer
     requires { FoundIn (flat_nest header limits.now words.now) count found marks.now }
-    ensures { OutcomeIs (Rattle.entry_list.specs.Listable.list_nest (nest_of (flat_nest header limits.now words.now)) out.old) result
+    ensures { OutcomeIs (list_nest (nest_of (flat_nest header limits.now words.now)) out.old) result
         out.new }
 {
     match found {
@@ -75,7 +75,7 @@ fn list_using_marks(
     out: &mut [u8],
 ) -> Answer
     requires { FindIn (flat_nest header limits.now words.now) count marks.old }
-    ensures { OutcomeIs (Rattle.entry_list.specs.Listable.list_nest (nest_of (flat_nest header limits.now words.now)) out.old) result
+    ensures { OutcomeIs (list_nest (nest_of (flat_nest header limits.now words.now)) out.old) result
         out.new }
 {
     if count <= 256 {
@@ -92,7 +92,7 @@ fn list_using_marks(
 // The same. Few statements have fewer marks to clear.
 fn list_nest(header: Header, limits: &[i16], words: &[i16], count: usize, out: &mut [u8]) -> Answer
     requires { PointsCounted (flat_nest header limits.now words.now) count }
-    ensures { OutcomeIs (Rattle.entry_list.specs.Listable.list_nest (nest_of (flat_nest header limits.now words.now)) out.old) result
+    ensures { OutcomeIs (list_nest (nest_of (flat_nest header limits.now words.now)) out.old) result
         out.new }
 {
     if header.statements <= 2 {

@@ -6,7 +6,7 @@ ghost use Rattle.model.specs.Entries as Entries;
 ghost use Rattle.nest_flat.specs.FlatNests.{flat_nest, nest_of, FlatNestIn};
 ghost use Rattle.nest_admission.specs.Admission.{PointsCounted};
 ghost use Rattle.ticket_decoding.specs.Ticket.{DecodedIn, ticket_of};
-ghost use Rattle.entry_quick.specs.Answers.{answer_of, tested};
+ghost use Rattle.entry_quick.specs.Answers.{answer_of, tested, test_nest};
 
 use model::{NEST_ROOM, WORDS};
 use nest_admission::Counted;
@@ -58,7 +58,7 @@ fn test_nest(
     second: usize,
 ) -> Tested
     requires { PointsCounted (flat_nest header limits.now words.now) count }
-    ensures { answer_of result ≡ Rattle.entry_quick.specs.Answers.test_nest (nest_of (flat_nest header limits.now words.now)) first second }
+    ensures { answer_of result ≡ test_nest (nest_of (flat_nest header limits.now words.now)) first second }
 {
     let found = nest_admission::admit(header, limits, words, count);
     match found {

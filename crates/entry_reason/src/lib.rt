@@ -10,7 +10,7 @@ ghost use Rattle.entry_answers.specs.Answers.{answer_of};
 ghost use Rattle.entry_packing.specs.Packed.{packed};
 ghost use Rattle.pair_records.specs.Windows.{batch_room};
 ghost use Rattle.entry_reason.specs.Records.{pair_of, found_in};
-ghost use Rattle.entry_reason.specs.Finders.{TenAt, SearchFrom, SearchedAt, RecordAt, Finding, Ready, Begun, Refilled, gave, Given};
+ghost use Rattle.entry_reason.specs.Finders.{TenAt, SearchFrom, SearchedAt, RecordAt, Finding, Ready, Begun, Refilled, gave, Given, no_pair};
 
 use entry_answers::Answer;
 use model::{NEST_ROOM, TICKET_LOOPS, WORDS};
@@ -50,7 +50,7 @@ pub struct Finder {
 const ALL: usize = 4294967296;
 
 fn no_pair() -> Pair
-    ensures { result ≡ Rattle.entry_reason.specs.Finders.no_pair }
+    ensures { result ≡ no_pair }
 {
     Pair {
         source: [0i16; TICKET_LOOPS],

@@ -4,13 +4,14 @@
 ghost use Rattle.std.specs.Prelude.{◌≡◌, ◌+◌, ◌≤◌, ◌<◌, pos, ◌+ℤ◌, ◌*ℤ◌, ◌<ℤ◌, length, get_or};
 ghost use Rattle.integers.specs.Difference.{size};
 ghost use Rattle.integers.specs.Gcd.{gcd};
-ghost use Rattle.integers.specs.Affine.{affine, AffineIn, AffineAt, SumTo};
+ghost use Rattle.integers.specs.Affine.{affine, AffineIn, AffineAt, SumTo, affine_at};
 ghost use Rattle.integers.specs.Sign.{sign, sign_value};
+ghost use Rattle.integers.specs.Division.{floor_div, ceil_div};
 
 // a divided by b, rounded down: −3/4 is −1.
 pub fn floor_div(a: i64, b: i64) -> i64
     requires { pos 0 <ℤ b }
-    ensures { result ≡ Rattle.integers.specs.Division.floor_div a b }
+    ensures { result ≡ floor_div a b }
 {
     // most multipliers are 1, and a division takes long
     if b == 1 {
@@ -24,7 +25,7 @@ pub fn floor_div(a: i64, b: i64) -> i64
 // a divided by b, rounded up: −3/4 is 0.
 pub fn ceil_div(a: i64, b: i64) -> i64
     requires { pos 0 <ℤ b }
-    ensures { result ≡ Rattle.integers.specs.Division.ceil_div a b }
+    ensures { result ≡ ceil_div a b }
 {
     if b == 1 {
         return a;
@@ -156,7 +157,7 @@ pub fn word(words: &[i16], i: usize) -> i64
 // The affine value whose constant is word `at`, and whose coefficients are the words after it.
 pub fn affine_at(words: &[i16], at: usize, indices: &[i64]) -> i64
     requires { AffineAt words.now at indices.now }
-    ensures { result ≡ Rattle.integers.specs.Affine.affine_at words.now at indices.now }
+    ensures { result ≡ affine_at words.now at indices.now }
 {
     let mut sum = PartialSum {
         value: word(words, at),

@@ -3,7 +3,7 @@
 
 ghost use Rattle.std.specs.Prelude.{◌≡◌, true, false, suc, ◌+◌, ◌*◌, ◌≤◌, ◌<◌, ◌+ℤ◌, length, take, drop};
 ghost use Rattle.integers.specs.Difference.{size};
-ghost use Rattle.model.specs.Quick.{range_of};
+ghost use Rattle.model.specs.Quick.{range_of, least_sum, greatest_sum};
 ghost use Rattle.model.specs.Grammar.{nest_limits, nest_room, most_loops};
 ghost use Rattle.nest_flat.specs.Flat.{NestOk, limit_at, loop_at};
 ghost use Rattle.nest_loop_ranges.specs.Ranges.{ranges_of, term_by, TermIn, SumIn};
@@ -38,7 +38,7 @@ fn plus_term(sum: Whole, c: i64, rising: i64, falling: i64) -> Whole
 // The least that n coefficients from place at on, times their indices, can sum to.
 pub fn least_sum(words: &[i16], at: usize, n: usize, ranges: [Range; LOOPS]) -> Whole
     requires { SumIn words.now at n ranges }
-    ensures { (result.value ≡ Rattle.model.specs.Quick.least_sum (take n (drop at words.now)) (ranges_of n ranges)) × (size result.value ≤ 6442057734) }
+    ensures { (result.value ≡ least_sum (take n (drop at words.now)) (ranges_of n ranges)) × (size result.value ≤ 6442057734) }
 {
     let mut sum = Whole { value: 0 };
     let mut i = 0;
@@ -53,7 +53,7 @@ pub fn least_sum(words: &[i16], at: usize, n: usize, ranges: [Range; LOOPS]) -> 
 // The greatest that they can sum to.
 pub fn greatest_sum(words: &[i16], at: usize, n: usize, ranges: [Range; LOOPS]) -> Whole
     requires { SumIn words.now at n ranges }
-    ensures { (result.value ≡ Rattle.model.specs.Quick.greatest_sum (take n (drop at words.now)) (ranges_of n ranges)) × (size result.value ≤ 6442057734) }
+    ensures { (result.value ≡ greatest_sum (take n (drop at words.now)) (ranges_of n ranges)) × (size result.value ≤ 6442057734) }
 {
     let mut sum = Whole { value: 0 };
     let mut i = 0;

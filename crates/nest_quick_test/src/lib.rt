@@ -10,9 +10,10 @@ ghost use Rattle.lists.specs.Tests.{any};
 ghost use Rattle.nest_flat.specs.Layout.{forms_from};
 ghost use Rattle.nest_flat.specs.FlatNests.{flat_nest, nest_of, access_of};
 ghost use Rattle.nest_loop_ranges.specs.Ranges.{range_as, ranges_of, is_empty, NearRange, RangesIn};
-ghost use Rattle.nest_quick_test.specs.Differences.{gcd_onto, difference_at, WordsIn, PairIn, DifferenceIn};
+ghost use Rattle.nest_quick_test.specs.Differences.{gcd_onto, difference_at, WordsIn, PairIn, DifferenceIn, least_difference, greatest_difference};
 ghost use Rattle.nest_quick_test.specs.Differences.{FormsIn};
 ghost use Rattle.nest_quick_test.specs.Nests.{NestTestIn};
+ghost use Rattle.model.specs.Quick.{never_zero, some_apart, is_apart};
 
 use model::{ACCESS_ROOM, ARRAY_ROOM, LOOPS};
 use nest_flat::Header;
@@ -107,7 +108,7 @@ fn plus_difference(c: Whole, e: Whole, f: Whole) -> Whole
 // The least that subscript u less subscript v can be, over two free iterations.
 fn least_difference(words: &[i16], u: usize, v: usize, n: usize, ranges: [Range; LOOPS]) -> Whole
     requires { DifferenceIn words.now u v n ranges }
-    ensures { (result.value ≡ Rattle.nest_quick_test.specs.Differences.least_difference words.now u v n (ranges_of n ranges)) × (size result.value ≤ 34359738368) }
+    ensures { (result.value ≡ least_difference words.now u v n (ranges_of n ranges)) × (size result.value ≤ 34359738368) }
 {
     let c = constant_difference(words, u, v, n);
     let e = nest_loop_ranges::least_sum(words, u * 8 + 1, n, ranges);
@@ -118,7 +119,7 @@ fn least_difference(words: &[i16], u: usize, v: usize, n: usize, ranges: [Range;
 // The greatest that it can be.
 fn greatest_difference(words: &[i16], u: usize, v: usize, n: usize, ranges: [Range; LOOPS]) -> Whole
     requires { DifferenceIn words.now u v n ranges }
-    ensures { (result.value ≡ Rattle.nest_quick_test.specs.Differences.greatest_difference words.now u v n (ranges_of n ranges)) × (size result.value ≤ 34359738368) }
+    ensures { (result.value ≡ greatest_difference words.now u v n (ranges_of n ranges)) × (size result.value ≤ 34359738368) }
 {
     let c = constant_difference(words, u, v, n);
     let e = nest_loop_ranges::greatest_sum(words, u * 8 + 1, n, ranges);
@@ -140,7 +141,7 @@ fn excludes_zero(least: Whole, greatest: Whole) -> bool
 // Whether subscript u less subscript v is never 0, over two free iterations.
 fn never_zero(words: &[i16], u: usize, v: usize, n: usize, ranges: [Range; LOOPS]) -> bool
     requires { DifferenceIn words.now u v n ranges }
-    ensures { result ≡ Rattle.model.specs.Quick.never_zero (ranges_of n ranges ++ ranges_of n ranges) (difference_at words.now n u v) }
+    ensures { result ≡ never_zero (ranges_of n ranges ++ ranges_of n ranges) (difference_at words.now n u v) }
 {
     let g = common_divisor(words, u, v, n);
     let c = constant_difference(words, u, v, n);
@@ -155,7 +156,7 @@ fn never_zero(words: &[i16], u: usize, v: usize, n: usize, ranges: [Range; LOOPS
 // Whether one of d subscripts from subscript u on never equals its partner from subscript v on.
 fn some_apart(words: &[i16], u: usize, v: usize, d: usize, n: usize, ranges: [Range; LOOPS]) -> bool
     requires { FormsIn words.now u v d n ranges }
-    ensures { result ≡ Rattle.model.specs.Quick.some_apart (ranges_of n ranges) (forms_from words.now n u d) (forms_from words.now n v d) }
+    ensures { result ≡ some_apart (ranges_of n ranges) (forms_from words.now n u d) (forms_from words.now n v d) }
 {
     let mut i = 0;
     while i < d {
@@ -170,7 +171,7 @@ fn some_apart(words: &[i16], u: usize, v: usize, d: usize, n: usize, ranges: [Ra
 // Whether two accesses, counted from 0, never meet by the quick test: 'apart', or else 'perhaps'.
 pub fn is_apart(header: Header, limits: &[i16], words: &[i16], first: usize, second: usize) -> bool
     requires { NestTestIn (flat_nest header limits.now words.now) first second }
-    ensures { result ≡ Rattle.model.specs.Quick.is_apart (nest_of (flat_nest header limits.now words.now)).loops
+    ensures { result ≡ is_apart (nest_of (flat_nest header limits.now words.now)).loops
         (access_of (nest_of (flat_nest header limits.now words.now)) first)
         (access_of (nest_of (flat_nest header limits.now words.now)) second) }
 {

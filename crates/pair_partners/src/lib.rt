@@ -4,7 +4,7 @@
 ghost use Rattle.std.specs.Prelude.{◌≡◌, false, cond, ◌||◌, ℕ, suc, ◌+◌, ◌*◌, ◌≤◌, ◌<◌, length, get_or, take};
 ghost use Rattle.model.specs.Grammar.{most_points};
 ghost use Rattle.pair_partners.specs.Chains.{number_at, names, Numbered, LinkedFrom, Links};
-ghost use Rattle.pair_partners.specs.Partners.{partners, ChainsAt, Least, RowsOf};
+ghost use Rattle.pair_partners.specs.Partners.{partners, ChainsAt, Least, RowsOf, row_before};
 
 use model::ACCESSES;
 
@@ -220,7 +220,7 @@ fn advance_chains(
 // Whether row y comes before row x, by rising first number, then second and so on.
 fn row_before(rows: &[i64], depth: usize, count: usize, y: usize, x: usize) -> bool
     requires { RowsOf depth count rows.now × (y < count) × (x < count) }
-    ensures { result ≡ Rattle.pair_partners.specs.Partners.row_before depth rows.now y x }
+    ensures { result ≡ row_before depth rows.now y x }
 {
     let first = y * depth;
     let second = x * depth;

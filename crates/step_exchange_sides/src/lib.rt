@@ -10,6 +10,8 @@ ghost use Rattle.model.specs.Grammar.{most_loops, most_limits, row_room};
 ghost use Rattle.nest_flat.specs.Flat.{limit_at, limits_at};
 ghost use Rattle.step_limits.specs.Makes.{LimitIs};
 ghost use Rattle.step_exchange_sides.specs.Filling.{Adds, WideIn, SameIn, PushIn, HeldIn, PutIn, SidePut};
+ghost use Rattle.model.specs.Limits.{same_limit};
+ghost use Rattle.ticket_loops.specs.LoopReads.{limit_of};
 
 use model::{LIMITS, LOOPS};
 use ticket_loops::Limit;
@@ -41,7 +43,7 @@ fn same_row(xs: [i32; LOOPS], numbers: &[i32], at: usize, n: usize) -> bool
 // Limit k of a side under way.
 fn same_limit(x: Limit, filling: &[i32], k: usize, n: usize) -> bool
     requires { SameIn n filling.now k x }
-    ensures { result ≡ Rattle.model.specs.Limits.same_limit (Rattle.ticket_loops.specs.LoopReads.limit_of n x) (limit_at filling.now n k) }
+    ensures { result ≡ same_limit (limit_of n x) (limit_at filling.now n k) }
 {
     let at = k * 8;
     if !equal(x.multiplier as i32, filling[at]) {
@@ -56,7 +58,7 @@ fn same_limit(x: Limit, filling: &[i32], k: usize, n: usize) -> bool
 
 fn has_limit(filling: &[i32], count: usize, x: Limit, n: usize) -> bool
     requires { PushIn n filling.now count x × (count ≤ most_limits) }
-    ensures { result ≡ any (Rattle.model.specs.Limits.same_limit (Rattle.ticket_loops.specs.LoopReads.limit_of n x)) (limits_at filling.now n 0 count) }
+    ensures { result ≡ any (same_limit (limit_of n x)) (limits_at filling.now n 0 count) }
 {
     let mut k = 0;
     while k < count {
@@ -84,7 +86,7 @@ fn fill_row(numbers: &mut [i32], at: usize, row: &[i32])
 
 fn fill_limit(filling: &mut [i32], k: usize, x: Limit, n: usize)
     requires { WideIn n x × (length filling.old ≡ most_limits * row_room) × (k < most_limits) }
-    ensures { filling.new ≡ put filling.old (k * 8) (limit_words (Rattle.ticket_loops.specs.LoopReads.limit_of n x)) }
+    ensures { filling.new ≡ put filling.old (k * 8) (limit_words (limit_of n x)) }
 {
     let at = k * 8;
     let multiplier = x.multiplier as i32;
@@ -98,7 +100,7 @@ fn fill_limit(filling: &mut [i32], k: usize, x: Limit, n: usize)
 // A limit more, unless it is there; 17 where a seventeenth comes, and from then on.
 pub fn push_limit(filling: &mut [i32], count: usize, x: Limit, n: usize) -> usize
     requires { PushIn n filling.old count x }
-    ensures { Adds n filling.old count (Rattle.ticket_loops.specs.LoopReads.limit_of n x ∷ []) filling.new result }
+    ensures { Adds n filling.old count (limit_of n x ∷ []) filling.new result }
 {
     if LIMITS < count {
         return count;

@@ -10,7 +10,7 @@ ghost use Rattle.step_kinds.specs.Kinds.{step_of};
 ghost use Rattle.step_directions.specs.Sets.{DirectionIn, After};
 ghost use Rattle.nest_flat.specs.FlatNests.{flat_nest, FlatNestIn};
 ghost use Rattle.step_application.specs.Taking.{TakingIn};
-ghost use Rattle.step_judgement.specs.Judgement.{StageTaken, flat_nest_at, TakeIn, Taken, SurveyedNew, JudgeIn, JudgesSteps, Judges};
+ghost use Rattle.step_judgement.specs.Judgement.{StageTaken, flat_nest_at, TakeIn, Taken, SurveyedNew, JudgeIn, JudgesSteps, Judges, stage_status};
 
 use model::{ACCESS_ROOM, ARRAY_ROOM};
 use nest_flat::Header;
@@ -53,7 +53,7 @@ fn directions_after(set: DirectionSet, step: Step) -> DirectionSet
 
 // Refusals 11 and 12 in this order.
 fn stage_status(full: bool, small: bool, number: usize) -> Status
-    ensures { result ≡ Rattle.step_judgement.specs.Judgement.stage_status full small number }
+    ensures { result ≡ stage_status full small number }
 {
     if full {
         return Status::Refused(Refusal::TooManyLimits(number));

@@ -4,7 +4,7 @@
 
 ghost use Rattle.std.specs.Prelude.{◌≡◌, ◌≤◌, ◌<◌, length, get_or};
 ghost use Rattle.model.specs.Ticket.{exchange};
-ghost use Rattle.model.specs.Grammar.{most_loops};
+ghost use Rattle.model.specs.Grammar.{most_loops, depth_after};
 ghost use Rattle.model.specs.Steps.{chain};
 ghost use Rattle.model.specs.Judge.{stages};
 ghost use Rattle.step_kinds.specs.Kinds.{step_of, stage_of};
@@ -61,7 +61,7 @@ pub enum Stage {
 
 pub fn depth_after(step: Step, depth: usize) -> usize
     requires { depth ≤ most_loops }
-    ensures { result ≡ Rattle.model.specs.Grammar.depth_after (step_of step) depth }
+    ensures { result ≡ depth_after (step_of step) depth }
 {
     match step {
         Step::Exchange(_) => depth,
@@ -74,7 +74,7 @@ pub fn depth_after(step: Step, depth: usize) -> usize
 
 pub fn depth_after_stage(stage: Stage, depth: usize) -> usize
     requires { depth ≤ most_loops }
-    ensures { result ≡ Rattle.model.specs.Grammar.depth_after (stage_of stage) depth }
+    ensures { result ≡ depth_after (stage_of stage) depth }
 {
     match stage {
         Stage::Exchange(_) => depth,

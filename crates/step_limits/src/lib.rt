@@ -7,7 +7,7 @@ ghost use Rattle.integers.specs.Difference.{size};
 ghost use Rattle.lists.specs.Place.{under, on_head, swapped};
 ghost use Rattle.model.specs.Encode.{limit_words};
 ghost use Rattle.model.specs.Judge.{small_limit};
-ghost use Rattle.model.specs.Limits.{negated, skew_coefficients, element_limit, split_coefficients};
+ghost use Rattle.model.specs.Limits.{negated, skew_coefficients, element_limit, split_coefficients, skew_limit, section_lower, section_upper};
 ghost use Rattle.model.specs.Grammar.{most_loops};
 ghost use Rattle.ticket_loops.specs.LoopReads.{limit_of};
 ghost use Rattle.nest_rows.specs.Rows.{RowIs, Tried};
@@ -15,6 +15,7 @@ ghost use Rattle.step_limits.specs.Small.{SmallLimit};
 ghost use Rattle.step_limits.specs.Makes.{mixed, LimitIs};
 ghost use Rattle.step_limits.specs.Words.{LimitThere, LimitRoom};
 ghost use Rattle.step_limits.specs.Change.{change_of, outer_after, Allowed};
+ghost use Rattle.nest_flat.specs.Flat.{limit_at};
 
 use model::LOOPS;
 use ticket_loops::Limit;
@@ -148,7 +149,7 @@ fn reverse_limit(l: Limit, n: usize) -> Limit
 // The skewed loop's own limits.
 fn skew_limit(l: Limit, n: usize, a: usize, factor: i32) -> Limit
     requires { (a < n) × (n ≤ most_loops) × (size factor ≤ 32767) × SmallLimit (limit_of n l) }
-    ensures { LimitIs n result (Rattle.model.specs.Limits.skew_limit a factor (limit_of n l)) }
+    ensures { LimitIs n result (skew_limit a factor (limit_of n l)) }
 {
     let p = l.multiplier as i32;
     let mut cs = l.coefficients;
@@ -165,7 +166,7 @@ fn skew_limit(l: Limit, n: usize, a: usize, factor: i32) -> Limit
 // p w S ≥ e − p (w − 1)
 fn section_lower(l: Limit, n: usize, w: u32) -> Limit
     requires { (1 ≤ w) × (w ≤ 256) × SmallLimit (limit_of n l) }
-    ensures { LimitIs n result (Rattle.model.specs.Limits.section_lower w (limit_of n l)) }
+    ensures { LimitIs n result (section_lower w (limit_of n l)) }
 {
     let cs = l.coefficients;
     Limit {
@@ -178,7 +179,7 @@ fn section_lower(l: Limit, n: usize, w: u32) -> Limit
 // p w S ≤ e
 fn section_upper(l: Limit, n: usize, w: u32) -> Limit
     requires { (w ≤ 256) × SmallLimit (limit_of n l) }
-    ensures { LimitIs n result (Rattle.model.specs.Limits.section_upper w (limit_of n l)) }
+    ensures { LimitIs n result (section_upper w (limit_of n l)) }
 {
     let cs = l.coefficients;
     Limit {
@@ -217,7 +218,7 @@ fn with_row(l: Limit, cs: [i32; LOOPS]) -> Limit
 // Limit j of all, of a loop with n loops outside.
 pub fn limit_at(words: &[i16], j: usize, n: usize) -> Limit
     requires { LimitThere words.now j n }
-    ensures { LimitIs n result (Rattle.nest_flat.specs.Flat.limit_at words.now n j) }
+    ensures { LimitIs n result (limit_at words.now n j) }
 {
     let at = j * 8;
     let p = nest_rows::word_at(words, at);

@@ -9,7 +9,8 @@ ghost use Rattle.nest_flat.specs.Flat.{limits_at, loop_at};
 ghost use Rattle.step_changes.specs.Sides.{SideMade};
 ghost use Rattle.step_changes.specs.Loops.{LoopMade};
 ghost use Rattle.step_loops.specs.After.{ReversalIn, SkewIn, SectionIn, ExchangeIn, After};
-ghost use Rattle.step_loops.specs.Sections.{ElementSideIn, ElementLoopIn};
+ghost use Rattle.step_loops.specs.Sections.{ElementSideIn, ElementLoopIn, element_side, element_loop};
+ghost use Rattle.model.specs.Limits.{constant_limit};
 
 use model::{LIMITS, LOOPS};
 use step_limits::{Change, CoefficientSection, CoefficientSkew};
@@ -132,7 +133,7 @@ pub fn exchange_loops(limits: &mut [i16], counts: &mut [usize], depth: usize, a:
 // v, with a coefficient 0 for each loop outside.
 fn constant_limit(v: u32) -> Limit
     requires { v ≤ 256 }
-    ensures { ((a : ℕ) → a < most_loops → limit_of (a + 1) result ≡ Rattle.model.specs.Limits.constant_limit a v) × LimitIn result }
+    ensures { ((a : ℕ) → a < most_loops → limit_of (a + 1) result ≡ constant_limit a v) × LimitIn result }
 {
     Limit {
         multiplier: 1,
@@ -152,7 +153,7 @@ fn element_side(
     v: u32,
 ) -> bool
     requires { ElementSideIn limits.old from n to count w v }
-    ensures { SideMade limits.old to (n + 1) (count + 1) (Rattle.step_loops.specs.Sections.element_side n w v (limits_at limits.old n from count)) result
+    ensures { SideMade limits.old to (n + 1) (count + 1) (element_side n w v (limits_at limits.old n from count)) result
         limits.new }
 {
     let first = constant_limit(v);
@@ -174,7 +175,7 @@ fn element_side(
 fn element_loop(limits: &mut [i16], counts: &mut [usize], a: usize, w: u32) -> bool
     requires { ElementLoopIn limits.old counts.old a w }
     ensures { LoopMade limits.old counts.old (a + 1)
-        (Rattle.step_loops.specs.Sections.element_loop a w (loop_at limits.old counts.old a)) result limits.new counts.new }
+        (element_loop a w (loop_at limits.old counts.old a)) result limits.new counts.new }
 {
     let lower = counts[a * 2];
     let upper = counts[a * 2 + 1];

@@ -9,7 +9,7 @@ ghost use Rattle.model.specs.Steps.{chain};
 ghost use Rattle.dependence_vectors.specs.Numbers.{base3};
 ghost use Rattle.step_preimages.specs.Numbers.{digits_of, Digits};
 ghost use Rattle.step_preimages.specs.Weights.{ChangeIn};
-ghost use Rattle.step_preimages.specs.Sources.{SourceIn, Source, joined, JoinedIn, may_be_digit, Signed, GaveIn, gave_digits};
+ghost use Rattle.step_preimages.specs.Sources.{SourceIn, Source, joined, JoinedIn, may_be_digit, Signed, GaveIn, gave_digits, joined_digit};
 ghost use Rattle.step_preimages.specs.Sources.{SkewSourceIn, SkewSource};
 
 use model::VECTORS;
@@ -165,7 +165,7 @@ pub fn skew_source(old: &[bool; VECTORS], n: usize, a: usize, b: usize, plus: bo
 // The digit at place i before the section of loop a, from the digits after it: those of a and a + 1 come from one.
 fn joined_digit(d: [usize; 6], a: usize, i: usize) -> usize
     requires { JoinedIn a i }
-    ensures { result ≡ Rattle.step_preimages.specs.Sources.joined_digit d a i }
+    ensures { result ≡ joined_digit d a i }
 {
     if i < a {
         return d[i];

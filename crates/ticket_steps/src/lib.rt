@@ -7,7 +7,7 @@ ghost use Rattle.model.specs.Grammar as Grammar;
 ghost use Rattle.model.specs.Grammar.{most_loops};
 ghost use Rattle.ticket_words.specs.Reads.{Reached};
 ghost use Rattle.ticket_words.specs.Words.{ReadNatural};
-ghost use Rattle.ticket_steps.specs.Steps.{ReadsStep, ReadsFactor, ReadsSteps, StepsIn, next_loop, sectionable, one_step};
+ghost use Rattle.ticket_steps.specs.Steps.{ReadsStep, ReadsFactor, ReadsSteps, StepsIn, next_loop, sectionable, one_step, is_factor};
 ghost use Rattle.ticket_steps.specs.Steps.{other_loop, OnOther};
 ghost use Rattle.ticket_refusals.specs.declared.Status.TheVariants.{Refused};
 
@@ -85,7 +85,7 @@ pub const MOST_FACTOR: u16 = 1;
 
 // Whether the bits of a word are those of a factor, which is not 0.
 fn is_factor(v: u16) -> bool
-    ensures { result ≡ Rattle.ticket_steps.specs.Steps.is_factor (signed v) }
+    ensures { result ≡ is_factor (signed v) }
 {
     if v == 0 {
         return false;

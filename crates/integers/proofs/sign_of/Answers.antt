@@ -10,8 +10,7 @@ use borrow.Author.Rules.{rules}
 use Rattle.integers.specs.Sign.{sign, sign_value, yes_no}
 use Rattle.integers.proofs.RangeLaws.{sfits, back}
 use Rattle.integers.proofs.SignLaws.{value_read, sign-difference}
-use Rattle.integers.proofs.sign_of.Statement.{statement}
-use Rattle.integers.proofs.sign_of.Tie as tie
+use Rattle.integers.proofs.sign_of.Goals as goal
 
 -- what the code makes of x and y
 abbrev worked : ℤ → ℤ → ℤ
@@ -31,20 +30,11 @@ difference-fits true false = sfits (omega arith)
 difference-fits false true = sfits (omega arith)
 difference-fits false false = sfits (omega arith)
 
-cast-result : tie.Need-overflow-cast-result
-cast-result c = search rules
-
-cast-result-2 : tie.Need-overflow-cast-result-2
-cast-result-2 c = search rules
-
-sub-result : tie.Need-overflow-sub-result
-sub-result c = search (rules, difference-fits)
+pub overflow_sub-result : goal.overflow_sub-result
+overflow_sub-result c = search (rules, difference-fits)
 
 -- both indices are read back from their bits, and so is the sign
-returns : tie.Need-returns
+pub returns : goal.returns
 returns c =
     value_read (sign (to_z w64 (of_z w64 c.args.a)) (to_z w64 (of_z w64 c.args.b))) (is-sign _ _)
     ∙ ap₂ (λ x y. sign_value (sign x y)) (back c.ranges.a) (back c.ranges.b)
-
-pub sign-of-spec : {M : Type 1} → statement M
-sign-of-spec = tie.close (tie.spec cast-result cast-result-2 sub-result returns)
