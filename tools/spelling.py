@@ -10,7 +10,7 @@ import glob
 import os
 import re
 
-CAMEL = re.compile(r"(?<![\w'·])([a-z][a-z0-9_]*(?:[A-Z][a-z0-9_']*)+)(?![\w·])")
+CAMEL = re.compile(r"(?<![\w'·\\])([a-z](?:[a-z0-9_]*[a-z0-9])?(?:[A-Z][a-z0-9_']*)+)(?![\w·])")
 # lemmas: `place-at` became `place_at`, which is now the definition `placeAt`
 DASHED = "access_of any_sign neg_sum no_access not_negative numbers_of place_at point_at row_room sign_at term_up step_in".split()
 # what port.py renames in files, for the edits, which it leaves

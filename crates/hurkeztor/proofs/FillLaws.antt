@@ -5,7 +5,7 @@ use mathlib.Core.Logic.{⊎_elim}
 use mathlib.Core.List.{List, [], ◌∷◌, ◌++◌}
 use Prim.Native.Nat.{ℕ, zero, suc, ◌≤◌, ◌<◌, min}
 use native.Mathlib.Omega.{arith}
-use lib.Dec.{leb, leb→le, nleb→lt, not_t}
+use lib.Dec.{leb, leb→le, nleb→lt, not_T}
 use lib.ListN.{length, get_or, set, take, drop, drop_of_length-le}
 use lib.Seq.{take_all, take-length, drop-length}
 use Rattle.lists.proofs.TestLaws.{T-cases}
@@ -36,7 +36,7 @@ module _ {A : Type 0} where
       (λ t. let h = leb→le (length rs) (length ys) t in
       ap (λ m. mixed m rs ys) (let q : min (length rs) (length ys) ≡ length rs = omega arith in q)
       ∙ ap (◌++ drop (length rs) ys) (take-length rs ∙ sym (take_all (length ys) rs h)))
-      (λ t. let h = nleb→lt (length rs) (length ys) (not_t (leb (length rs) (length ys)) t) in
+      (λ t. let h = nleb→lt (length rs) (length ys) (not_T (leb (length rs) (length ys)) t) in
       ap (λ m. mixed m rs ys) (let q : min (length rs) (length ys) ≡ length ys = omega arith in q)
       ∙ ap (take (length ys) rs ++◌) (drop-length ys ∙ sym (drop_of_length-le ys {i = length rs} (omega arith))))
       (T-cases (leb (length rs) (length ys)))

@@ -1,6 +1,6 @@
 -- Laws of tests. In order: a test as a type (`T`) and as an equation; tests joined; a choice by a test; `all` and `any`; `select`; equality of
 -- lists (`same_by`); `without`; by a test that decides equality, membership and `unique`.
--- Not here: other laws of negated tests (`T_not`, `not_t` of `lib.Dec`; `not-true`, `not-false` of `borrow.Author.Tests`), tests of numbers (both),
+-- Not here: other laws of negated tests (`T_not`, `not_T` of `lib.Dec`; `not-true`, `not-false` of `borrow.Author.Tests`), tests of numbers (both),
 -- equations of tests (`mathlib.Core.Bool`).
 use mathlib.Core.Path.{◌≡◌, refl, sym, ap, ap₂, ◌∙◌, subst}
 use mathlib.Core.Bool.{Bool, true, false, cond, not, ◌&&◌, ◌||◌, and-true, and-false, and_assoc, or-true, or-false, or_assoc}

@@ -96,19 +96,19 @@ case7 = ticket "1 1 1 0 1 1 6 1 1 7 1 1 1 1 0 1 0 1 4 1 4 0"
 unfoldable pub cases : List Case
 cases =
     -- 1. i 0..1, j 0..2, A(i+j) = B(i,j), exchange
-    record { bytes = case1; question = lists (text "2 6 1\n_o 1 1 <>\n") }
+    record { bytes = case1; question = lists (text "2 6 1\nO 1 1 <>\n") }
     ∷ record { bytes = case1; question = judges (refused 10 1) }
     -- 2. only =<; exchange, reverse 2, reverse 1
-    ∷ record { bytes = nest2 ++ ticket "0"; question = lists (text "2 9 1\n_f 1 1 =<\n") }
+    ∷ record { bytes = nest2 ++ ticket "0"; question = lists (text "2 9 1\nF 1 1 =<\n") }
     ∷ record { bytes = nest2 ++ ticket "1 1 1 2 0"; question = judges (accepted 9) }
     ∷ record { bytes = nest2 ++ ticket "1 2 2 0 0"; question = judges (refused 10 1) }
     ∷ record { bytes = nest2 ++ ticket "1 2 1 0 0"; question = judges (accepted 9) }
     -- 3. only <>; reverse 2 then exchange; skew by 1 then exchange
-    ∷ record { bytes = nest3 ++ ticket "0"; question = lists (text "2 6 1\n_f 1 1 <>\n") }
+    ∷ record { bytes = nest3 ++ ticket "0"; question = lists (text "2 6 1\nF 1 1 <>\n") }
     ∷ record { bytes = nest3 ++ ticket "2 2 2 0 0 1 1 2 0"; question = judges (accepted 6) }
     ∷ record { bytes = nest3 ++ ticket "2 3 1 2 1 1 1 2 0"; question = judges (refused 10 2) }
     -- 4. i 0..6, A(i) = A(6−i)
-    ∷ record { bytes = ticket "1 1 1 0 1 1 6 1 1 7 1 3 0 1 0 1 1 1 6 -1 0"; question = lists (text "1 7 2\n_f 1 1 <\n_a 1 1 <\n") }
+    ∷ record { bytes = ticket "1 1 1 0 1 1 6 1 1 7 1 3 0 1 0 1 1 1 6 -1 0"; question = lists (text "1 7 2\nF 1 1 <\nA 1 1 <\n") }
     -- 5. i 0..2, j i..2, exchange: j 0..2; i ≥ 0, i ≤ 2, i ≤ j
     ∷ record {
       bytes = ticket "2 1 1 0 1 1 2 1 1 0 1 1 1 2 0 1 2 3 3 1 1 1 1 0 1 0 0 0 1 0 1 1 1 2 0";

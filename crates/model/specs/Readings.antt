@@ -103,7 +103,7 @@ further_cases =
     -- numbers of two digits; the source before the sink; F before A
     ∷ record {
       bytes = ticket "1 1 1 0 1 1 11 2 1 12 1 12 2 3 0 1 0 1 1 2 0 1 3 0 2 0 1 1 1 0 1 0";
-      question = lists (text "1 12 2\n_f 1 2 =\n_a 1 2 =\n");
+      question = lists (text "1 12 2\nF 1 2 =\nA 1 2 =\n");
     }
     -- quick: i 0..3, A(2i) and A(2i+1) by the divisor; A(i) and A(i+4) by the ranges; not A(i) and A(i+3)
     ∷ record { bytes = ticket "1 1 1 0 1 1 3 1 1 8 1 3 0 1 0 2 1 1 1 2 0"; question = tests 1 2 (accepted apart) }

@@ -6,7 +6,7 @@ use mathlib.Core.List.Memᴰ
 use mathlib.Core.List.{List, [], ◌∷◌, ◌++◌}
 use Prim.Native.Nat.{ℕ, suc, ◌+◌}
 use native.Mathlib.Omega.{arith}
-use lib.Dec.{T, T_not, not_t}
+use lib.Dec.{T, T_not, not_T}
 use lib.ListN.{length}
 use Rattle.lists.specs.Membership.{All}
 use Rattle.lists.proofs.MembershipLaws.{all_nil, all_cons, all-imp}
@@ -71,7 +71,7 @@ module _ {A : Type 0} (n : ℕ) (t : A → Bool) (check : ℕ → List A → Ans
 
   pub accepted-checks : (k : ℕ) (xs : List A) → All (λ x. T (t x) → ⊥) xs → check k xs ≡ accepted tt
   accepted-checks k [] h = none k
-  accepted-checks k (x ∷ xs) h = more k x xs ∙ then-pass (check (suc k) xs) (require-pass (not (t x)) n k (not_t (t x) (h x (Memᴰ.head refl))))
+  accepted-checks k (x ∷ xs) h = more k x xs ∙ then-pass (check (suc k) xs) (require-pass (not (t x)) n k (not_T (t x) (h x (Memᴰ.head refl))))
       ∙ accepted-checks (suc k) xs (λ y m. h y (Memᴰ.tail m))
 
   pub refused-checks : (k : ℕ) (front : List A) (x : A) (back : List A) → All (λ y. T (t y) → ⊥) front → T (t x)
@@ -80,5 +80,5 @@ module _ {A : Type 0} (n : ℕ) (t : A → Bool) (check : ℕ → List A → Ans
       ∙ ap (refused n) (omega arith)
   refused-checks k (y ∷ front) x back h b =
       more k y (front ++ x ∷ back) ∙ then-pass (check (suc k) (front ++ x ∷ back))
-      (require-pass (not (t y)) n k (not_t (t y) (h y (Memᴰ.head refl))))
+      (require-pass (not (t y)) n k (not_T (t y) (h y (Memᴰ.head refl))))
       ∙ refused-checks (suc k) front x back (λ z m. h z (Memᴰ.tail m)) b ∙ ap (refused n) (omega arith)

@@ -6,7 +6,7 @@ use mathlib.Core.Bool.{Bool, not, ◌&&◌}
 use mathlib.Core.List.{List, [], ◌∷◌, ◌++◌, flat_map, append-nil}
 use Prim.Native.Nat.{ℕ, suc, ◌+◌, ◌*◌, ◌-◌, ◌≤◌, ◌<◌, zero}
 use native.Mathlib.Omega.{arith}
-use lib.Dec.{T, eqb, ltb, le→leb, lt→ltb, eqb_refl, eqb→eq, not_t}
+use lib.Dec.{T, eqb, ltb, le→leb, lt→ltb, eqb_refl, eqb→eq, not_T}
 use lib.IntN.{ℤ, pos, negsuc, neg_ℤ, nat_abs}
 use lib.Signed.{lt_z, le_z}
 use lib.ListN.{length, drop, length-append}
@@ -49,7 +49,7 @@ less_one a = omega arith
 factor-word : (c : ℤ) → InRange 1 most_factor (nat_abs c) → T (between (neg_ℤ (pos most_factor)) (pos most_factor) c) × T (not (eq_z c (pos 0)))
 unfolding between
 factor-word (pos zero) r = absurd (let l = r.low in omega arith)
-factor-word (pos (suc c)) r = (le→leb (suc c) most_factor r.high, not_t (eqb (suc c) 0) (λ t. let e = eqb→eq (suc c) 0 t in absurd (omega arith)))
+factor-word (pos (suc c)) r = (le→leb (suc c) most_factor r.high, not_T (eqb (suc c) 0) (λ t. let e = eqb→eq (suc c) 0 t in absurd (omega arith)))
 factor-word (negsuc c) r = let h = r.high in (
   and_intro (le_z (neg_ℤ (pos most_factor)) (negsuc c)) (le_z (negsuc c) (pos most_factor))
       (le→leb c (most_factor - 1) (omega arith)) tt,
@@ -87,7 +87,7 @@ module _ (k m : ℕ) (few : m ≤ 6) where
       (yields-bind _ (yields-natural h.2) (yields-nought (section (suc a - 1) w))))
   yields-step (circulation a b) h = yields-value (ap₂ circulation (less_one a) (less_one b)) (yields-bind _ (yields-outer a h.0)
       (yields-bind _ (yields-loop (λ w. not (eq_z w (pos (suc a)))) b h.1
-      (not_t (eqb (suc b) (suc a)) (λ t. h.2 (apart a b (eqb→eq (suc b) (suc a) t))))) (yields-nought (circulation (suc a - 1) (suc b - 1)))))
+      (not_T (eqb (suc b) (suc a)) (λ t. h.2 (apart a b (eqb→eq (suc b) (suc a) t))))) (yields-nought (circulation (suc a - 1) (suc b - 1)))))
     where
       apart : (a b : ℕ) → suc b ≡ suc a → a ≡ b
       apart a b e = omega arith

@@ -63,10 +63,10 @@ with_first d s = map (λ v. s ∷ v) (sign_vectors d)
 pub sign_vectors-mem : {v : List Sign} (d : ℕ) → Mem v (sign_vectors d) → length v ≡ d
 unfolding sign_vectors
 sign_vectors-mem zero m = ap length (Memᴰ.eq_of_singleton m)
-sign_vectors-mem (suc d) m =
+sign_vectors-mem {v = v} (suc d) m =
     let r = flat_map-mem (with_first d) three_signs m in
     let q = Memᴰ.of_map (λ v. r.0 ∷ v) (sign_vectors d) r.2 in
-    sym (ap length q.2) ∙ ap suc (sign_vectors-mem d q.1)
+    sym (ap length q.2) ∙ ap suc (sign_vectors-mem {v = q.0} d q.1)
 
 pub mem-sign_vectors : (d : ℕ) (v : List Sign) → length v ≡ d → Mem v (sign_vectors d)
 unfolding sign_vectors

@@ -20,6 +20,7 @@ module _ (A : Accesses) where
 
   mem-from : (i j : Instance) (xs : List Instance) → Mem j xs → T (conflict A i j) → Mem (signs i.iteration j.iteration) (vectors_from A i xs)
   unfolding vectors_from
+  mem-from i j [] x'' c = elim x'' [ ]
   mem-from i j (k ∷ xs) (Memᴰ.head e) c = Memᴰ.append_left (vectors_from A i xs)
       (subst (λ z. Mem (signs i.iteration j.iteration) (one i z)) e (here c))
     where

@@ -7,7 +7,7 @@ use mathlib.Core.List.{List}
 use Prim.Native.Nat.{ℕ, zero, suc, ◌+◌, ◌≤◌, ◌<◌}
 use native.Mathlib.Omega.{arith}
 use native.Mathlib.Nat.{eq-or-lt_of_le}
-use lib.Dec.{T, leb, ltb, T_not, not_t, leb→le, le→leb, ltb→lt, lt→ltb, nleb→lt, nltb→le}
+use lib.Dec.{T, leb, ltb, T_not, not_T, leb→le, le→leb, ltb→lt, lt→ltb, nleb→lt, nltb→le}
 use lib.IntN.{nat_abs}
 use lib.ListN.{length}
 use Rattle.lists.specs.Tests.{any}
@@ -36,7 +36,7 @@ module _ (m : ℕ) (N : List Loop) (k : ℕ) where
   far-test f = some-any (λ p. beyond m (last_of p)) (partial_points k N) f.there (lt→ltb m (nat_abs (last_of f.point)) f.far)
 
   test-near : (T (some_far m N k) → ⊥) → Near m N k
-  test-near h y i = nltb→le m (nat_abs (last_of y)) (not_t (ltb m (nat_abs (last_of y)))
+  test-near h y i = nltb→le m (nat_abs (last_of y)) (not_T (ltb m (nat_abs (last_of y)))
       (λ t. h (far-test (record { point = y; there = i; far = ltb→lt m (nat_abs (last_of y)) t }))))
 
   near-test : Near m N k → T (some_far m N k) → ⊥
@@ -54,7 +54,7 @@ module _ (far many m most : ℕ) (N : List Loop) where
   alone-accepted k e = test-near m N k (T_not (some_far m N k) (require-accepted (not (some_far m N k)) far k e))
 
   accepted-alone : (k : ℕ) → Near m N k → alone k ≡ accepted tt
-  accepted-alone k h = require-pass (not (some_far m N k)) far k (not_t (some_far m N k) (near-test m N k h))
+  accepted-alone k h = require-pass (not (some_far m N k)) far k (not_T (some_far m N k) (near-test m N k h))
 
   depth-accepted : (k : ℕ) {u : Unit {0}} → alone k >> together k ≡ accepted u → Passes m most N k
   depth-accepted k e = let r = then-accepted (alone k) (together k) e in
@@ -79,7 +79,7 @@ module _ (far many m most : ℕ) (N : List Loop) where
           (
             alone-accepted k f.first,
             nleb→lt (length (partial_points k N)) most
-                (not_t (leb (length (partial_points k N)) most) r.fails),
+                (not_T (leb (length (partial_points k N)) most) r.fails),
           ),
         ),
       ))

@@ -40,6 +40,7 @@ abbrev FewCoefficients : Loop → Type 0
 FewCoefficients L = All (λ (l : Limit). length l.coefficients ≤ 5) L.lower × All (λ (l : Limit). length l.coefficients ≤ 5) L.upper
 
 shallow : (k : ℕ) (N : List Loop) → Shaped k N → k + length N ≤ 6 → (L : Loop) → Mem L N → FewCoefficients L
+shallow k [] s h x x4 = elim x4 [ ]
 shallow k (L ∷ N) s h x (Memᴰ.head e) = subst FewCoefficients (sym e)
     (λ l i. let q = s.0.0 l i in omega arith, λ l i. let q = s.0.1 l i in omega arith)
 shallow k (L ∷ N) s h x (Memᴰ.tail m) = shallow (suc k) N s.1 (omega arith) x m

@@ -123,6 +123,7 @@ unfolding ranges
 in-ranges N p r i w = in-ranges-from N [] [] p r tt i w
 
 pub range-filled : {r : Range} (rs : List Range) (xs : List ℤ) → InRanges rs xs → Mem r rs → r.least ≤ℤ r.greatest
+range-filled {r = r} [] xs h m = elim m [ ]
 range-filled (s ∷ rs) [] h m = absurd h
 range-filled (s ∷ rs) (x ∷ xs) h (Memᴰ.head e) = rw e (≤ℤ-trans h.0.low h.0.high)
 range-filled (s ∷ rs) (x ∷ xs) h (Memᴰ.tail m) = range-filled rs xs h.1 m

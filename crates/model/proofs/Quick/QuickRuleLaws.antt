@@ -6,7 +6,7 @@ use mathlib.Core.List.{List, [], ◌∷◌, ◌++◌}
 use Prim.Native.Nat.{ℕ, suc, ◌%◌, ◌∣◌}
 use native.Mathlib.Omega.{arith}
 use native.Mathlib.Nat.{dvd_trans, dvd_of_mod-eq-zero, mod-eq-zero_of_dvd}
-use lib.Dec.{T, eqb, T_not, not_t, eqb→eq, eqb_refl}
+use lib.Dec.{T, eqb, T_not, not_T, eqb→eq, eqb_refl}
 use lib.IntN.{ℤ, pos, nat_abs, ◌+ℤ◌}
 use lib.Signed.{lt_z, ◌<ℤ◌}
 use lib.ListN.{length}
@@ -81,7 +81,7 @@ module _ (rs : List Range) (d : Subscript) where
   never-test : NotDivided d ⊎ ZeroOutside rs d → T (never_zero rs d)
   unfolding never_zero least greatest
   never-test (inl h) = or_left (not (divides (gcd_of d.coefficients) d.constant)) (lt_z (pos 0) least || lt_z greatest (pos 0))
-      (not_t (divides (gcd_of d.coefficients) d.constant) (divided-not d h))
+      (not_T (divides (gcd_of d.coefficients) d.constant) (divided-not d h))
   never-test (inr h) = or_right (not (divides (gcd_of d.coefficients) d.constant)) (lt_z (pos 0) least || lt_z greatest (pos 0))
       (⊎_elim (λ u. or_left (lt_z (pos 0) least) (lt_z greatest (pos 0)) (not-below (pos 0) least u))
       (λ u. or_right (lt_z (pos 0) least) (lt_z greatest (pos 0)) (not-below greatest (pos 0) u)) h)
@@ -164,7 +164,7 @@ module _ (N : List Loop) (u v : Access) where
   rule-test : QuickRule N u v → T (is_apart N u v)
   unfolding is_apart
   rule-test (other_array h) = or_left (not (eqb u.array v.array)) (none_there || some_dimension)
-      (not_t (eqb u.array v.array) (λ t. h (eqb→eq u.array v.array t)))
+      (not_T (eqb u.array v.array) (λ t. h (eqb→eq u.array v.array t)))
   rule-test (no_index r m l) = or_right (not (eqb u.array v.array)) (none_there || some_dimension)
       (or_left none_there some_dimension (some-any (λ r. lt_z r.greatest r.least) (ranges N) m (not-below r.greatest r.least l)))
   rule-test (dimension before after before' after' f g e q s h) = or_right (not (eqb u.array v.array)) (none_there || some_dimension)

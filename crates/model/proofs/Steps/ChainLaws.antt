@@ -5,7 +5,7 @@ use mathlib.Core.List.{List, [], ◌∷◌, ◌++◌, map, append-nil}
 use Prim.Native.Nat.{ℕ, zero, suc, ◌+◌, ◌-◌, ◌≤◌, ◌<◌}
 use native.Mathlib.Omega.{arith}
 use native.Mathlib.Nat.{add-zero, zero-add, suc-add, add-suc}
-use lib.Dec.{leb, leb→le, nleb→lt, not_t}
+use lib.Dec.{leb, leb→le, nleb→lt, not_T}
 use lib.ListN.{length, get_or, take, drop, length-append}
 use Rattle.lists.specs.Membership.{All}
 use Rattle.lists.specs.Place.{under, swapped, swap_all, swap_back, moved_to}
@@ -158,7 +158,7 @@ module _ {A : Type 0} where
   chain-moves a b l h g = ⊎_elim
       (λ t. let p = leb→le a b t in let e : a + (b - a) ≡ b = omega arith in
       ap (λ ks. swap_all ks l) (chain-in a b p) ∙ moved_in a (b - a) l (omega arith) ∙ ap (λ i. moved_to a i l) e)
-      (λ t. let p = nleb→lt a b (not_t (leb a b) t) in let e : b + (a - b) ≡ a = omega arith in
+      (λ t. let p = nleb→lt a b (not_T (leb a b) t) in let e : b + (a - b) ≡ a = omega arith in
       ap (λ ks. swap_all ks l) (chain-out a b (omega arith)) ∙ moved_out b (a - b) l (omega arith) ∙ ap (λ i. moved_to i b l) e)
       (T-cases (leb a b))
 

@@ -6,7 +6,7 @@ use mathlib.Core.Logic.{⊎_elim}
 use mathlib.Core.List.{List, [], ◌∷◌, ◌++◌, map}
 use Prim.Native.Nat.{ℕ, zero, suc, ◌-◌}
 use native.Mathlib.Omega.{arith}
-use lib.Dec.{T, leb, leb→le, nleb→lt, not_t}
+use lib.Dec.{T, leb, leb→le, nleb→lt, not_T}
 use Rattle.lists.specs.Place.{under, swapped, swap_all}
 use Rattle.lists.proofs.SwapLaws.{swap_all-append, swap_all-inner}
 use Rattle.lists.proofs.TestLaws.{T-cases}
@@ -132,6 +132,6 @@ pub chain-forward : (a b : ℕ) (v : List Sign) → Forward v → Forward (swap_
 chain-forward a b v h g = ⊎_elim
     (λ t. let e = chain-in a b (leb→le a b t)
     in subst (λ ks. AllForward ks v) (sym e) (chain-in-forward a (b - a) v h (subst (λ ks. Forward (swap_all ks v)) e g)))
-    (λ t. let p = nleb→lt a b (not_t (leb a b) t) in let e = chain-out a b (omega arith)
+    (λ t. let p = nleb→lt a b (not_T (leb a b) t) in let e = chain-out a b (omega arith)
     in subst (λ ks. AllForward ks v) (sym e) (chain-out-forward b (a - b) v h (subst (λ ks. Forward (swap_all ks v)) e g)))
     (T-cases (leb a b))

@@ -27,8 +27,8 @@ pub steps-take-points : {p : List ℤ} (ts : List Step) → All Proper ts → (N
     → Mem (forward_all ts p) (iterations (nest_after_all ts N).loops)
 unfolding forward_all nest_after_all nest_after
 steps-take-points [] h N f m = m
-steps-take-points (t ∷ ts) h N f m = let i = h t (Memᴰ.head refl) in
-    steps-take-points ts (λ u n. h u (Memᴰ.tail n)) (nest_after t N) (well-formed-after t i N f)
+steps-take-points {p = p} (t ∷ ts) h N f m = let i = h t (Memᴰ.head refl) in
+    steps-take-points {p = forward t p} ts (λ u n. h u (Memᴰ.tail n)) (nest_after t N) (well-formed-after t i N f)
     (step-takes-points t i N.loops f.shaped f.runs m)
 
 pub steps-keep-points : {q : List ℤ} (ts : List Step) → All Proper ts → (N : Nest) → WellFormed N → Mem q (iterations (nest_after_all ts N).loops)

@@ -6,7 +6,7 @@ use mathlib.Core.List.Memᴰ
 use mathlib.Core.List.{List, [], ◌++◌}
 use Prim.Native.Nat.{ℕ, ◌-◌, ◌≤◌}
 use native.Mathlib.Omega.{arith}
-use lib.Dec.{leb, not_t, leb→le, nleb→lt}
+use lib.Dec.{leb, not_T, leb→le, nleb→lt}
 use borrow.Author.Tests.{leb-true, leb-false}
 use lib.ListN.{length, drop, get_or, length-append, length-drop}
 use lib.Seq.{take_at, drop_at}
@@ -185,9 +185,9 @@ module _ (l : List Access) (a : ℕ) where
   unfolding access_number
   access_number-refused e = ⊎_elim
       (λ f. ⊎_elim (λ g. let r = require-refused (leb 1 a) 4 0 g in
-      record { four = r.number; nowhere = r.place; none = inl (nleb→lt 1 a (not_t (leb 1 a) r.fails)) })
+      record { four = r.number; nowhere = r.place; none = inl (nleb→lt 1 a (not_T (leb 1 a) r.fails)) })
       (λ g. let r = require-refused (leb a (length l)) 4 0 g.rest in
-      record { four = r.number; nowhere = r.place; none = inr (nleb→lt a (length l) (not_t (leb a (length l)) r.fails)) })
+      record { four = r.number; nowhere = r.place; none = inr (nleb→lt a (length l) (not_T (leb a (length l)) r.fails)) })
       (then-refused (require (leb 1 a) 4 0) (require (leb a (length l)) 4 0) f))
       (λ f. not-both f.rest)
       (then-refused (require (leb 1 a) 4 0 >> require (leb a (length l)) 4 0) (accepted (get_or l (a - 1) blank)) e)

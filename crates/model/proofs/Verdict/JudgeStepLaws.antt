@@ -6,7 +6,7 @@ use mathlib.Core.Logic.{◌⊎◌, inl, inr, ⊎_elim}
 use mathlib.Core.List.{List, [], ◌∷◌, ◌++◌}
 use Prim.Native.Nat.{ℕ, ◌≤◌, ◌<◌}
 use native.Mathlib.Omega.{arith}
-use lib.Dec.{T, leb, T_not, not_t, leb→le, le→leb, nleb→lt}
+use lib.Dec.{T, leb, T_not, not_T, leb→le, le→leb, nleb→lt}
 use lib.ListN.{length}
 use Rattle.integers.specs.Sign.{Sign}
 use Rattle.lists.proofs.TestLaws.{T-cases, and_both, and_intro, all-holds, holds-all, any_some, some-any, refuted, all-fails}
@@ -58,9 +58,9 @@ many-limits N h = let r = all-fails few_of N h in record { loop = r.0; there = r
   where
     side : (L : Loop) → (T (few_of L) → ⊥) → (16 < length L.lower) ⊎ (16 < length L.upper)
     side L t = ⊎_elim
-        (λ a. inr (nleb→lt (length L.upper) 16 (not_t (leb (length L.upper) 16)
+        (λ a. inr (nleb→lt (length L.upper) 16 (not_T (leb (length L.upper) 16)
         (λ b. t (and_intro (leb (length L.lower) 16) (leb (length L.upper) 16) a b)))))
-        (λ a. inl (nleb→lt (length L.lower) 16 (not_t (leb (length L.lower) 16) a)))
+        (λ a. inl (nleb→lt (length L.lower) 16 (not_T (leb (length L.lower) 16) a)))
         (T-cases (leb (length L.lower) 16))
 
 pub limits-many : (N : List Loop) → TooMany N → T (few_limits N) → ⊥
@@ -186,7 +186,7 @@ module _ (k : ℕ) (t : Step) (vs : List (List Sign)) (N : Nest) where
       (require-accepted (not (some_points_back (vectors_after t vs))) 10 k e))
 
   accepted-ten : Forwards (vectors_after t vs) → ten ≡ accepted tt
-  accepted-ten h = require-pass (not (some_points_back (vectors_after t vs))) 10 k (not_t (some_points_back (vectors_after t vs))
+  accepted-ten h = require-pass (not (some_points_back (vectors_after t vs))) 10 k (not_T (some_points_back (vectors_after t vs))
       (forwards-points (vectors_after t vs) h))
 
   pub step-accepted : {u : Unit {0}} → ten >> taking ≡ accepted u → StepPasses t vs N

@@ -3,7 +3,7 @@ use mathlib.Core.Path.{◌≡◌, refl, sym, ap₂, ◌∙◌, subst}
 use mathlib.Core.Bool.{◌&&◌}
 use mathlib.Core.List.{flat_map}
 use native.Mathlib.Omega.{arith}
-use lib.Dec.{T, leb, not_t, leb→le, le→leb, nleb→lt}
+use lib.Dec.{T, leb, not_T, leb→le, le→leb, nleb→lt}
 use lib.IntN.{nat_abs}
 use Rattle.lists.specs.Tests.{all}
 use Rattle.lists.proofs.TestLaws.{all-holds, holds-all, all_join, all-fails, all-parts}
@@ -52,7 +52,7 @@ module _ (N : Nest) where
   pub test-large : (T (small_numbers N) → ⊥) → SomeLarge N
   unfolding small
   test-large h = let r = all-fails small (nest_numbers N) (λ t. h (subst T (sym (numbers-test N)) t)) in
-      record { value = r.0; there = r.1; large = nleb→lt (nat_abs r.0) 32767 (not_t (leb (nat_abs r.0) 32767) r.2) }
+      record { value = r.0; there = r.1; large = nleb→lt (nat_abs r.0) 32767 (not_T (leb (nat_abs r.0) 32767) r.2) }
 
   pub large-test : SomeLarge N → T (small_numbers N) → ⊥
   large-test r t = let a = test-small t r.value r.there in let b = r.large in omega arith
