@@ -64,9 +64,22 @@ def items(text):
     return header, uses, merged
 
 
+def parameters(crate):
+    """the parameters of each function of the crate, by its name"""
+    found = {}
+    for path in glob.glob(f"crates/{crate}/src/**/*.rt", recursive=True):
+        with open(path) as f:
+            text = f.read()
+        for m in re.finditer(r"\bfn (\w+)(?:<[^>]*>)?\(([^)]*)\)", text):
+            found[m.group(1)] = re.findall(r"(?:^|,)\s*(?:mut )?(\w+)\s*:", m.group(2))
+    return found
+
+
 class Turner:
-    def __init__(self, info, folder):
-        self.info, self.folder, self.said = info, folder, []
+    def __init__(self, info, folder, given):
+        self.info, self.folder, self.said, self.given = info, folder, [], given
+        self.inlined = []
+        self.asked = {a.replace("_", "-"): b for a, b in info["asked_at"]}
         self.goal = {norm(a): b for a, b in info["needs"]}
         self.step, self.callee = {}, {}
         for place, parent, pair, callee, _ in info["places"]:
@@ -86,29 +99,44 @@ class Turner:
         self.loops = info["loops"]
 
     def step_name(self, old):
-        got = self.step.get(norm2(old))
-        if got:
-            return got[0]
+        for name in (old, re.sub(r"_lem$", "", old)):
+            got = self.step.get(norm2(name)) or self.step.get(norm2(name).lower())
+            if got:
+                return got[0]
+        return None
+
+    def begins_match(self, parts):
+        step, rest = norm2(parts[0]), ".".join(parts[1:]) + "."
+        return len(parts) > 1 and any(s == step and (f + ".").startswith(rest) for s, f in self.match)
+
+    def matched(self, step, parts):
+        for n in range(1, len(parts) + 1):
+            hit = self.match.get((step, ".".join(parts[:n])))
+            if hit:
+                return [hit[0], hit[1]] + parts[n:]
         return None
 
     def body(self, text):
         aliases = {}
+        prefixes = {}
         # c.before.before.X -> c.X
         text = re.sub(r"(?<![\w.'])(\w+)((?:\.before)+)(?=\.[a-z])", r"\1", text)
-        text = re.sub(r"let (\w+) = (\w+)((?:\.before)+) in", r"let \1 = \2 in", text)
+        text = re.sub(r"let (\w+) = (\w+)((?:\.before)+)(\s+)in\b", r"let \1 = \2\4in", text)
 
         def fields(m):
             var, rest = m.group(1), m.group(2)
             parts = rest.split(".")[1:]
+            if var in prefixes:
+                base, step, front = prefixes[var]
+                new = self.matched(step, front + parts)
+                if new:
+                    return base + "." + ".".join(new)
+                self.said.append(f"part {var}{rest} of {step} {front}")
+                return m.group(0)
             if var in aliases and aliases[var] is not None:
                 step = aliases[var]
             elif parts and var in self.contexts:
-                new = None
-                for n in range(1, len(parts)):
-                    hit = self.match.get((norm2(parts[0]), ".".join(parts[1 : n + 1])))
-                    if hit:
-                        new = [hit[0], hit[1]] + parts[n + 1 :]
-                        break
+                new = self.matched(norm2(parts[0]), parts[1:])
                 if new:
                     return var + "." + ".".join(new)
                 step = self.step_name(parts[0])
@@ -117,11 +145,14 @@ class Turner:
                         self.said.append(f"step {parts[0]}")
                     if parts[0] == "pre":
                         parts[0] = "requires"
+                    if parts[0] in ("args", "ranges") and len(parts) > 1 and re.fullmatch(r"t\d+", parts[1]) and int(parts[1][1:]) <= len(self.given):
+                        parts[1] = self.given[int(parts[1][1:]) - 1]
                     return var + "." + ".".join(parts)
                 parts[0] = step
             else:
                 step = None
             out = ".".join(parts)
+            out = re.sub(r"^(args|ranges)\.t(\d+)(?=\.|$)", lambda k: f"{k.group(1)}.{self.given[int(k.group(2)) - 1]}" if int(k.group(2)) <= len(self.given) else k.group(0), out)
             out = re.sub(r"(^|\.)inv(?=\.|$)", r"\1invariant", out)
             out = re.sub(r"(^|\.)pre(?=\.|$)", r"\1requires", out)
             out = re.sub(r"(^|\.)taken(?=\.|$)", r"\1true", out)
@@ -138,7 +169,7 @@ class Turner:
         result = []
         # aliases of steps and of contexts, in order
         pos = 0
-        pattern = re.compile(r"let (\w+) = (c|s|\w+)((?:\.[\w'\-+ℤℕ₀-₉]+)*) in")
+        pattern = re.compile(r"let (\w+) = (\w+)((?:\.[\w'\-+ℤℕ₀-₉]+)*)\s+in\b")
         token = re.compile(r"(?<![\w.'′])([a-zA-Z]\w*)((?:\.[\w'\-+₀-₉]+)+)")
         while True:
             m = pattern.search(text, pos)
@@ -150,6 +181,11 @@ class Turner:
             if base in self.contexts and rest == "":
                 self.contexts.add(var)
                 result.append(f"let {var} = {base} in")
+            elif base in self.contexts and self.begins_match(rest.split(".")[1:]) and self.matched(norm2(rest.split(".")[1]), rest.split(".")[2:]) is None:
+                parts = rest.split(".")[1:]
+                prefixes[var] = (base, norm2(parts[0]), parts[1:])
+                aliases.pop(var, None)
+                result.append("\0")
             elif base in self.contexts and rest.count(".") == 1 and self.step_name(rest[1:]):
                 aliases[var] = self.step_name(rest[1:])
                 result.append(f"let {var} = {base}.{aliases[var]} in")
@@ -157,7 +193,11 @@ class Turner:
                 aliases.pop(var, None)
                 result.append(token.sub(fields, m.group(0)))
             pos = m.end()
-        return without_aliases("".join(result), self.contexts)
+        text = "".join(result)
+        # the `let`s that are not needed
+        text = re.sub(r"\s*\bin\s+\0(?=\s+in\b)", "", text)
+        text = re.sub(r"\0\s+", "", text)
+        return facts_of_tests(without_aliases(text, self.contexts))
 
     def loop_of(self, old):
         """the new name of invariant-OLD"""
@@ -165,6 +205,77 @@ class Turner:
             if norm2(names[0]) == norm2(old):
                 return names[1], variables
         return None, None
+
+    def variables_of(self, old, variables):
+        """as an older invariant takes them: each as it began, then those that the loop changes"""
+        number = [i for i, (names, _) in enumerate(self.loops) if norm2(names[0]) == norm2(old)]
+        changed = self.info["changed"][number[0]] if number else [False] * len(variables)
+        first = [f"l.initial.{v}" if c else f"l.{v}" for v, c in zip(variables, changed)]
+        return first + [f"l.{v}" for v, c in zip(variables, changed) if c]
+
+    def inline(self, text):
+        """a helper, or a block of them, over one place: a `let` in each answer that uses it"""
+        block = re.match(rf"module _ \((\w+) : tie\.{NAME}(?: (?:invariant|decreases)-{NAME})*\)((?:\s*\([^()]*\))*) where\n", text)
+        if block:
+            if block.group(2):
+                return False
+            var, own = block.group(1), re.split(r"\n\s*\n", text[block.end():])
+            own = [re.sub(r"(?m)^  ", "", o) for o in own]
+        else:
+            var, own = None, [text]
+        made = []
+        for o in own:
+            head = re.match(rf"((?:--[^\n]*\n)*)({NAME}) : ", o)
+            if not head:
+                return False
+            name = head.group(2)
+            rest = o[head.end():]
+            clause = re.search(rf"(?m)^{re.escape(name)}((?: \w+)*) =", rest)
+            if not clause or "unfolding" in rest[: clause.start()] or len(re.findall(rf"(?m)^{re.escape(name)}(?= )", rest)) != 1:
+                return False
+            kind, args, body = rest[: clause.start()].strip(), clause.group(1).split(), rest[clause.end():].strip()
+            context = var
+            if var is None:
+                m = re.match(rf"\((\w+) : tie\.{NAME}(?: (?:invariant|decreases)-{NAME})*\)\s*→\s*", kind)
+                if not m or not args:
+                    return False
+                context, kind = m.group(1), kind[m.end():]
+                if args[0] != context:
+                    body = re.sub(rf"(?<![\w.'′]){args[0]}(?![\w'′-])", context, body)
+                args = args[1:]
+            self.contexts = {context}
+            kind, body = self.body(kind), self.body(body)
+            if context != "c":
+                kind, body = (re.sub(rf"(?<![\w.'′]){context}(?![\w'′-])", "c", x) for x in (kind, body))
+            made.append((name, kind, args, body))
+        self.inlined += made
+        return True
+
+    def with_lets(self, right):
+        """the answer with the helpers that it uses before it"""
+        needed = []
+
+        def uses_of(text):
+            for k, (name, kind, args, body) in enumerate(self.inlined):
+                if k not in needed and re.search(rf"(?<![\w.'′-]){re.escape(name)}(?![\w'′-])", text):
+                    needed.append(k)
+                    uses_of(kind + " " + body)
+
+        def applied(text):
+            for name, *_ in self.inlined:
+                text = re.sub(rf"\((?<![\w.'′-]){re.escape(name)} c(?:\.before)*\)", name, text)
+                text = re.sub(rf"(?<![\w.'′-]){re.escape(name)} c(?:\.before)*(?![\w.'′-])", name, text)
+            return text
+
+        uses_of(right)
+        lets = ""
+        for k in sorted(needed):
+            name, kind, args, body = self.inlined[k]
+            body = f"λ {' '.join(args)}. {body}" if args else body
+            lets += f"\n    let {name} : {applied(kind)} = {applied(body)} in"
+        right = applied(right)
+        right = re.sub(r"let (\w+) = (\w[\w-]*)\s+in\b", lambda m: "" if m.group(1) == m.group(2) else m.group(0), right)
+        return (lets + "\n   " + right) if lets else right
 
     def turn(self, text):
         header, uses, blocks = items(text)
@@ -189,18 +300,12 @@ class Turner:
                 clause = text[m.end():]
                 head, _, right = clause.partition(" =")
                 args = head.split()[1:]
-                for a in args:
-                    if a == "_":
-                        continue
-                    plain = re.sub(r"₀$", "", a)
-                    to = f"l.initial.{plain}" if a.endswith("₀") else f"l.{plain}"
-                    if plain not in [v.replace("_", "-") for v in variables] and plain not in variables:
-                        where = args.index(a)
-                        self.said.append(f"variable {a} of {variables}")
-                    else:
-                        plain = [v for v in variables if v == plain or v.replace("_", "-") == plain][0]
-                        to = f"l.initial.{plain}" if a.endswith("₀") else f"l.{plain}"
-                    right = re.sub(rf"(?<![\w.'′₀-₉-]){re.escape(a)}(?![\w'′₀-₉-])", to, right)
+                places = self.variables_of(old, variables)
+                if len(args) != len(places):
+                    self.said.append(f"{len(args)} variables for {len(places)}: {args} {places}")
+                for a, to in zip(args, places):
+                    if a != "_":
+                        right = re.sub(rf"(?<![\w.'′₀-₉-]){re.escape(a)}(?![\w'′₀-₉-])", to, right)
                 invariants.append("\n".join(comment + [f"abbrev pub {kind}-{new} : goal.{kind}-{new}", f"{kind}-{new} l ={right}"]))
                 continue
             if re.match(rf"(pub )?{NAME} : \{{M : Type 1\}} → statement M", text):
@@ -225,29 +330,83 @@ class Turner:
                     continue
                 if flat in TRIVIAL and not unfolding:
                     continue
+                right = self.with_lets(right)
                 answers.append("\n".join(comment + [f"pub {new} : goal.{new}"]) + "\n" + unfolding + f"{new} {var} ={right}")
                 continue
             # a helper, perhaps over a place
             self.contexts = set(re.findall(r"\((\w+) : tie\.", text))
+            places = re.findall(rf"\(\w+ : tie\.({NAME})", text)
             def at(k):
-                new = self.place.get(k.group(1).replace("_", "-"))
+                new = self.asked.get(k.group(1).replace("_", "-"))
                 if not new:
                     self.said.append(f"place {k.group(1)}")
                 return f"goal.{new or k.group(1)}"
-            if self.contexts:
+            if places:
+                if self.inline(text):
+                    continue
                 self.said.append("helper over a place: " + text.split("\n")[0])
-            text = re.sub(rf"tie\.({NAME})", at, self.body(text) if self.contexts else text)
+            text = re.sub(rf"tie\.({NAME})(?: (?:invariant|decreases)-{NAME})*", at, self.body(text) if self.contexts else text)
             answers.append("\n".join(comment + [text]))
         return header, uses, invariants, answers
 
 
+TESTS = {"not-true": 2, "not-false": 2, "ltb-true": 3, "ltb-false": 3, "leb-true": 3, "leb-false": 3, "eqb-true": 3}
+
+
+def argument(text, at):
+    """the end of the argument that begins at or after `at`, and where it begins"""
+    while at < len(text) and text[at].isspace():
+        at += 1
+    start = at
+    if at < len(text) and text[at] == "(":
+        depth = 0
+        while at < len(text):
+            depth += (text[at] == "(") - (text[at] == ")")
+            at += 1
+            if depth == 0:
+                break
+        while at < len(text) and not text[at].isspace() and text[at] not in "(),":
+            at += 1
+    else:
+        while at < len(text) and not text[at].isspace() and text[at] not in "(),":
+            at += 1
+    return start, at
+
+
+def facts_of_tests(text):
+    """a test says its fact by itself now, and no bool that is true"""
+    at = 0
+    while True:
+        m = re.compile(r"(?<![\w.'-])(" + "|".join(TESTS) + r")(?![\w'-])").search(text, at)
+        if not m:
+            return text
+        end, parts = m.end(), []
+        for _ in range(TESTS[m.group(1)]):
+            start, end = argument(text, end)
+            parts.append(text[start:end])
+        if re.fullmatch(r"\w+\.[\w'.\-]+\.(true|false)", parts[-1]):
+            start = m.start()
+            if text[start - 1 : start] == "(" and text[end : end + 1] == ")" and not re.search(r"[\w']$", text[: start - 1]):
+                start, end = start - 1, end + 1
+            text = text[:start] + parts[-1] + text[end:]
+            at = start
+        else:
+            at = m.end()
+
+
 def without_aliases(text, contexts):
     """`let s = c in .. s.args` is `.. c.args`"""
-    for var, base in re.findall(r"let (\w+) = (\w+) in", text):
+    done = set()
+    while True:
+        found = [m for m in re.finditer(r"let (\w+) = (\w+)\s+in\b", text) if m.group(1) not in done]
+        if not found:
+            return text
+        var, base = found[0].groups()
+        done.add(var)
         if var in contexts and base in contexts and len(re.findall(rf"let {var} =", text)) == 1 and not re.search(rf"λ[^.]*\b{var}\b", text):
-            text = re.sub(rf"\s*\bin\s+let {var} = {base}(?=\s+in\b)", "", text) if re.search(rf"in\s+let {var} = {base}\s+in", text) else re.sub(rf"let {var} = {base} in\s+", "", text)
+            within = rf"\s*\bin\s+let {var} = {base}(?=\s+in\b)"
+            text = re.sub(within, "", text) if re.search(within, text) else re.sub(rf"let {var} = {base}\s+in\s+", "", text)
             text = re.sub(rf"(?<![\w.'′]){var}(?![\w'′-])", base, text)
-    return text
 
 
 def norm2(name):
@@ -282,6 +441,7 @@ def main(crates):
         if info is None:
             print(f"{crate}: no names")
             continue
+        given = parameters(crate)
         for path in sorted(glob.glob(f"crates/{crate}/proofs/**/Proof.antt", recursive=True)):
             folder = os.path.dirname(path)
             function = folder[len(f"crates/{crate}/proofs/"):].replace("/", ".")
@@ -291,7 +451,7 @@ def main(crates):
             if key not in info or "Tie as tie" not in text:
                 print(f"{path}: left, {'no names' if key not in info else 'not over Tie'}")
                 continue
-            turner = Turner(info[key], folder)
+            turner = Turner(info[key], folder, given.get(function.split(".")[-1], []))
             header, uses, invariants, answers = turner.turn(text)
             module = f"Rattle.{crate}.proofs.{function}"
             if invariants:

@@ -32,7 +32,7 @@ word_wide {z} h = let u = sfits_up w16 z h in let d = sfits-down w16 z h in sfit
 module _ (z : ℤ) (h : size z ≤ 32767) where
   -- as it is read, and as it is written
   pub number_read : to_z w32 (of_z w32 z) ≡ z
-  number_read = to_z-of_z (sfits (omega arith))
+  number_read = to_z-of_z {w = w32} (sfits (omega arith))
 
   pub number_fits : SFits w16 (to_z w32 (of_z w32 z))
   number_fits = rw number_read (word_fits h)
