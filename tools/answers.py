@@ -347,7 +347,25 @@ class Turner:
                 self.said.append("helper over a place: " + text.split("\n")[0])
             text = re.sub(rf"tie\.({NAME})(?: (?:invariant|decreases)-{NAME})*", at, self.body(text) if self.contexts else text)
             answers.append("\n".join(comment + [text]))
-        return header, uses, invariants, answers
+        # what an invariant speaks of stands beside it
+        beside = []
+        text = "\n".join(invariants)
+        while True:
+            moved = []
+            for a in answers:
+                m = re.match(rf"(?:--[^\n]*\n)*((?:pub |abbrev |unfoldable |record |data )*)({NAME})", a)
+                if m and not a.startswith("pub ") and re.search(rf"(?<![\w.'′-]){re.escape(m.group(2))}(?![\w'′-])", text) and f"goal.{m.group(2)}" not in a:
+                    moved.append((a, m))
+            if not moved:
+                break
+            for a, m in moved:
+                answers.remove(a)
+                made = a[: m.start(1)] + public(m.group(1)) + a[m.end(1):]
+                if "record " in m.group(1):
+                    made = re.sub(r"(?m)^  (?=[\w'-]+(?: [\w'-]+)* :)", "  pub ", made)
+                beside.append((m.group(2), made))
+                text += "\n" + a
+        return header, uses, [b for _, b in reversed(beside)] + invariants, answers, [n for n, _ in beside]
 
 
 TESTS = {"not-true": 2, "not-false": 2, "ltb-true": 3, "ltb-false": 3, "leb-true": 3, "leb-false": 3, "eqb-true": 3}
@@ -392,6 +410,11 @@ def facts_of_tests(text):
             at = start
         else:
             at = m.end()
+
+
+def public(words):
+    words = words.replace("pub ", "")
+    return "abbrev pub " if words == "abbrev " else "pub " + words
 
 
 def without_aliases(text, contexts):
@@ -452,7 +475,7 @@ def main(crates):
                 print(f"{path}: left, {'no names' if key not in info else 'not over Tie'}")
                 continue
             turner = Turner(info[key], folder, given.get(function.split(".")[-1], []))
-            header, uses, invariants, answers = turner.turn(text)
+            header, uses, invariants, answers, beside = turner.turn(text)
             module = f"Rattle.{crate}.proofs.{function}"
             if invariants:
                 body = "\n\n".join(invariants)
@@ -460,6 +483,8 @@ def main(crates):
                     f.write("\n".join(header + used(uses, body) + [f"use {module}.Given as goal", "", body]) + "\n")
             if answers:
                 body = "\n\n".join(a.strip("\n") for a in answers)
+                if beside:
+                    uses = uses + [f"use {module}.Invariants.{{{', '.join(beside)}}}"]
                 with open(os.path.join(folder, "Answers.antt"), "w") as f:
                     f.write("\n".join(([] if invariants else header) + used(uses, body) + [f"use {module}.Goals as goal", "", body]) + "\n")
             os.remove(path)

@@ -1,6 +1,6 @@
 -- The two sides of a loop. A lower limit is rounded up, and the largest of all counts; an upper one is rounded down, and the smallest counts.
 -- What is said of a side here is said of both.
-use mathlib.Core.Path.{◌≡◌}
+use mathlib.Core.Path.{◌≡◌, sym, ◌∙◌, ap}
 use mathlib.Core.Bool.{Bool, true, false}
 use mathlib.Core.List.{List, map}
 use Prim.Native.Nat.{ℕ, zero, suc, ◌≤◌}
@@ -58,5 +58,7 @@ pub more-limits : (d : Side) (f : Limit → ℤ) (s : List ℤ) (k j i n m : ℕ
     → tightest d (map f (limits_at s k j n)) ≡ tighter d (f (limit_at s k j)) (tightest d (map f (limits_at s k i m)))
 unfolding limits_at largest smallest
 more-limits d f s k j i n zero e h g = absurd (omega arith)
-more-limits lower f s k j i n (suc m) e h g = rw (e, g)
-more-limits upper f s k j i n (suc m) e h g = rw (e, g)
+more-limits lower f s k j i n (suc m) e h g = ap (λ x. largest (map f (limits_at s k j x))) e
+    ∙ ap (λ x. max_z (f (limit_at s k j)) (largest (map f (limits_at s k x (suc m))))) (sym g)
+more-limits upper f s k j i n (suc m) e h g = ap (λ x. smallest (map f (limits_at s k j x))) e
+    ∙ ap (λ x. min_z (f (limit_at s k j)) (smallest (map f (limits_at s k x (suc m))))) (sym g)

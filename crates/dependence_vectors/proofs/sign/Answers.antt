@@ -13,8 +13,7 @@ use Rattle.integers.proofs.RangeLaws.{back, cast_ok}
 use Rattle.integers.proofs.SignLaws.{value_read}
 use Rattle.dependence_vectors.specs.Numbers.{digit}
 use Rattle.dependence_vectors.proofs.NumberLaws.{digit_lt}
-use Rattle.dependence_vectors.proofs.sign.Statement.{statement}
-use Rattle.dependence_vectors.proofs.sign.Tie as tie
+use Rattle.dependence_vectors.proofs.sign.Goals as goal
 
 value-digit : (s : Sign) → sign_value s +ℤ pos 1 ≡ pos (digit s)
 unfolding digit
@@ -39,19 +38,12 @@ module _ {r : ℤ} (s : Sign) (e : r ≡ sign_value s) where
   sum-casts : T (non_neg (to_z w64 (of_z w64 (to_z w64 (of_z w64 r) +ℤ pos 1)))) × Fits w64 (nat_abs (to_z w64 (of_z w64 (to_z w64 (of_z w64 r) +ℤ pos 1))))
   sum-casts = subst (λ z. T (non_neg z) × Fits w64 (nat_abs z)) (sym read) (cast_ok (pos (digit s)) (omega zarith) digit-fits)
 
-sign-of-requires : tie.Need-sign-of-requires
-sign-of-requires c κs = search rules
+pub overflow_add-result : goal.overflow_add-result
+overflow_add-result c = let e = c.sign_of.ensures in search (rules, sum_fits)
 
-add-result : tie.Need-overflow-add-result
-add-result c = let e = c.sign_of.ensures in search (rules, sum_fits)
-
-cast-result : tie.Need-overflow-cast-result
-cast-result c = let e = c.sign_of.ensures in search (rules, sum-casts)
+pub overflow_cast-result : goal.overflow_cast-result
+overflow_cast-result c = let e = c.sign_of.ensures in search (rules, sum-casts)
 
 -- both indices are read back from their bits
-returns : tie.Need-returns
-returns c = let s = c.before in
-    ap nat_abs (read (sign s.args.a s.args.b) (simp (back, s.ranges.a, s.ranges.b) at c.sign_of.ensures))
-
-pub sign-spec : {M : Type 1} → statement M
-sign-spec = tie.close (tie.spec sign-of-requires add-result cast-result returns)
+pub returns : goal.returns
+returns c = ap nat_abs (read (sign c.args.a c.args.b) (simp (back, c.ranges.a, c.ranges.b) at c.sign_of.ensures))
