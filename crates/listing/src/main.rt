@@ -2,26 +2,29 @@
 #![tactic(auto)]
 
 use entry_answers::Answer;
-use libc::{STDIN_FILENO, STDOUT_FILENO};
 use ticket_refusals::Refusal;
 
+const STDIN: i32 = 0;
+
+const STDOUT: i32 = 1;
+
 fn print_number(n: usize) {
-    io::write_all(STDOUT_FILENO, b" ");
-    io::print_decimal(STDOUT_FILENO, n as u64);
+    io::write_all(STDOUT, b" ");
+    io::print_decimal(STDOUT, n as u64);
 }
 
 fn print_refusal(r: Refusal) {
-    io::write_all(STDOUT_FILENO, b"refused");
+    io::write_all(STDOUT, b"refused");
     print_number(ticket_refusals::number_of(r));
     print_number(ticket_refusals::place_of(r));
-    io::write_all(STDOUT_FILENO, b"\n");
+    io::write_all(STDOUT, b"\n");
 }
 
 fn print_listing(ticket: &[u8]) {
     let mut out = io::large_buffer();
     match entry_list::list(ticket, &mut out) {
         Answer::Accepted(n) => {
-            io::write_all(STDOUT_FILENO, &out[..n]);
+            io::write_all(STDOUT, &out[..n]);
         }
         Answer::Refused(r) => print_refusal(r),
     }
@@ -31,6 +34,6 @@ fn print_listing(ticket: &[u8]) {
 // the word where it begins, at most the 505th, whatever it is. So the first 65,536 bytes of an input that is longer have the answer of the whole.
 fn main() {
     let mut input = io::large_buffer();
-    let n = io::read_full(STDIN_FILENO, &mut input);
+    let n = io::read_full(STDIN, &mut input);
     print_listing(&input[..n]);
 }

@@ -11,27 +11,30 @@ ghost use Rattle.entry_answers.specs.Answers.{answer_of};
 
 use entry_answers::Answer;
 use entry_quick::Tested;
-use libc::{STDIN_FILENO, STDOUT_FILENO};
 use ticket_refusals::Refusal;
+
+const STDIN: i32 = 0;
+
+const STDOUT: i32 = 1;
 
 // ---- answers
 
 fn print_number(n: usize) {
-    io::write_all(STDOUT_FILENO, b" ");
-    io::print_decimal(STDOUT_FILENO, n as u64);
+    io::write_all(STDOUT, b" ");
+    io::print_decimal(STDOUT, n as u64);
 }
 
 fn print_count(n: usize) {
-    io::write_all(STDOUT_FILENO, b"accepted");
+    io::write_all(STDOUT, b"accepted");
     print_number(n);
-    io::write_all(STDOUT_FILENO, b"\n");
+    io::write_all(STDOUT, b"\n");
 }
 
 fn print_refusal(r: Refusal) {
-    io::write_all(STDOUT_FILENO, b"refused");
+    io::write_all(STDOUT, b"refused");
     print_number(ticket_refusals::number_of(r));
     print_number(ticket_refusals::place_of(r));
-    io::write_all(STDOUT_FILENO, b"\n");
+    io::write_all(STDOUT, b"\n");
 }
 
 // Returns the count, which is 0 of a refusal.
@@ -52,7 +55,7 @@ fn print_answer(a: Answer) -> usize
 
 fn print_unless_kept(kept: bool) {
     if !kept {
-        io::write_all(STDOUT_FILENO, b"changed\n");
+        io::write_all(STDOUT, b"changed\n");
     }
 }
 
@@ -65,10 +68,10 @@ fn try_judge(ticket: &[u8]) {
 fn try_quick(ticket: &[u8], first: usize, second: usize) {
     match entry_quick::quick(ticket, first, second) {
         Tested::Apart => {
-            io::write_all(STDOUT_FILENO, b"apart\n");
+            io::write_all(STDOUT, b"apart\n");
         }
         Tested::Perhaps => {
-            io::write_all(STDOUT_FILENO, b"perhaps\n");
+            io::write_all(STDOUT, b"perhaps\n");
         }
         Tested::Refused(r) => print_refusal(r),
     }
@@ -97,7 +100,7 @@ fn is_filled(out: &[u8], first: usize) -> bool {
 }
 
 fn print_byte(b: u8) {
-    io::print_hex(STDOUT_FILENO, b as u64, 2);
+    io::print_hex(STDOUT, b as u64, 2);
 }
 
 fn print_bytes(bytes: &[u8]) {
@@ -106,7 +109,7 @@ fn print_bytes(bytes: &[u8]) {
         print_byte(bytes[i]);
         i += 1;
     }
-    io::write_all(STDOUT_FILENO, b"\n");
+    io::write_all(STDOUT, b"\n");
 }
 
 fn try_write(ticket: &[u8], out: &mut [u8], lent: usize)
@@ -125,15 +128,15 @@ fn try_list(ticket: &[u8], out: &mut [u8], lent: usize)
 {
     fill(out);
     let n = print_answer(entry_list::list(ticket, &mut out[..lent]));
-    io::write_all(STDOUT_FILENO, &out[..n]);
+    io::write_all(STDOUT, &out[..n]);
     print_unless_kept(is_filled(out, n));
 }
 
 // ---- run
 
 fn print_word(w: u32) {
-    io::write_all(STDOUT_FILENO, b" ");
-    io::print_decimal(STDOUT_FILENO, w as u64);
+    io::write_all(STDOUT, b" ");
+    io::print_decimal(STDOUT, w as u64);
 }
 
 fn print_words(store: &[u32]) {
@@ -142,7 +145,7 @@ fn print_words(store: &[u32]) {
         print_word(store[i]);
         i += 1;
     }
-    io::write_all(STDOUT_FILENO, b"\n");
+    io::write_all(STDOUT, b"\n");
 }
 
 // Returns how many words may have changed.
@@ -213,7 +216,7 @@ fn try_run(ticket: &[u8], bytes: &[u8], store: &mut [u32], lent: usize)
 fn read_part(buffer: &mut [u8], n: usize)
     requires { n ≤ length buffer.old }
 {
-    io::read_full(STDIN_FILENO, &mut buffer[..n]);
+    io::read_full(STDIN, &mut buffer[..n]);
 }
 
 fn byte_value(b: u8) -> usize
@@ -250,7 +253,7 @@ fn try_store(ticket: &[u8], words: usize)
 // Reads a case and prints its answers; or says that there is none.
 fn try_next() -> bool {
     let mut head = [0u8; 12];
-    if io::read_full(STDIN_FILENO, &mut head) < 12 {
+    if io::read_full(STDIN, &mut head) < 12 {
         return false;
     }
     let taken = number_at(&head, 0);
