@@ -1,8 +1,8 @@
 //! Builds and links the proved library.
 //!
-//! In the repository's root this runs `rt check` on all that the crate `hurkeztor` names, which proves on all cores, and then `rt staticlib
-//! hurkeztor`, which proves that crate and writes `target/staticlib/libhurkeztor.a`. Where HURKEZTOR_ARCHIVE_DIR names a folder, the archive in it
-//! is linked and no `rt` is run.
+//! In the repository's root this runs `rt all check`, which proves every crate, several at a time, and then in the folder of the crate `hurkeztor`
+//! `rt lib`, which writes `out/libhurkeztor.a` over those proofs. Where HURKEZTOR_ARCHIVE_DIR names a folder, the archive in it is linked and no `rt`
+//! is run.
 
 use std::env;
 use std::fs;
@@ -47,7 +47,7 @@ fn built_archive(folder: PathBuf) -> PathBuf {
     if !archive.is_file() {
         fail(&[
             format!("HURKEZTOR_ARCHIVE_DIR is set, and there is no {}.", archive.display()),
-            "Write the archive with 'rt staticlib hurkeztor', or unset HURKEZTOR_ARCHIVE_DIR to have it built.".into(),
+            "Write the archive with 'rt lib' in crates/hurkeztor, or unset HURKEZTOR_ARCHIVE_DIR to have it built.".into(),
         ]);
     }
     folder.canonicalize().unwrap_or(folder)
@@ -59,23 +59,29 @@ fn build_archive() -> PathBuf {
         .parent()
         .expect("the package stands in the repository's folder rust")
         .to_path_buf();
-    for input in ["crates", "crates.txt"] {
-        println!("cargo::rerun-if-changed={}", root.join(input).display());
-    }
+    println!("cargo::rerun-if-changed={}", root.join("crates.txt").display());
     let crates = match fs::read_to_string(root.join("crates.txt")) {
         Ok(crates) => crates,
         Err(error) => fail(&[format!("{} could not be read: {error}.", root.join("crates.txt").display())]),
     };
-    let mut progress = Progress::new(progress::count(&crates, LIBRARY));
-    let below = progress::dependencies(&crates, LIBRARY);
-    rt(&root, &[&["check"], &below[..]].concat(), &mut progress);
-    progress.last(LIBRARY);
-    rt(&root, &["staticlib", LIBRARY], &mut progress);
-    let archive = root.join("target").join("staticlib").join(ARCHIVE);
-    if !archive.is_file() {
-        fail(&[format!("'rt staticlib hurkeztor' ended well and left no {}.", archive.display())]);
+    let library = progress::reached(&crates, LIBRARY);
+    // Beside them stands what rt keeps for its next run.
+    for name in &library {
+        let parts = ["src", "specs", "proofs"].map(|part| root.join("crates").join(name).join(part));
+        for part in parts.iter().filter(|part| part.is_dir()) {
+            println!("cargo::rerun-if-changed={}", part.display());
+        }
     }
-    // A copy, since `rt ci` removes the folder target.
+    let mut progress = Progress::new(&library);
+    rt(&root, &["all", "check", "--jobs", &progress::jobs().to_string()], &mut progress);
+    let folder = root.join("crates").join(LIBRARY);
+    progress.last(LIBRARY);
+    rt(&folder, &["lib"], &mut progress);
+    let archive = folder.join("out").join(ARCHIVE);
+    if !archive.is_file() {
+        fail(&[format!("'rt lib' ended well and left no {}.", archive.display())]);
+    }
+    // A copy, since `rt ci` sets the folders out aside while it runs.
     let folder = PathBuf::from(env::var_os("OUT_DIR").expect("cargo sets OUT_DIR"));
     if let Err(error) = fs::copy(&archive, folder.join(ARCHIVE)) {
         fail(&[format!(
@@ -87,8 +93,8 @@ fn build_archive() -> PathBuf {
     folder
 }
 
-fn rt(root: &Path, words: &[&str], progress: &mut Progress) {
-    let ended = match run_rt(root, words, progress) {
+fn rt(folder: &Path, words: &[&str], progress: &mut Progress) {
+    let ended = match run_rt(folder, words, progress) {
         Ok((status, _)) if status.success() => return,
         Ok(ended) => ended,
         Err(error) if error.kind() == ErrorKind::NotFound => fail(&[
@@ -98,18 +104,23 @@ fn rt(root: &Path, words: &[&str], progress: &mut Progress) {
         Err(error) => fail(&[format!("The command 'rt' could not be run: {error}.")]),
     };
     let (status, lines) = ended;
-    let mut message = vec![format!("'rt {}' failed in {} ({status}). It ends:", words[0], root.display())];
+    let lines = progress::failing(&lines);
+    let mut message = vec![format!(
+        "'rt {}' failed in {} ({status}). It ends:",
+        words.join(" "),
+        folder.display()
+    )];
     let shown = lines.iter().skip(lines.len().saturating_sub(LINES_SHOWN));
     message.extend(shown.map(|line| format!("  {line}")));
     fail(&message);
 }
 
 /// How rt ended, and all that it printed.
-fn run_rt(root: &Path, words: &[&str], progress: &mut Progress) -> io::Result<(ExitStatus, Vec<String>)> {
+fn run_rt(folder: &Path, words: &[&str], progress: &mut Progress) -> io::Result<(ExitStatus, Vec<String>)> {
     let (printed, end) = io::pipe()?;
     let mut running = Command::new("rt")
         .args(words)
-        .current_dir(root)
+        .current_dir(folder)
         .stdout(end.try_clone()?)
         .stderr(end)
         .spawn()?;
