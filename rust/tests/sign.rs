@@ -59,12 +59,12 @@ fn root() -> PathBuf {
     Path::new(env!("CARGO_MANIFEST_DIR")).join("..")
 }
 
-/// What a command of the toolchain or of the compiler's tools prints.
-fn printed(command: &str, words: &[&str]) -> String {
-    let run = Command::new(command).args(words).current_dir(root()).output();
+/// What a command of the toolchain or of the compiler's tools prints in a folder.
+fn printed(folder: &Path, command: &str, words: &[&str]) -> String {
+    let run = Command::new(command).args(words).current_dir(folder).output();
     let output = run.unwrap_or_else(|error| panic!("{command} has to be installed: {error}"));
-    let failed = String::from_utf8_lossy(&output.stderr);
-    assert!(output.status.success(), "{command} {words:?}:\n{failed}");
+    let (said, failed) = (String::from_utf8_lossy(&output.stdout), String::from_utf8_lossy(&output.stderr));
+    assert!(output.status.success(), "{command} {words:?}:\n{said}{failed}");
     String::from_utf8(output.stdout).expect("a text")
 }
 
@@ -87,52 +87,75 @@ fn no_branch_in_the_source() {
     assert_eq!(source("hurkeztor", "hurkeztor_sign").trim(), "integers::sign_of(source, sink)");
 }
 
-/// The functions of a program's middle form: each one's name and its text, which closes with the parenthesis that it opens with.
+/// The crates whose functions number vectors.
+const NUMBERING: [&str; 5] = [
+    "dependence_vectors",
+    "dependence_pair_search",
+    "dependence_search",
+    "pair_partners",
+    "pair_records",
+];
+
+/// The middle form of a crate, which is what is proved of it and what the archive is made of: rt keeps it beside the proofs.
+fn middle_form(library: &str) -> String {
+    let folder = root().join(format!("crates/{library}/out/rlib/{library}.rlib"));
+    let path = folder.join("toolchain/mir.json");
+    fs::read_to_string(&path).unwrap_or_else(|error| panic!("{}: {error}", path.display()))
+}
+
+/// The functions of a middle form: each one's name and its text, which closes with the bracket that it opens with.
 fn functions(program: &str) -> Vec<(&str, &str)> {
     let mut found = Vec::new();
-    for (start, opening) in program.match_indices("(fn-def \"") {
-        let name = program[start + opening.len()..].split('"').next().expect("a name");
+    let mut rest = program.strip_prefix('[').expect("a list");
+    while let Some(from) = rest.strip_prefix("[\"") {
+        let name = from.split('"').next().expect("a name");
         let mut depth = 0;
-        let end = program[start..].find(|c| {
-            depth += i32::from(c == '(') - i32::from(c == ')');
+        let end = rest.find(|c| {
+            depth += i32::from(c == '[') - i32::from(c == ']');
             depth == 0
         });
-        found.push((name, &program[start..start + end.expect("its end")]));
+        let (own, after) = rest.split_at(end.expect("its end") + 1);
+        found.push((name, own));
+        rest = after.trim_start_matches([',', '\n', ' ']);
     }
+    assert_eq!(rest.trim_end(), "]", "the end of the list");
     found
 }
 
 #[test]
 fn no_branch_in_the_middle_form() {
-    let program = printed("rt", &["mir", "hurkeztor"]);
-    let functions = functions(&program);
-    let of = |name: &str| functions.iter().find(|function| function.0 == name).expect(name).1;
-    let sign = of("integers::sign_of");
-    assert_eq!(sign.matches("(op2 (lt signed) ").count(), 2, "{sign}");
-    assert_eq!(sign.matches("(op2 (sub signed) ").count(), 1, "{sign}");
-    for (text, calls) in [(sign, 0), (of("dependence_vectors::sign"), 1)] {
-        for branch in ["(if ", "(switch ", "(loop ", "(block ", "(exit "] {
+    // It is the crate above the other four and above integers: what it stands on is proved and kept, if it was not.
+    printed(&root().join("crates/pair_records"), "rt", &["lib"]);
+    let form = |library: &str, function: &str| {
+        let program = middle_form(library);
+        let name = format!("{library}::{function}");
+        let found = functions(&program).into_iter().find(|function| function.0 == name);
+        found.expect(&name).1.to_string()
+    };
+    let sign = form("integers", "sign_of");
+    assert_eq!(sign.matches("{\"Lt\":\"Signed\"}").count(), 2, "{sign}");
+    assert_eq!(sign.matches("{\"Sub\":\"Signed\"}").count(), 1, "{sign}");
+    for (text, calls) in [(sign, 0), (form("dependence_vectors", "sign"), 1)] {
+        for branch in ["\"If\"", "\"Switch", "\"Loop\"", "\"Block\"", "\"Exit\""] {
             assert!(!text.contains(branch), "{text}");
         }
-        assert_eq!(text.matches("(call ").count(), calls, "{text}");
+        assert_eq!(text.matches("\"Call").count(), calls, "{text}");
     }
 
     // whatever numbers a vector compares no indices itself
-    for library in [
-        "dependence_vectors",
-        "dependence_pair_search",
-        "dependence_search",
-        "pair_partners",
-        "pair_records",
-    ] {
+    for library in NUMBERING {
+        let program = middle_form(library);
         let own = format!("{library}::");
-        let of_library: Vec<_> = functions.iter().filter(|function| function.0.starts_with(&own)).collect();
+        let of_library = functions(&program);
         assert!(!of_library.is_empty(), "{library}");
         for (name, text) in of_library {
-            assert!(
-                !text.contains("(lt signed)") && !text.contains("(le signed)"),
-                "{name} compares signed numbers"
-            );
+            assert!(name.starts_with(&own), "{name}");
+            for compared in ["Lt", "Le", "Gt", "Ge"] {
+                assert!(
+                    !text.contains(&format!("{{\"{compared}\":\"Signed\"}}")),
+                    "{name} compares signed numbers"
+                );
+            }
         }
     }
 }
@@ -140,7 +163,11 @@ fn no_branch_in_the_middle_form() {
 /// The names of a function's instructions in the archive, up to its end.
 fn instructions(function: &str) -> Vec<String> {
     let symbol = format!("--disassemble={function}");
-    let code = printed("objdump", &["-d", "--no-show-raw-insn", &symbol, env!("HURKEZTOR_ARCHIVE")]);
+    let code = printed(
+        &root(),
+        "objdump",
+        &["-d", "--no-show-raw-insn", &symbol, env!("HURKEZTOR_ARCHIVE")],
+    );
     let (_, body) = code.split_once(&format!("<{function}>:\n")).expect(function);
     let lines = body.lines().take_while(|line| !line.is_empty());
     let names = lines.filter_map(|line| line.split_once(":\t")?.1.split_whitespace().next());
