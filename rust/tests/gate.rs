@@ -6,14 +6,15 @@ use std::path::{Path, PathBuf};
 use std::process::Command;
 
 const CLOSING: &str = "5 passed, 0 failed";
+const ALL_REFUSED: &str = "must-fail edits: 66 refused";
 
 struct Gate {
     folder: PathBuf,
 }
 
 impl Gate {
-    /// In this folder rt and cargo write down their first words, and fail at the words given.
-    fn new(name: &str, failing: &[&str], closing: &str) -> Gate {
+    /// In this folder rt and cargo write down their first words, and fail at the words given. Where rt ci ends well it says what became of the edits.
+    fn new(name: &str, failing: &[&str], edits: &str, closing: &str) -> Gate {
         let folder = Path::new(env!("CARGO_TARGET_TMPDIR")).join(format!("gate-{name}"));
         let _ = fs::remove_dir_all(&folder);
         fs::create_dir_all(folder.join(".ci")).expect("a folder");
@@ -30,7 +31,10 @@ impl Gate {
                 command,
                 &format!(
                     "echo \"{command} $1\" >>called\nbad=0\ncase \"{command} $1\" in\n{fails}  *) ;;\nesac\n\
-                     if [ \"{command} $1\" = 'rt ci' ]; then echo 'rt: lists proved (1 s)'; echo '{closing}'; fi\n\
+                     if [ \"{command} $1\" = 'rt ci' ]; then\n\
+                     echo 'rt: lists proved'\n\
+                     if [ $bad = 0 ]; then echo 'rt: ok; handles allowed: none; {edits}; every proof was done in this run'; fi\n\
+                     echo '{closing}'\nfi\n\
                      if [ \"{command} $1\" = 'cargo test' ]; then echo 'test result: done'; fi\nexit $bad"
                 ),
             );
@@ -66,7 +70,7 @@ impl Gate {
 
 #[test]
 fn all_parts_pass() {
-    let (passed, lines, called) = Gate::new("passes", &[], CLOSING).run();
+    let (passed, lines, called) = Gate::new("passes", &[], ALL_REFUSED, CLOSING).run();
     assert!(passed);
     assert_eq!(lines.last().expect("a line"), CLOSING);
     assert_eq!(
@@ -74,33 +78,47 @@ fn all_parts_pass() {
         1,
         "the closing line is last alone: {lines:?}"
     );
-    assert_eq!(called, ["rt fmt", "cargo fmt", "rt ci", "cargo clippy", "cargo test"]);
+    assert_eq!(called, ["cargo fmt", "rt ci", "cargo clippy", "cargo test"]);
 }
 
 #[test]
 fn a_failing_part_fails_the_gate() {
     for (name, part) in [("test", "cargo test"), ("clippy", "cargo clippy")] {
-        let (passed, lines, _) = Gate::new(name, &[part], CLOSING).run();
+        let (passed, lines, _) = Gate::new(name, &[part], ALL_REFUSED, CLOSING).run();
         assert!(!passed, "{part}");
         assert_eq!(lines.last().expect("a line"), "5 passed, 1 failed");
         assert!(!lines.contains(&CLOSING.to_string()), "{part}: {lines:?}");
     }
-    for (name, part) in [("rt-layout", "rt fmt"), ("layout", "cargo fmt")] {
-        let (passed, lines, called) = Gate::new(name, &[part], CLOSING).run();
-        assert!(!passed, "{part}");
-        assert_eq!(lines.last().expect("a line"), "0 passed, 1 failed");
-        assert!(!called.contains(&"rt ci".to_string()), "{part}");
-    }
+    let (passed, lines, called) = Gate::new("layout", &["cargo fmt"], ALL_REFUSED, CLOSING).run();
+    assert!(!passed);
+    assert_eq!(lines.last().expect("a line"), "0 passed, 1 failed");
+    assert!(!called.contains(&"rt ci".to_string()));
 }
 
 #[test]
 fn a_failing_proof_fails_the_gate() {
-    let (passed, lines, called) = Gate::new("proof", &["rt ci"], "4 passed, 1 failed").run();
+    let (passed, lines, called) = Gate::new("proof", &["rt ci"], ALL_REFUSED, "4 passed, 1 failed").run();
     assert!(!passed);
     assert_eq!(lines.last().expect("a line"), "4 passed, 1 failed");
     assert!(!called.contains(&"cargo test".to_string()));
     // It counts nothing, though it says that it ended well.
-    let (passed, lines, _) = Gate::new("nothing", &[], "no closing line").run();
+    let (passed, lines, _) = Gate::new("nothing", &[], ALL_REFUSED, "no closing line").run();
     assert!(!passed);
     assert!(!lines.contains(&CLOSING.to_string()));
+}
+
+#[test]
+fn an_edit_that_was_not_tried_fails_the_gate() {
+    for edits in ["64 refused, 2 bad", "64 refused, 1 of them only by a limit, 2 bad"] {
+        let (passed, lines, called) = Gate::new("edits", &[], &format!("must-fail edits: {edits}"), CLOSING).run();
+        assert!(!passed, "{edits}");
+        assert_eq!(lines.last().expect("a line"), "5 passed, 2 failed");
+        assert!(!lines.contains(&CLOSING.to_string()), "{lines:?}");
+        assert!(!called.contains(&"cargo test".to_string()));
+    }
+    for edits in ["66 refused", "66 refused, 1 of them only by a limit"] {
+        let (passed, lines, _) = Gate::new("tried", &[], &format!("must-fail edits: {edits}"), CLOSING).run();
+        assert!(passed, "{edits}");
+        assert_eq!(lines.last().expect("a line"), CLOSING);
+    }
 }
