@@ -4,7 +4,7 @@
  *
  * The exit status is 0 where the new order is accepted, 1 where it is refused, 2 where the ticket can't be read.
  *
- *   cc -Iinclude c/judge.c target/staticlib/libhurkeztor.a -o judge
+ *   cc -Iinclude c/judge.c crates/hurkeztor/out/libhurkeztor.a -o judge
  */
 #include "hurkeztor.h"
 
