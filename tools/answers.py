@@ -458,6 +458,42 @@ def used(uses, text):
     return out
 
 
+def cycle(crate, folder, text, info, given, everything):
+    """a proof of functions that call themselves or one another: each answer takes the value of the measure first"""
+    function = os.path.basename(folder)
+    keys = [k for k in info if k.startswith(f"Rattle-{crate}-proofs.{function}.Lts-")]
+    several = len(keys) > 1
+    said, invariants, answers, uses = [], [], [], []
+    header, uses, _ = items(text)
+    uses = [u for u in uses if not re.search(r"(Statement|Tie|Lts|Kinds|PlainCycle)\b|\.\{statement\}|proofs\.\S+\.Reads as ", u)]
+    for key in keys:
+        own = key.split(".Lts-")[1]
+        dashed = own.replace("_", "-")
+        flat = re.sub(rf"(?m)^({re.escape(dashed)}-[^\n]*(?:\n    [^\n]*)*)", lambda m: m.group(1), text)
+        # the head of each need on one line
+        flat = re.sub(rf"(?m)^{dashed}-({NAME}) : \(t : ℕ\) →\s*{dashed}-lts\.Need-({NAME})(?:[^\n]*\n(?:    [^\n]*\n)*)", r"\1 : tie.Need-\2\n", flat)
+        flat = re.sub(rf"(?m)^{dashed}-({NAME}) t (\w+(?: \w+)*) =", r"\1 \2 =", flat)
+        flat = re.sub(rf"(?m)^abbrev {dashed}-Inv-({NAME}) : [^\n]*\n{dashed}-Inv-{NAME} ", r"abbrev invariant-\1 : tie.invariant-\1\ninvariant-\1 ", flat)
+        flat = re.sub(rf"(?m)^abbrev {dashed}-μ-({NAME}) : [^\n]*\n{dashed}-μ-{NAME} ", r"abbrev decreases-\1 : tie.decreases-\1\ndecreases-\1 ", flat)
+        measure = re.search(rf"(?m)^abbrev μ-{dashed} : [^\n]*\nμ-{dashed} κs a = a((?:\.1)*)\.0$", flat)
+        parameters_of = given.get(own, [])
+        kept = "\n\n".join(b for b in re.split(r"\n\s*\n", flat) if re.match(rf"(?:unfolding [^\n]*\n)?(abbrev (invariant|decreases)-|{NAME} : tie\.Need-)", b))
+        turner = Turner(info[key], folder, parameters_of)
+        _, _, inv, ans, _ = turner.turn(kept)
+        of = f"{own}-" if several else ""
+        if measure:
+            name = parameters_of[measure.group(1).count("1")]
+            invariants.append(f"abbrev pub decreases-{own} : goal.decreases-{own}\ndecreases-{own} l = l.{name}")
+        for i in inv:
+            invariants.append(re.sub(rf"(goal\.|^|pub )(invariant|decreases)-(?=loop)", lambda m: m.group(0) if not several else m.group(1) + f"{m.group(2)}-", i))
+        for a in ans:
+            name = re.search(rf"pub ({NAME}) : goal", a).group(1)
+            a = re.sub(r"let \w+ = c\.requires\.0\s+in\s+", "", a).replace("c.requires.1", "c.requires")
+            answers.append(re.sub(rf"(?m)^{re.escape(name)} (\w+) =", rf"{name} t \1 =", a))
+        said += [f"{own}: {s}" for s in turner.said]
+    return header, uses, invariants, answers, said
+
+
 def main(crates):
     for crate in crates:
         info = names_of(crate)
@@ -471,6 +507,17 @@ def main(crates):
             key = f"Rattle-{crate}-proofs.{function}.Lts"
             with open(path) as f:
                 text = f.read()
+            if "/+" in path:
+                header, uses, invariants, answers, said = cycle(crate, folder, text, info, given, names_of)
+                module = f"Rattle.{crate}.proofs.{function}"
+                for name, parts, goal in (("Invariants", invariants, "Given"), ("Answers", answers, "Goals")):
+                    body = "\n\n".join(parts)
+                    with open(os.path.join(folder, name + ".antt"), "w") as f:
+                        f.write("\n".join((header if name == "Invariants" else []) + used(uses, body) + [f"use {module}.{goal} as goal", "", body]) + "\n")
+                os.remove(path)
+                for s in said:
+                    print(f"{path}: {s}")
+                continue
             if key not in info or "Tie as tie" not in text:
                 print(f"{path}: left, {'no names' if key not in info else 'not over Tie'}")
                 continue
