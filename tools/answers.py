@@ -303,9 +303,9 @@ class Turner:
                 places = self.variables_of(old, variables)
                 if len(args) != len(places):
                     self.said.append(f"{len(args)} variables for {len(places)}: {args} {places}")
-                for a, to in zip(args, places):
-                    if a != "_":
-                        right = re.sub(rf"(?<![\w.'′₀-₉-]){re.escape(a)}(?![\w'′₀-₉-])", to, right)
+                to = {a: p for a, p in zip(args, places) if a != "_"}
+                either = "|".join(re.escape(a) for a in sorted(to, key=len, reverse=True))
+                right = re.sub(rf"(?<![\w.'′₀-₉-])({either})(?![\w'′₀-₉-])", lambda k: to[k.group(1)], right)
                 invariants.append("\n".join(comment + [f"abbrev pub {kind}-{new} : goal.{kind}-{new}", f"{kind}-{new} l ={right}"]))
                 continue
             if re.match(rf"(pub )?{NAME} : \{{M : Type 1\}} → statement M", text):
@@ -485,11 +485,14 @@ def cycle(crate, folder, text, info, given, everything):
             name = parameters_of[measure.group(1).count("1")]
             invariants.append(f"abbrev pub decreases-{own} : goal.decreases-{own}\ndecreases-{own} l = l.{name}")
         for i in inv:
-            invariants.append(re.sub(rf"(goal\.|^|pub )(invariant|decreases)-(?=loop)", lambda m: m.group(0) if not several else m.group(1) + f"{m.group(2)}-", i))
+            invariants.append(re.sub(r"(?<![\w-])(invariant|decreases)-(?=loop)", rf"\1-{own}-", i) if several else i)
         for a in ans:
             name = re.search(rf"pub ({NAME}) : goal", a).group(1)
             a = re.sub(r"let \w+ = c\.requires\.0\s+in\s+", "", a).replace("c.requires.1", "c.requires")
-            answers.append(re.sub(rf"(?m)^{re.escape(name)} (\w+) =", rf"{name} t \1 =", a))
+            a = re.sub(rf"(?m)^{re.escape(name)} (\w+) =", rf"{name} t \1 =", a)
+            if several:
+                a = re.sub(rf"(?<![\w-]){re.escape(name)}(?= t | :|\n)", f"{own}-{name}", a).replace(f"goal.{name}", f"goal.{own}-{name}").replace(f"goal.{own}-{own}-", f"goal.{own}-")
+            answers.append(a)
         said += [f"{own}: {s}" for s in turner.said]
     return header, uses, invariants, answers, said
 
