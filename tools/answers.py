@@ -78,7 +78,7 @@ def parameters(crate):
 class Turner:
     def __init__(self, info, folder, given):
         self.info, self.folder, self.said, self.given = info, folder, [], given
-        self.inlined = []
+        self.inlined, self.above = [], []
         self.asked = {a.replace("_", "-"): b for a, b in info["asked_at"]}
         self.goal = {norm(a): b for a, b in info["needs"]}
         self.step, self.callee = {}, {}
@@ -119,6 +119,9 @@ class Turner:
     def body(self, text):
         aliases = {}
         prefixes = {}
+        for name in self.above:
+            text = re.sub(rf"\({name} (\w+(?:\.before)*)\)", r"\1", text)
+            text = re.sub(rf"(?<![\w.'′-]){name} (\w+(?:\.before)*)", r"\1", text)
         # c.before.before.X -> c.X
         text = re.sub(r"(?<![\w.'])(\w+)((?:\.before)+)(?=\.[a-z])", r"\1", text)
         text = re.sub(r"let (\w+) = (\w+)((?:\.before)+)(\s+)in\b", r"let \1 = \2\4in", text)
@@ -225,7 +228,7 @@ class Turner:
             var, own = None, [text]
         made = []
         for o in own:
-            head = re.match(rf"((?:--[^\n]*\n)*)({NAME}) : ", o)
+            head = re.match(rf"((?:--[^\n]*\n)*(?:abbrev )?)({NAME}) : ", o)
             if not head:
                 return False
             name = head.group(2)
@@ -241,12 +244,12 @@ class Turner:
                     return False
                 context, kind = m.group(1), kind[m.end():]
                 if args[0] != context:
-                    body = re.sub(rf"(?<![\w.'′]){args[0]}(?![\w'′-])", context, body)
+                    body = re.sub(rf"(?<![\w.'′-]){args[0]}(?![\w'′-])", context, body)
                 args = args[1:]
             self.contexts = {context}
             kind, body = self.body(kind), self.body(body)
             if context != "c":
-                kind, body = (re.sub(rf"(?<![\w.'′]){context}(?![\w'′-])", "c", x) for x in (kind, body))
+                kind, body = (re.sub(rf"(?<![\w.'′-]){context}(?![\w'′-])", "c", x) for x in (kind, body))
             made.append((name, kind, args, body))
         self.inlined += made
         return True
@@ -333,7 +336,13 @@ class Turner:
                 right = self.with_lets(right)
                 answers.append("\n".join(comment + [f"pub {new} : goal.{new}"]) + "\n" + unfolding + f"{new} {var} ={right}")
                 continue
+            # a place above another, of which nothing is left to say
+            m = re.match(rf"abbrev ({NAME}) : tie\.{NAME}(?: (?:invariant|decreases)-{NAME})*\s*→\s*tie\.{NAME}(?: (?:invariant|decreases)-{NAME})*\n{NAME} (\w+) = \2(?:\.before)*\s*$", text)
+            if m:
+                self.above.append(m.group(1))
+                continue
             # a helper, perhaps over a place
+            text = re.sub(rf"^((?:abbrev )?{NAME} : )(tie\.{NAME}(?: (?:invariant|decreases)-{NAME})*)(?=\s*→)", r"\1(c : \2)", text)
             self.contexts = set(re.findall(r"\((\w+) : tie\.", text))
             places = re.findall(rf"\(\w+ : tie\.({NAME})", text)
             def at(k):
@@ -429,7 +438,7 @@ def without_aliases(text, contexts):
         if var in contexts and base in contexts and len(re.findall(rf"let {var} =", text)) == 1 and not re.search(rf"λ[^.]*\b{var}\b", text):
             within = rf"\s*\bin\s+let {var} = {base}(?=\s+in\b)"
             text = re.sub(within, "", text) if re.search(within, text) else re.sub(rf"let {var} = {base}\s+in\s+", "", text)
-            text = re.sub(rf"(?<![\w.'′]){var}(?![\w'′-])", base, text)
+            text = re.sub(rf"(?<![\w.'′-]){var}(?![\w'′-])", base, text)
 
 
 def norm2(name):
