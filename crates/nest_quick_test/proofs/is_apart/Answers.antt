@@ -9,7 +9,7 @@ pub returns-then-array-accessed : goal.returns-then-array-accessed
 returns-then-array-accessed c = apart-arrays _ _ _ c.requires c.if-array-accessed.true
 
 pub returns-then-some_empty : goal.returns-then-some_empty
-returns-then-some_empty c = let p = c.requires in let r = c.ranges-2
+returns-then-some_empty c = let p = c.requires in let r = c.ranges-r
     in let t = c.some_empty in
     apart-empty _ _ _ p c.if-array-accessed.false r.result r.ensures t.result t.ensures c.if-some_empty.true
 
@@ -27,11 +27,11 @@ slice_bounds-some_apart-end c = let p = c.requires in
     sym (words_count _ p.flat-nest)
 
 pub some_apart-requires : goal.some_apart-requires
-some_apart-requires c = let r = c.ranges-2 in
+some_apart-requires c = let r = c.ranges-r in
     forms-in _ _ _ c.requires r.result r.ensures.held
 
 pub returns : goal.returns
 returns c = let p = c.requires
-    in let r = c.ranges-2 in let t = c.some_empty in
+    in let r = c.ranges-r in let t = c.some_empty in
     apart-forms _ _ _ p c.if-array-accessed.false r.result r.ensures
     t.result t.ensures c.if-some_empty.false c.some_apart.result c.some_apart.ensures
