@@ -119,16 +119,22 @@ class Turner:
     def body(self, text):
         aliases = {}
         prefixes = {}
+        given_to = set()
+        text = text.replace(".well-formed", ".well_formed")
         for name in self.above:
             text = re.sub(rf"\({name} (\w+(?:\.before)*)\)", r"\1", text)
             text = re.sub(rf"(?<![\w.'′-]){name} (\w+(?:\.before)*)", r"\1", text)
         # c.before.before.X -> c.X
-        text = re.sub(r"(?<![\w.'])(\w+)((?:\.before)+)(?=\.[a-z])", r"\1", text)
+        text = re.sub(r"(?<![\w.'])(\w+)((?:\.before)+)(?=\.[A-Za-z])", r"\1", text)
         text = re.sub(r"let (\w+) = (\w+)((?:\.before)+)(\s+)in\b", r"let \1 = \2\4in", text)
 
         def fields(m):
             var, rest = m.group(1), m.group(2)
             parts = rest.split(".")[1:]
+            if var in given_to and re.fullmatch(r"t\d+", parts[0]) and int(parts[0][1:]) <= len(self.given):
+                return ".".join([var, self.given[int(parts[0][1:]) - 1]] + parts[1:])
+            if var in self.contexts and parts[:2] == ["match", "rest"]:
+                return ".".join([var, "in_default", "in_default-own"] + parts[1:])
             if var in prefixes:
                 base, step, front = prefixes[var]
                 new = self.matched(step, front + parts)
@@ -144,7 +150,7 @@ class Turner:
                     return var + "." + ".".join(new)
                 step = self.step_name(parts[0])
                 if step is None:
-                    if parts[0] not in ("args", "requires", "pre", "ranges", "auto", "type-inv", "type_inv", "utf8"):
+                    if parts[0] not in ("args", "requires", "pre", "ranges", "auto", "type-inv", "type_inv", "utf8", "well_formed", "before"):
                         self.said.append(f"step {parts[0]}")
                     if parts[0] == "pre":
                         parts[0] = "requires"
@@ -189,6 +195,10 @@ class Turner:
                 prefixes[var] = (base, norm2(parts[0]), parts[1:])
                 aliases.pop(var, None)
                 result.append("\0")
+            elif base in self.contexts and rest in (".args", ".ranges"):
+                given_to.add(var)
+                aliases.pop(var, None)
+                result.append(m.group(0))
             elif base in self.contexts and rest.count(".") == 1 and self.step_name(rest[1:]):
                 aliases[var] = self.step_name(rest[1:])
                 result.append(f"let {var} = {base}.{aliases[var]} in")
