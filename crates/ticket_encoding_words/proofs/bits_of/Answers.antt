@@ -14,8 +14,7 @@ use Rattle.integers.proofs.RangeLaws.{test-lt, test-lt-no}
 use Rattle.model.specs.Words.{bits}
 use Rattle.model.specs.Ranges.{Small}
 use Rattle.ticket_encoding_words.proofs.WritingLaws.{small-fits}
-use Rattle.ticket_encoding_words.proofs.bits_of.Statement.{statement}
-use Rattle.ticket_encoding_words.proofs.bits_of.Tie as tie
+use Rattle.ticket_encoding_words.proofs.bits_of.Goals as goal
 
 bits_below : (w : ℤ) → Small w → bits w < 65536
 unfolding bits
@@ -57,20 +56,17 @@ module _ (w : ℤ) (h : Small w) where
   upper : pos 0 ≤ℤ to_z w32 (of_z w32 w) → to_z w32 (of_z w32 w) ≡ pos (bits w)
   upper l = same ∙ up w h (subst (λ z. pos 0 ≤ℤ z) same l)
 
-add-result : tie.Need-overflow-add-result
-add-result c = lower-fits c.before.args.w c.before.requires (test-lt c.if1.true)
+pub overflow_add-result : goal.overflow_add-result
+overflow_add-result c = lower-fits c.args.w c.requires (test-lt c.if-w-lt0.true)
 
-cast-result : tie.Need-overflow-cast-result
-cast-result c = cast c.before.args.w c.before.requires _ (lower-read c.before.args.w c.before.requires (test-lt c.if1.true))
+pub overflow_cast-result : goal.overflow_cast-result
+overflow_cast-result c = cast c.args.w c.requires _ (lower-read c.args.w c.requires (test-lt c.if-w-lt0.true))
 
-cast-result-2 : tie.Need-overflow-cast-result-2
-cast-result-2 c = cast c.before.args.w c.before.requires _ (upper c.before.args.w c.before.requires (test-lt-no c.if1.false))
+pub overflow_cast-result-else-w-lt0 : goal.overflow_cast-result-else-w-lt0
+overflow_cast-result-else-w-lt0 c = cast c.args.w c.requires _ (upper c.args.w c.requires (test-lt-no c.if-w-lt0.false))
 
-returns : tie.Need-returns
-returns c = result c.before.args.w c.before.requires _ (lower-read c.before.args.w c.before.requires (test-lt c.if1.true))
+pub returns-then-w-lt0 : goal.returns-then-w-lt0
+returns-then-w-lt0 c = result c.args.w c.requires _ (lower-read c.args.w c.requires (test-lt c.if-w-lt0.true))
 
-returns-2 : tie.Need-returns-2
-returns-2 c = result c.before.args.w c.before.requires _ (upper c.before.args.w c.before.requires (test-lt-no c.if1.false))
-
-pub bits-of-spec : {M : Type 1} → statement M
-bits-of-spec = tie.close (tie.spec add-result cast-result cast-result-2 returns returns-2)
+pub returns-else-w-lt0 : goal.returns-else-w-lt0
+returns-else-w-lt0 c = result c.args.w c.requires _ (upper c.args.w c.requires (test-lt-no c.if-w-lt0.false))
