@@ -7,17 +7,12 @@ use lib.IntN.{pos}
 use Rattle.integers.specs.Sign.{eq_z}
 use Rattle.model.specs.Answer.{accepted, refused}
 use borrow.Author.Tests.{eq-eqb, ne_eqb}
-use borrow.Author.Rules.{rules}
 use Rattle.model.specs.Grammar.{between, loop_number}
 use Rattle.ticket_steps.specs.Steps.{other_loop}
 use Rattle.ticket_words.specs.Words.{natural_answer, OnNatural}
 use Rattle.ticket_words.proofs.ReaderLaws.{seen, known_of}
 use Rattle.ticket_steps.proofs.OtherLaws.{further-no, further_same, further-fine, between-whole}
-use Rattle.ticket_steps.proofs.read_other_loop.Statement.{statement}
-use Rattle.ticket_steps.proofs.read_other_loop.Tie as tie
-
-read-loop-number-requires : tie.Need-read-loop-number-requires
-read-loop-number-requires c κs = search rules
+use Rattle.ticket_steps.proofs.read_other_loop.Goals as goal
 
 -- over plain variables
 module _ (step m a : ℕ) (b : List ℕ) (k : ℕ) where
@@ -31,30 +26,19 @@ module _ (step m a : ℕ) (b : List ℕ) (k : ℕ) where
     another : (v ≡ a → ⊥) → loop_number step (other_loop m a) b k ≡ accepted (record { value = v; next = k + 1 })
     another h = further-fine step (between (pos 1) (pos m)) (λ w. not (eq_z w (pos a))) (between-whole m) b k v (k + 1) e (ap not (ne_eqb v a h))
 
-enum-known-v : tie.Need-enum-known-v
-enum-known-v c = search rules
+pub returns-then-v-a : goal.returns-then-v-a
+returns-then-v-a c =
+    let e = seen (natural_answer _) c.in-Value.is c.read_loop_number.ensures.same in
+    (record { same = sym (itself _ _ _ _ _ _ e c.if-v-a.true); known = tt }, tt)
 
-returns : tie.Need-returns
-returns c =
-    let e = seen (natural_answer _) c.before.before.v.given.1 c.before.before.before.before.read-loop-number.ensures.same in
-    (record { same = sym (itself _ _ _ _ _ _ e c.if1.true); known = tt }, tt)
-
-enum-known-r : tie.Need-enum-known-r
-enum-known-r c = search rules
-
-returns-2 : tie.Need-returns-2
-returns-2 c =
-    let e = seen (natural_answer _) c.before.before.v.given.1 c.before.before.before.before.read-loop-number.ensures.same in
-    let k = known_of (OnNatural _ _ _ _) c.before.before.v.given.1 c.before.before.before.before.read-loop-number.ensures.known in
-    let n = c.if1.false in
+pub returns-else-v-a : goal.returns-else-v-a
+returns-else-v-a c =
+    let e = seen (natural_answer _) c.in-Value.is c.read_loop_number.ensures.same in
+    let k = known_of (OnNatural _ _ _ _) c.in-Value.is c.read_loop_number.ensures.known in
+    let n = c.if-v-a.false in
     (record { same = sym (another _ _ _ _ _ _ e n); known = k }, n)
 
-returns-3 : tie.Need-returns-3
-returns-3 c =
-    let e = seen (natural_answer _) c.before.r.given.1 c.before.before.before.read-loop-number.ensures.same in
+pub returns-in-Refused : goal.returns-in-Refused
+returns-in-Refused c =
+    let e = seen (natural_answer _) c.in-Refused.is c.read_loop_number.ensures.same in
     (record { same = sym (refused-too _ _ _ _ _ _ _ e); known = tt }, tt)
-
-pub read-other-loop-spec : {M : Type 1} → statement M
-read-other-loop-spec =
-    tie.close
-    (tie.spec read-loop-number-requires enum-known-v returns enum-known-r returns-2 returns-3)
