@@ -1,4 +1,3 @@
-use mathlib.Core.List.{[], ◌∷◌}
 use Prim.Native.Nat.{◌≤◌}
 use native.Mathlib.Omega.{arith}
 use lib.IntN.{ℤ, ◌+ℤ◌, ◌*ℤ◌}
@@ -8,8 +7,7 @@ use borrow.Author.Rules.{rules}
 use Rattle.integers.specs.Difference.{size}
 use Rattle.integers.proofs.RangeLaws.{size-add, size-mul}
 use Rattle.step_limits.proofs.NumberLaws.{size_fits}
-use Rattle.step_limits.proofs.combine.Statement.{statement}
-use Rattle.step_limits.proofs.combine.Tie as tie
+use Rattle.step_limits.proofs.combine.Goals as goal
 
 ranges : (u x v y : ℤ) → (size u ≤ 32767) × (size x ≤ 32767) × (size v ≤ 32767) × (size y ≤ 32767)
     → SFits w32 (u *ℤ x) × (SFits w32 (v *ℤ y) × SFits w32 (u *ℤ x +ℤ v *ℤ y))
@@ -24,17 +22,14 @@ ranges u x v y h =
       ),
     )
 
-mul-result : tie.Need-overflow-mul-result
-mul-result c = let r = ranges c.args.u c.args.x c.args.v c.args.y c.requires in search rules
+pub overflow_mul-result : goal.overflow_mul-result
+overflow_mul-result c = let r = ranges c.args.u c.args.x c.args.v c.args.y c.requires in search rules
 
-mul-result-2 : tie.Need-overflow-mul-result-2
-mul-result-2 c = let r = ranges c.args.u c.args.x c.args.v c.args.y c.requires in search rules
+pub overflow_mul-result-2 : goal.overflow_mul-result-2
+overflow_mul-result-2 c = let r = ranges c.args.u c.args.x c.args.v c.args.y c.requires in search rules
 
-add-result : tie.Need-overflow-add-result
-add-result c = let r = ranges c.args.u c.args.x c.args.v c.args.y c.requires in search rules
+pub overflow_add-result : goal.overflow_add-result
+overflow_add-result c = let r = ranges c.args.u c.args.x c.args.v c.args.y c.requires in search rules
 
-returns : tie.Need-returns
+pub returns : goal.returns
 returns c = let r = ranges c.args.u c.args.x c.args.v c.args.y c.requires in search rules
-
-pub combine-spec : {M : Type 1} → statement M
-combine-spec = tie.close (tie.spec mul-result mul-result-2 add-result returns)
