@@ -119,7 +119,7 @@ class Turner:
     def body(self, text):
         aliases = {}
         prefixes = {}
-        given_to = set()
+        given_to, places = set(), {}
         text = text.replace(".well-formed", ".well_formed")
         for name in self.above:
             text = re.sub(rf"\({name} (\w+(?:\.before)*)\)", r"\1", text)
@@ -131,6 +131,8 @@ class Turner:
         def fields(m):
             var, rest = m.group(1), m.group(2)
             parts = rest.split(".")[1:]
+            if var in places and re.fullmatch(r"(1\.)*0", ".".join(parts)) and rest.count("1") < len(places[var]):
+                return f"{var}.{places[var][rest.count('1')]}"
             if var in given_to and re.fullmatch(r"t\d+", parts[0]) and int(parts[0][1:]) <= len(self.given):
                 return ".".join([var, self.given[int(parts[0][1:]) - 1]] + parts[1:])
             if var in self.contexts and parts[:2] == ["match", "rest"]:
@@ -195,6 +197,10 @@ class Turner:
                 prefixes[var] = (base, norm2(parts[0]), parts[1:])
                 aliases.pop(var, None)
                 result.append("\0")
+            elif base in self.contexts and rest.count(".") == 2 and rest.endswith((".auto", ".new")) and self.step_name(rest.split(".")[1]):
+                places[var] = self.info["params"].get(self.callee.get(self.step_name(rest.split(".")[1])), [])
+                aliases.pop(var, None)
+                result.append(token.sub(fields, m.group(0)))
             elif base in self.contexts and rest in (".args", ".ranges"):
                 given_to.add(var)
                 aliases.pop(var, None)
@@ -236,7 +242,7 @@ class Turner:
             own = [re.sub(r"(?m)^  ", "", o) for o in own]
         else:
             var, own = None, [text]
-        made = []
+        made, local = [], []
         for o in own:
             head = re.match(rf"((?:--[^\n]*\n)*(?:abbrev )?)({NAME}) : ", o)
             if not head:
@@ -256,6 +262,12 @@ class Turner:
                 if args[0] != context:
                     body = re.sub(rf"(?<![\w.'′-]){args[0]}(?![\w'′-])", context, body)
                 args = args[1:]
+            if re.fullmatch(rf"tie\.{NAME}(?: (?:invariant|decreases)-{NAME})*", kind) and re.fullmatch(r"\w+(?:\.before)*", body):
+                local.append(name)
+                self.above.append(name)
+                continue
+            for other in local:
+                kind, body = (re.sub(rf"(?<![\w.'′-]){other}(?![\w'′-])", context, x) for x in (kind, body))
             self.contexts = {context}
             kind, body = self.body(kind), self.body(body)
             if context != "c":

@@ -13,30 +13,22 @@ loop-j-init c = none_written c.args.out.now c.requires c.depth_after_steps-loops
 
 pub overflow_mul-j : goal.overflow_mul-j
 overflow_mul-j c =
-    let l : tie.At-loop invariant-loop decreases-loop = c.before in
-    let s : tie.Start invariant-loop decreases-loop = l.before in
-    let reads : l.loop.j * s.args.depth + s.args.depth ≤ length s.args.points.now = read_fits s.args.out.now s.requires l.depth-after-steps.ensures l.loop.j c.loop-j-test.true in
+    let reads : c.loop-j.j * c.args.depth + c.args.depth ≤ length c.args.points.now = read_fits c.args.out.now c.requires c.depth_after_steps-loops.ensures c.loop-j.j c.loop-j-test.true in
     let h = reads in record { fits = omega arith }
 
 pub row_at-row-requires : goal.row_at-row-requires
 row_at-row-requires c =
-    let l : tie.At-loop invariant-loop decreases-loop = c.before in
-    let s : tie.Start invariant-loop decreases-loop = l.before in
-    let reads : l.loop.j * s.args.depth + s.args.depth ≤ length s.args.points.now = read_fits s.args.out.now s.requires l.depth-after-steps.ensures l.loop.j c.loop-j-test.true in
-    (reads, s.requires.stored.few)
+    let reads : c.loop-j.j * c.args.depth + c.args.depth ≤ length c.args.points.now = read_fits c.args.out.now c.requires c.depth_after_steps-loops.ensures c.loop-j.j c.loop-j-test.true in
+    (reads, c.requires.stored.few)
 
 pub overflow_mul-j-in-loop-j : goal.overflow_mul-j-in-loop-j
 overflow_mul-j-in-loop-j c =
-    let l : tie.At-loop invariant-loop decreases-loop = c.before in
-    let s : tie.Start invariant-loop decreases-loop = l.before in
-    let writes : l.loop.j * l.depth-after-steps.result + most_loops ≤ length s.args.out.now = write-fits s.args.out.now s.requires l.depth-after-steps.ensures l.loop.j c.loop-j-test.true in
+    let writes : c.loop-j.j * c.depth_after_steps-loops.result + most_loops ≤ length c.args.out.now = write-fits c.args.out.now c.requires c.depth_after_steps-loops.ensures c.loop-j.j c.loop-j-test.true in
     let h = writes in record { fits = omega arith }
 
 pub store_moved-requires : goal.store_moved-requires
 store_moved-requires c =
-    let l : tie.At-loop invariant-loop decreases-loop = c.before in
-    let s : tie.Start invariant-loop decreases-loop = l.before in
-    let writes : l.loop.j * l.depth-after-steps.result + most_loops ≤ length s.args.out.now = write-fits s.args.out.now s.requires l.depth-after-steps.ensures l.loop.j c.loop-j-test.true in
+    let writes : c.loop-j.j * c.depth_after_steps-loops.result + most_loops ≤ length c.args.out.now = write-fits c.args.out.now c.requires c.depth_after_steps-loops.ensures c.loop-j.j c.loop-j-test.true in
    
     let h = writes in
     let e = c.loop-j.invariant.room in (

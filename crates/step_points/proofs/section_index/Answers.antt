@@ -38,12 +38,10 @@ floor_div-q-requires c = let a = c.requires.2 in rw (width c.args.w c.requires.3
 
 pub take_widths-e-requires : goal.take_widths-e-requires
 take_widths-e-requires c =
-    let s : tie.Start invariant-loop decreases-loop = c.before in
-    let at_y : size (get_or s.args.row s.args.a (pos 0)) ≤ farthest = let n : length s.args.row ≡ 6 = search rules in front_at s.args.n s.args.row s.args.a (omega arith) s.requires.4 in
-    let reads_y : to_z w64 (of_z w64 (get_or s.args.row s.args.a (pos 0))) ≡ get_or s.args.row s.args.a (pos 0) = index_back _ at_y in
-    let top : tie.Start invariant-loop decreases-loop = c.before in
-    let part-is : c.floor_div-q.result ≡ floor_div (get_or top.args.row top.args.a (pos 0)) (pos top.args.w) = c.floor_div-q.ensures ∙ rw (reads_y, width top.args.w top.requires.3) in
-    let part_small : size c.floor_div-q.result ≤ farthest = let y = at_y in let f = size-floor (get_or top.args.row top.args.a (pos 0)) (pos top.args.w)
+    let at_y : size (get_or c.args.row c.args.a (pos 0)) ≤ farthest = let n : length c.args.row ≡ 6 = search rules in front_at c.args.n c.args.row c.args.a (omega arith) c.requires.4 in
+    let reads_y : to_z w64 (of_z w64 (get_or c.args.row c.args.a (pos 0))) ≡ get_or c.args.row c.args.a (pos 0) = index_back _ at_y in
+    let part-is : c.floor_div-q.result ≡ floor_div (get_or c.args.row c.args.a (pos 0)) (pos c.args.w) = c.floor_div-q.ensures ∙ rw (reads_y, width c.args.w c.requires.3) in
+    let part_small : size c.floor_div-q.result ≤ farthest = let y = at_y in let f = size-floor (get_or c.args.row c.args.a (pos 0)) (pos c.args.w)
     in rw part-is (omega arith) in
     let a = c.requires.3 in (
   rw reads_y at_y,
@@ -53,12 +51,10 @@ take_widths-e-requires c =
 
 pub returns : goal.returns
 returns c =
-    let s : tie.Start invariant-loop decreases-loop = c.before in
-    let at_y : size (get_or s.args.row s.args.a (pos 0)) ≤ farthest = let n : length s.args.row ≡ 6 = search rules in front_at s.args.n s.args.row s.args.a (omega arith) s.requires.4 in
-    let reads_y : to_z w64 (of_z w64 (get_or s.args.row s.args.a (pos 0))) ≡ get_or s.args.row s.args.a (pos 0) = index_back _ at_y in
-    let top : tie.Start invariant-loop decreases-loop = c.before in
-    let part-is : c.floor_div-q.result ≡ floor_div (get_or top.args.row top.args.a (pos 0)) (pos top.args.w) = c.floor_div-q.ensures ∙ rw (reads_y, width top.args.w top.requires.3) in
-    let part_small : size c.floor_div-q.result ≤ farthest = let y = at_y in let f = size-floor (get_or top.args.row top.args.a (pos 0)) (pos top.args.w)
+    let at_y : size (get_or c.args.row c.args.a (pos 0)) ≤ farthest = let n : length c.args.row ≡ 6 = search rules in front_at c.args.n c.args.row c.args.a (omega arith) c.requires.4 in
+    let reads_y : to_z w64 (of_z w64 (get_or c.args.row c.args.a (pos 0))) ≡ get_or c.args.row c.args.a (pos 0) = index_back _ at_y in
+    let part-is : c.floor_div-q.result ≡ floor_div (get_or c.args.row c.args.a (pos 0)) (pos c.args.w) = c.floor_div-q.ensures ∙ rw (reads_y, width c.args.w c.requires.3) in
+    let part_small : size c.floor_div-q.result ≤ farthest = let y = at_y in let f = size-floor (get_or c.args.row c.args.a (pos 0)) (pos c.args.w)
     in rw part-is (omega arith) in
     let n : length c.args.row ≡ 6 = search rules in
     let y = reads_y in

@@ -17,21 +17,19 @@ overflow_cast-factor c = factor-fits c.args.factor c.requires.2
 
 pub add_multiple-z-requires : goal.add_multiple-z-requires
 add_multiple-z-requires c =
-    let s : tie.Start = c.before in
-    let at_x : size (get_or s.args.row s.args.a (pos 0)) ≤ farthest = front_at s.args.n s.args.row s.args.a (omega arith) s.requires.3 in
-    let at_y : size (get_or s.args.row (s.args.a + 1 + s.args.d) (pos 0)) ≤ farthest = front_at s.args.n s.args.row (s.args.a + 1 + s.args.d) (omega arith) s.requires.3 in
-    let reads-x : to_z w64 (of_z w64 (get_or s.args.row s.args.a (pos 0))) ≡ get_or s.args.row s.args.a (pos 0) = index_back _ at_x in
-    let reads_y : to_z w64 (of_z w64 (get_or s.args.row (s.args.a + 1 + s.args.d) (pos 0))) ≡ get_or s.args.row (s.args.a + 1 + s.args.d) (pos 0) = index_back _ at_y in
+    let at_x : size (get_or c.args.row c.args.a (pos 0)) ≤ farthest = front_at c.args.n c.args.row c.args.a (omega arith) c.requires.3 in
+    let at_y : size (get_or c.args.row (c.args.a + 1 + c.args.d) (pos 0)) ≤ farthest = front_at c.args.n c.args.row (c.args.a + 1 + c.args.d) (omega arith) c.requires.3 in
+    let reads-x : to_z w64 (of_z w64 (get_or c.args.row c.args.a (pos 0))) ≡ get_or c.args.row c.args.a (pos 0) = index_back _ at_x in
+    let reads_y : to_z w64 (of_z w64 (get_or c.args.row (c.args.a + 1 + c.args.d) (pos 0))) ≡ get_or c.args.row (c.args.a + 1 + c.args.d) (pos 0) = index_back _ at_y in
     (rw reads_y at_y, rw (factor-back c.args.factor c.requires.2) c.requires.2, rw reads-x at_x)
 
 pub returns : goal.returns
 returns c =
-    let s : tie.Start = c.before in
-    let n : length s.args.row ≡ 6 = search rules in
-    let at_x : size (get_or s.args.row s.args.a (pos 0)) ≤ farthest = front_at s.args.n s.args.row s.args.a (omega arith) s.requires.3 in
-    let at_y : size (get_or s.args.row (s.args.a + 1 + s.args.d) (pos 0)) ≤ farthest = front_at s.args.n s.args.row (s.args.a + 1 + s.args.d) (omega arith) s.requires.3 in
-    let reads-x : to_z w64 (of_z w64 (get_or s.args.row s.args.a (pos 0))) ≡ get_or s.args.row s.args.a (pos 0) = index_back _ at_x in
-    let reads_y : to_z w64 (of_z w64 (get_or s.args.row (s.args.a + 1 + s.args.d) (pos 0))) ≡ get_or s.args.row (s.args.a + 1 + s.args.d) (pos 0) = index_back _ at_y in
+    let n : length c.args.row ≡ 6 = search rules in
+    let at_x : size (get_or c.args.row c.args.a (pos 0)) ≤ farthest = front_at c.args.n c.args.row c.args.a (omega arith) c.requires.3 in
+    let at_y : size (get_or c.args.row (c.args.a + 1 + c.args.d) (pos 0)) ≤ farthest = front_at c.args.n c.args.row (c.args.a + 1 + c.args.d) (omega arith) c.requires.3 in
+    let reads-x : to_z w64 (of_z w64 (get_or c.args.row c.args.a (pos 0))) ≡ get_or c.args.row c.args.a (pos 0) = index_back _ at_x in
+    let reads_y : to_z w64 (of_z w64 (get_or c.args.row (c.args.a + 1 + c.args.d) (pos 0))) ≡ get_or c.args.row (c.args.a + 1 + c.args.d) (pos 0) = index_back _ at_y in
     let n : length c.args.row ≡ 6 = search rules in
     let e : to_z w64 (of_z w64 c.add_multiple-z.result) ≡ c.add_multiple-z.result = search rules in
     record {
