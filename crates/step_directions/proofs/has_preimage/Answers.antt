@@ -83,7 +83,6 @@ pub returns-in-Skew : goal.returns-in-Skew
 returns-in-Skew c =
     let found : (x : Step) (r : Bool) → c.args.step ≡ x → Comes c.args.old.now (step_of x) c.args.n r
     → Comes c.args.old.now (step_of c.args.step) c.args.n r = λ x r e. subst (λ (y : Step). Comes c.args.old.now (step_of y) c.args.n r) (sym e) in
-    let f = c.struct_known-in-Skew-2-1.given in
     let z : to_z w32 (of_z w32 c.in-Skew.e.factor) ≡ c.in-Skew.e.factor = search rules in
     found (Skew c.in-Skew.e) c.skew_source.result c.in-Skew.is (λ v h. rw z at (c.skew_source.ensures v (omega arith)))
 
