@@ -78,7 +78,7 @@ def parameters(crate):
 class Turner:
     def __init__(self, info, folder, given):
         self.info, self.folder, self.said, self.given = info, folder, [], given
-        self.inlined = []
+        self.inlined, self.above = [], []
         self.asked = {a.replace("_", "-"): b for a, b in info["asked_at"]}
         self.goal = {norm(a): b for a, b in info["needs"]}
         self.step, self.callee = {}, {}
@@ -119,13 +119,25 @@ class Turner:
     def body(self, text):
         aliases = {}
         prefixes = {}
+        given_to, places = set(), {}
+        text = text.replace(".well-formed", ".well_formed").replace(".good", ".well_formed")
+        for name in self.above * 3:
+            text = re.sub(rf"\((?<![\w.'′-]){name}\s+(\w+(?:\.before)*)\)", r"\1", text)
+            text = re.sub(rf"(?<![\w.'′-]){name}\s+(?!in\b)(\w+(?:\.before)*)(?![\w'-])", r"\1", text)
         # c.before.before.X -> c.X
-        text = re.sub(r"(?<![\w.'])(\w+)((?:\.before)+)(?=\.[a-z])", r"\1", text)
+        text = re.sub(r"(?<![\w.'])(\w+)((?:\.before)+)(?=\.[A-Za-z])", r"\1", text)
         text = re.sub(r"let (\w+) = (\w+)((?:\.before)+)(\s+)in\b", r"let \1 = \2\4in", text)
+        text = re.sub(r"(?<![\w.'])(\w+)((?:\.before)+)(?![\w.'-])", r"\1", text)
 
         def fields(m):
             var, rest = m.group(1), m.group(2)
             parts = rest.split(".")[1:]
+            if var in places and re.fullmatch(r"(1\.)*0", ".".join(parts)) and rest.count("1") < len(places[var]):
+                return f"{var}.{places[var][rest.count('1')]}"
+            if var in given_to and re.fullmatch(r"t\d+", parts[0]) and int(parts[0][1:]) <= len(self.given):
+                return ".".join([var, self.given[int(parts[0][1:]) - 1]] + parts[1:])
+            if var in self.contexts and parts[:2] == ["match", "rest"]:
+                return ".".join([var, "in_default", "in_default-own"] + parts[1:])
             if var in prefixes:
                 base, step, front = prefixes[var]
                 new = self.matched(step, front + parts)
@@ -141,7 +153,7 @@ class Turner:
                     return var + "." + ".".join(new)
                 step = self.step_name(parts[0])
                 if step is None:
-                    if parts[0] not in ("args", "requires", "pre", "ranges", "auto", "type-inv", "type_inv", "utf8"):
+                    if parts[0] not in ("args", "requires", "pre", "ranges", "auto", "type-inv", "type_inv", "utf8", "well_formed", "before"):
                         self.said.append(f"step {parts[0]}")
                     if parts[0] == "pre":
                         parts[0] = "requires"
@@ -186,6 +198,14 @@ class Turner:
                 prefixes[var] = (base, norm2(parts[0]), parts[1:])
                 aliases.pop(var, None)
                 result.append("\0")
+            elif base in self.contexts and rest.count(".") == 2 and rest.endswith((".auto", ".new")) and self.step_name(rest.split(".")[1]):
+                places[var] = self.info["params"].get(self.callee.get(self.step_name(rest.split(".")[1])), [])
+                aliases.pop(var, None)
+                result.append(token.sub(fields, m.group(0)))
+            elif base in self.contexts and rest in (".args", ".ranges"):
+                given_to.add(var)
+                aliases.pop(var, None)
+                result.append(m.group(0))
             elif base in self.contexts and rest.count(".") == 1 and self.step_name(rest[1:]):
                 aliases[var] = self.step_name(rest[1:])
                 result.append(f"let {var} = {base}.{aliases[var]} in")
@@ -197,7 +217,7 @@ class Turner:
         # the `let`s that are not needed
         text = re.sub(r"\s*\bin\s+\0(?=\s+in\b)", "", text)
         text = re.sub(r"\0\s+", "", text)
-        return facts_of_tests(without_aliases(text, self.contexts))
+        return cases_of_joins(facts_of_tests(without_aliases(text, self.contexts)))
 
     def loop_of(self, old):
         """the new name of invariant-OLD"""
@@ -223,9 +243,9 @@ class Turner:
             own = [re.sub(r"(?m)^  ", "", o) for o in own]
         else:
             var, own = None, [text]
-        made = []
+        made, local = [], []
         for o in own:
-            head = re.match(rf"((?:--[^\n]*\n)*)({NAME}) : ", o)
+            head = re.match(rf"((?:--[^\n]*\n)*(?:abbrev )?)({NAME}) : ", o)
             if not head:
                 return False
             name = head.group(2)
@@ -241,12 +261,18 @@ class Turner:
                     return False
                 context, kind = m.group(1), kind[m.end():]
                 if args[0] != context:
-                    body = re.sub(rf"(?<![\w.'′]){args[0]}(?![\w'′-])", context, body)
+                    body = re.sub(rf"(?<![\w.'′-]){args[0]}(?![\w'′-])", context, body)
                 args = args[1:]
+            if re.fullmatch(rf"tie\.{NAME}(?: (?:invariant|decreases)-{NAME})*", kind) and re.fullmatch(r"\w+(?:\.before)*", body):
+                local.append(name)
+                self.above.append(name)
+                continue
+            for other in local:
+                kind, body = (re.sub(rf"(?<![\w.'′-]){other}(?![\w'′-])", context, x) for x in (kind, body))
             self.contexts = {context}
             kind, body = self.body(kind), self.body(body)
             if context != "c":
-                kind, body = (re.sub(rf"(?<![\w.'′]){context}(?![\w'′-])", "c", x) for x in (kind, body))
+                kind, body = (re.sub(rf"(?<![\w.'′-]){context}(?![\w'′-])", "c", x) for x in (kind, body))
             made.append((name, kind, args, body))
         self.inlined += made
         return True
@@ -263,8 +289,8 @@ class Turner:
 
         def applied(text):
             for name, *_ in self.inlined:
-                text = re.sub(rf"\((?<![\w.'′-]){re.escape(name)} c(?:\.before)*\)", name, text)
-                text = re.sub(rf"(?<![\w.'′-]){re.escape(name)} c(?:\.before)*(?![\w.'′-])", name, text)
+                text = re.sub(rf"\((?<![\w.'′-]){re.escape(name)}\s+c(?:\.before)*\)", name, text)
+                text = re.sub(rf"(?<![\w.'′-]){re.escape(name)}\s+c(?:\.before)*(?![\w.'′-])", name, text)
             return text
 
         uses_of(right)
@@ -303,9 +329,9 @@ class Turner:
                 places = self.variables_of(old, variables)
                 if len(args) != len(places):
                     self.said.append(f"{len(args)} variables for {len(places)}: {args} {places}")
-                for a, to in zip(args, places):
-                    if a != "_":
-                        right = re.sub(rf"(?<![\w.'′₀-₉-]){re.escape(a)}(?![\w'′₀-₉-])", to, right)
+                to = {a: p for a, p in zip(args, places) if a != "_"}
+                either = "|".join(re.escape(a) for a in sorted(to, key=len, reverse=True))
+                right = re.sub(rf"(?<![\w.'′₀-₉-])({either})(?![\w'′₀-₉-])", lambda k: to[k.group(1)], right)
                 invariants.append("\n".join(comment + [f"abbrev pub {kind}-{new} : goal.{kind}-{new}", f"{kind}-{new} l ={right}"]))
                 continue
             if re.match(rf"(pub )?{NAME} : \{{M : Type 1\}} → statement M", text):
@@ -333,7 +359,13 @@ class Turner:
                 right = self.with_lets(right)
                 answers.append("\n".join(comment + [f"pub {new} : goal.{new}"]) + "\n" + unfolding + f"{new} {var} ={right}")
                 continue
+            # a place above another, of which nothing is left to say
+            m = re.match(rf"abbrev ({NAME}) : tie\.{NAME}(?: (?:invariant|decreases)-{NAME})*\s*→\s*tie\.{NAME}(?: (?:invariant|decreases)-{NAME})*\n{NAME} (\w+) = \2(?:\.before)*\s*$", text)
+            if m:
+                self.above.append(m.group(1))
+                continue
             # a helper, perhaps over a place
+            text = re.sub(rf"^((?:abbrev )?{NAME} : )(tie\.{NAME}(?: (?:invariant|decreases)-{NAME})*)(?=\s*→)", r"\1(c : \2)", text)
             self.contexts = set(re.findall(r"\((\w+) : tie\.", text))
             places = re.findall(rf"\(\w+ : tie\.({NAME})", text)
             def at(k):
@@ -417,6 +449,38 @@ def public(words):
     return "abbrev pub " if words == "abbrev " else "pub " + words
 
 
+def cases_of_joins(text):
+    """where the branches of a test join, `elim` has a case for each"""
+    at = 0
+    while True:
+        m = re.compile(r"⊎_elim(?=\s)").search(text, at)
+        if not m:
+            return text
+        end, parts = m.end(), []
+        for _ in range(3):
+            start, end = argument(text, end)
+            parts.append(text[start:end])
+        at = m.end()
+        alias = re.fullmatch(r"(\w+)\.branch", parts[2])
+        meant = alias and re.search(rf"let {alias.group(1)} = (c\.if-[\w'+\-]+)\s+in\b", text[: m.start()])
+        step = re.fullmatch(r"c\.(if-[\w'+\-]+)\.branch", meant.group(1) + ".branch" if meant else parts[2])
+        arms = [re.match(r"\(λ (\w+)((?: \w+)*)\. ((?:.|\n)*)\)$", p) for p in parts[:2]]
+        if not step or None in arms:
+            continue
+        made = []
+        for arm, kind in zip(arms, ("then", "else")):
+            var, more, right = arm.groups()
+            right = re.sub(rf"(?<![\w.'′]){var}\.0(?=\.)", f"{var}.{step.group(1)}", right)
+            right = re.sub(rf"(?<![\w.'′]){var}\.(?=left|taken|true|false)", f"{var}.{step.group(1)}.", right)
+            right = re.sub(rf"({re.escape(step.group(1))})\.left", r"\1.false", right)
+            right = re.sub(rf"({re.escape(step.group(1))})\.taken", r"\1.true", right)
+            made.append(f"{kind}-{step.group(1)[3:]} {var} ↦ " + (f"λ{more}. " if more else "") + right)
+        turned = f"elim {parts[2]} [ {made[0]} | {made[1]} ]"
+        if not re.search(r"[(=,]\s*$|\bin\s*$", text[: m.start()]) and not text[: m.start()].strip() == "":
+            turned = f"({turned})"
+        text = text[: m.start()] + turned + text[end:]
+
+
 def without_aliases(text, contexts):
     """`let s = c in .. s.args` is `.. c.args`"""
     done = set()
@@ -429,7 +493,7 @@ def without_aliases(text, contexts):
         if var in contexts and base in contexts and len(re.findall(rf"let {var} =", text)) == 1 and not re.search(rf"λ[^.]*\b{var}\b", text):
             within = rf"\s*\bin\s+let {var} = {base}(?=\s+in\b)"
             text = re.sub(within, "", text) if re.search(within, text) else re.sub(rf"let {var} = {base}\s+in\s+", "", text)
-            text = re.sub(rf"(?<![\w.'′]){var}(?![\w'′-])", base, text)
+            text = re.sub(rf"(?<![\w.'′-]){var}(?![\w'′-])", base, text)
 
 
 def norm2(name):
@@ -458,6 +522,45 @@ def used(uses, text):
     return out
 
 
+def cycle(crate, folder, text, info, given, everything):
+    """a proof of functions that call themselves or one another: each answer takes the value of the measure first"""
+    function = os.path.basename(folder)
+    keys = [k for k in info if k.startswith(f"Rattle-{crate}-proofs.{function}.Lts-")]
+    several = len(keys) > 1
+    said, invariants, answers, uses = [], [], [], []
+    header, uses, _ = items(text)
+    uses = [u for u in uses if not re.search(r"(Statement|Tie|Lts|Kinds|PlainCycle)\b|\.\{statement\}|proofs\.\S+\.Reads as ", u)]
+    for key in keys:
+        own = key.split(".Lts-")[1]
+        dashed = own.replace("_", "-")
+        flat = re.sub(rf"(?m)^({re.escape(dashed)}-[^\n]*(?:\n    [^\n]*)*)", lambda m: m.group(1), text)
+        # the head of each need on one line
+        flat = re.sub(rf"(?m)^{dashed}-({NAME}) : \(t : ℕ\) →\s*{dashed}-lts\.Need-({NAME})(?:[^\n]*\n(?:    [^\n]*\n)*)", r"\1 : tie.Need-\2\n", flat)
+        flat = re.sub(rf"(?m)^{dashed}-({NAME}) t (\w+(?: \w+)*) =", r"\1 \2 =", flat)
+        flat = re.sub(rf"(?m)^abbrev {dashed}-Inv-({NAME}) : [^\n]*\n{dashed}-Inv-{NAME} ", r"abbrev invariant-\1 : tie.invariant-\1\ninvariant-\1 ", flat)
+        flat = re.sub(rf"(?m)^abbrev {dashed}-μ-({NAME}) : [^\n]*\n{dashed}-μ-{NAME} ", r"abbrev decreases-\1 : tie.decreases-\1\ndecreases-\1 ", flat)
+        measure = re.search(rf"(?m)^abbrev μ-{dashed} : [^\n]*\nμ-{dashed} κs a = a((?:\.1)*)\.0$", flat)
+        parameters_of = given.get(own, [])
+        kept = "\n\n".join(b for b in re.split(r"\n\s*\n", flat) if re.match(rf"(?:unfolding [^\n]*\n)?(abbrev (invariant|decreases)-|{NAME} : tie\.Need-)", b))
+        turner = Turner(info[key], folder, parameters_of)
+        _, _, inv, ans, _ = turner.turn(kept)
+        of = f"{own}-" if several else ""
+        if measure:
+            name = parameters_of[measure.group(1).count("1")]
+            invariants.append(f"abbrev pub decreases-{own} : goal.decreases-{own}\ndecreases-{own} l = l.{name}")
+        for i in inv:
+            invariants.append(re.sub(r"(?<![\w-])(invariant|decreases)-(?=loop)", rf"\1-{own}-", i) if several else i)
+        for a in ans:
+            name = re.search(rf"pub ({NAME}) : goal", a).group(1)
+            a = re.sub(r"let \w+ = c\.requires\.0\s+in\s+", "", a).replace("c.requires.1", "c.requires")
+            a = re.sub(rf"(?m)^{re.escape(name)} (\w+) =", rf"{name} t \1 =", a)
+            if several:
+                a = re.sub(rf"(?<![\w-]){re.escape(name)}(?= t | :|\n)", f"{own}-{name}", a).replace(f"goal.{name}", f"goal.{own}-{name}").replace(f"goal.{own}-{own}-", f"goal.{own}-")
+            answers.append(a)
+        said += [f"{own}: {s}" for s in turner.said]
+    return header, uses, invariants, answers, said
+
+
 def main(crates):
     for crate in crates:
         info = names_of(crate)
@@ -471,6 +574,17 @@ def main(crates):
             key = f"Rattle-{crate}-proofs.{function}.Lts"
             with open(path) as f:
                 text = f.read()
+            if "/+" in path:
+                header, uses, invariants, answers, said = cycle(crate, folder, text, info, given, names_of)
+                module = f"Rattle.{crate}.proofs.{function}"
+                for name, parts, goal in (("Invariants", invariants, "Given"), ("Answers", answers, "Goals")):
+                    body = "\n\n".join(parts)
+                    with open(os.path.join(folder, name + ".antt"), "w") as f:
+                        f.write("\n".join((header if name == "Invariants" else []) + used(uses, body) + [f"use {module}.{goal} as goal", "", body]) + "\n")
+                os.remove(path)
+                for s in said:
+                    print(f"{path}: {s}")
+                continue
             if key not in info or "Tie as tie" not in text:
                 print(f"{path}: left, {'no names' if key not in info else 'not over Tie'}")
                 continue
@@ -483,6 +597,9 @@ def main(crates):
                     f.write("\n".join(header + used(uses, body) + [f"use {module}.Given as goal", "", body]) + "\n")
             if answers:
                 body = "\n\n".join(a.strip("\n") for a in answers)
+                cases = sorted(set(re.findall(r"[\[|] ((?:then|else)-[\w'+\-]+) \w+ ↦", body)))
+                if cases:
+                    uses = uses + [f"use {module}.Goals.{{{', '.join(cases)}}}"]
                 if beside:
                     uses = uses + [f"use {module}.Invariants.{{{', '.join(beside)}}}"]
                 with open(os.path.join(folder, "Answers.antt"), "w") as f:

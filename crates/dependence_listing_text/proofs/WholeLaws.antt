@@ -1,5 +1,5 @@
 -- The whole text: its length, and that it is written; then that it is the model's listing where the marks are those of the lines that occur.
-use mathlib.Core.Path.{◌≡◌, refl, sym, ap, ap₂, ◌∙◌}
+use mathlib.Core.Path.{◌≡◌, sym, ap, ap₂, ◌∙◌}
 use mathlib.Core.Bool.{Bool, false, ◌||◌}
 use mathlib.Core.List.{List, [], ◌∷◌, ◌++◌, append_assoc, flat_map}
 use Prim.Native.Nat.{ℕ, ◌+◌, ◌*◌, ◌≤◌, ◌<◌}
@@ -9,7 +9,6 @@ use lib.IntN.{ℤ}
 use lib.ListN.{length, get_or, take, length-append}
 use lib.Seq.{length-take-le}
 use borrow.Author.Tests.{le-leb, lt-leb}
-use Rattle.lists.specs.Membership.{Mem}
 use Rattle.lists.specs.Parts.{put}
 use Rattle.lists.specs.Tests.{select}
 use Rattle.lists.proofs.PartLaws.{put-put, length-rows}
@@ -17,7 +16,7 @@ use Rattle.lists.proofs.TestLaws.{select-same-on}
 use Rattle.model.specs.Ticket.{Statement, Nest}
 use Rattle.model.specs.Points.{iterations}
 use Rattle.model.specs.Machine.{Accesses, accesses}
-use Rattle.model.specs.Directions.{Line, occurs, all_lines, lines}
+use Rattle.model.specs.Directions.{occurs, all_lines, lines}
 use Rattle.model.specs.Listing.{decimal, line_text, head_text, lines_of, listing}
 use Rattle.model.specs.Grammar.{most_statements}
 use Rattle.dependence_vectors.specs.Numbers.{place, marks_for}

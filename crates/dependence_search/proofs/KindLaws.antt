@@ -1,7 +1,6 @@
 -- A place is that of one line only; kinds by number, and the accesses that a kind speaks of.
 use mathlib.Core.Path.{◌≡◌, refl}
 use mathlib.Core.Bool.{Bool, true, false}
-use mathlib.Core.List.{[]}
 use Prim.Native.Nat.{ℕ, ◌+◌, ◌*◌, ◌<◌}
 use native.Mathlib.Omega.{arith}
 use Rattle.lists.proofs.PartLaws.{row-unique}

@@ -6,7 +6,7 @@ use mathlib.Core.List.{List, [], ◌∷◌, ◌++◌, map, append_assoc, append-
 use Prim.Native.Nat.{ℕ, zero, suc, ◌≤◌}
 use native.Mathlib.Omega.{arith}
 use native.Mathlib.Nat.{le_trans, mul-le-mul_right}
-use lib.IntN.{ℤ, pos, negsuc, nat_abs}
+use lib.IntN.{◌+ℤ◌, ℤ, pos, negsuc, nat_abs}
 use lib.Signed.{lt_z, ◌≤ℤ◌, ◌<ℤ◌, ≤ℤ_refl, <ℤ_irrefl}
 use lib.ListN.{length, take, length-map}
 use Rattle.integers.proofs.RingLaws.{zarith, ≤ℤ-trans}
@@ -51,7 +51,7 @@ unclamped-high y x h = cond_cases (λ m. m ≤ℤ cut y → cut y <ℤ pos 32767
 length-ints : (a : ℤ) (n : ℕ) → length (ints a n) ≡ n
 unfolding ints
 length-ints a zero = refl
-length-ints a (suc n) = ap suc (length-ints _ n)
+length-ints a (suc n) = ap suc (length-ints (a +ℤ pos 1) n)
 
 module _ (rs : List Range) (outer : List ℤ) (inn : InRanges rs outer) (L : Loop) (r : Runs L) (u : Unclamped (range_of rs L)) where
   index_in : (x : ℤ) → InLimits L outer x → Contains (range_of rs L) x

@@ -6,7 +6,7 @@ use Rattle.model.specs.Ticket.{Loop}
 use Rattle.model.specs.Limits.{on_limits}
 use Rattle.model.specs.Judge.{small_loop}
 use Rattle.model.specs.Grammar.{most_loops, most_sides, nest_room}
-use Rattle.nest_flat.specs.Flat.{loop_at, loops_from, Positive}
+use Rattle.nest_flat.specs.Flat.{loop_at, loops_from}
 use Rattle.step_limits.specs.Change.{change_of, outer_after, Allowed}
 use Rattle.step_changes.specs.Sides.{Beside}
 use Rattle.step_limits.specs.declared.Change.{Change}

@@ -1,10 +1,10 @@
 -- A set of marks that stands for vectors stands after a step for what the step makes of them.
-use mathlib.Core.List.{List, []}
+use mathlib.Core.List.{List}
 use Rattle.integers.specs.Sign.{Sign}
 use Rattle.lists.specs.Membership.{SameMembers}
 use Rattle.lists.proofs.MembershipLaws.{members-trans}
 use Rattle.model.specs.Ticket.{Step}
-use Rattle.model.specs.Steps.{vectors, vectors_after}
+use Rattle.model.specs.Steps.{vectors_after}
 use Rattle.step_directions.specs.Sets.{vectors_of, After}
 use Rattle.step_directions.specs.declared.DirectionSet.{DirectionSet}
 use Rattle.model.proofs.Verdict.SameVectorsLaws.{vectors_after-same}

@@ -1,7 +1,6 @@
 -- Every sign is among the three.
 use mathlib.Core.Path.{refl}
 use mathlib.Core.List.Memᴰ
-use mathlib.Core.List.{[]}
 use Rattle.integers.specs.Sign.{Sign, less, equal, greater}
 use Rattle.lists.specs.Membership.{Mem}
 use Rattle.model.specs.Steps.{any_sign}

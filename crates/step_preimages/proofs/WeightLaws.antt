@@ -97,18 +97,6 @@ fits-at n (suc (suc (suc (suc (suc (suc i)))))) h = absurd (omega arith)
 pub change-fits : (n w most : ℕ) → most ≤ 5 → ChangeIn n w most → Fits n w
 change-fits n w most m h = let l = h.outermost in subst (Fits n) (sym h.weighs) (fits-at n h.inside (omega arith))
 
--- the last place that a match leaves
-pub fifth : (a : ℕ) → a ≤ 4 → (a ≡ 0 → ⊥) → (a ≡ 1 → ⊥) → (a ≡ 2 → ⊥) → (a ≡ 3 → ⊥) → a ≡ 4
-fifth zero h p q r s = absurd (p refl)
-fifth (suc zero) h p q r s = absurd (q refl)
-fifth (suc (suc zero)) h p q r s = absurd (r refl)
-fifth (suc (suc (suc zero))) h p q r s = absurd (s refl)
-fifth (suc (suc (suc (suc a)))) h p q r s = omega arith
-
-pub sixth : (a : ℕ) → a ≤ 5 → (a ≡ 0 → ⊥) → (a ≡ 1 → ⊥) → (a ≡ 2 → ⊥) → (a ≡ 3 → ⊥) → (a ≡ 4 → ⊥) → a ≡ 5
-sixth zero h p q r s t = absurd (p refl)
-sixth (suc a) h p q r s t = ap suc (fifth a (omega arith) (λ e. q (ap suc e)) (λ e. r (ap suc e)) (λ e. s (ap suc e)) (λ e. t (ap suc e)))
-
 -- ---- six digits
 
 abbrev six : ℕ → ℕ → ℕ → ℕ → ℕ → ℕ → ℕ

@@ -10,7 +10,6 @@ use Rattle.model.specs.Grammar.{natural, number, times, limit, subscript, done}
 use Rattle.ticket_refusals.specs.Refusals.{first_of}
 use Rattle.ticket_words.specs.Reads.{answer}
 use Rattle.ticket_refusals.specs.declared.Status.{Status}
-use Rattle.ticket_refusals.specs.declared.Status.TheVariants as Status
 use Rattle.ticket_words.proofs.ReaderLaws.{after-value, after-refusal, both_read, made-twice}
 use Rattle.ticket_loops.specs.LoopReads.{affine_of, limit_of}
 use Rattle.ticket_loops.specs.declared.Affine.{Affine}

@@ -10,16 +10,13 @@ use Rattle.ticket_refusals.specs.Refusals.{refusal}
 use Rattle.ticket_words.specs.Reads.{Reached, Reads}
 use Rattle.ticket_words.specs.Words.{number_answer}
 use Rattle.ticket_words.specs.declared.Natural.{Natural}
-use Rattle.ticket_words.specs.declared.Natural.TheVariants as Natural
 use Rattle.ticket_words.specs.declared.Number.{Number}
-use Rattle.ticket_words.specs.declared.Number.TheVariants as Number
 use Rattle.step_kinds.specs.Kinds.{step_of}
 use Rattle.step_kinds.specs.declared.Step.{Step}
 use Rattle.ticket_steps.specs.declared.Numbered.{Numbered}
 use Rattle.ticket_steps.specs.declared.Steps.{Steps}
 use Rattle.ticket_steps.specs.declared.StepsRead.{StepsRead}
 use Rattle.ticket_steps.specs.declared.StepRead.{StepRead}
-use Rattle.ticket_steps.specs.declared.StepRead.TheVariants as StepRead
 
 -- ---- one step, of three words after its kind
 

@@ -1,0 +1,11 @@
+-- `leaves_extent`: below 0, or not below the extent.
+use Rattle.nest_elements.proofs.SubscriptLaws.{off-below, off-above}
+use Rattle.nest_elements.proofs.leaves_extent.Goals as goal
+
+pub returns-then-x-lt0 : goal.returns-then-x-lt0
+returns-then-x-lt0 c = let x = c.form_value-x in off-below c.args.extent x.result _ c.requires.1 x.ensures.0
+    x.ensures.1 c.if-x-lt0.true
+
+pub returns : goal.returns
+returns c = let x = c.form_value-x in off-above c.args.extent x.result _ c.requires.1 x.ensures.0
+    x.ensures.1 c.if-x-lt0.false

@@ -1,0 +1,11 @@
+-- `gather_partners`. The loop's invariant: the chains have come to y, which conflicts with x, and the partners before y are written.
+use Prim.Native.Nat.{◌-◌}
+use Rattle.pair_partners.proofs.PartnerLaws.{Finding}
+use Rattle.pair_partners.proofs.gather_partners.Given as goal
+
+abbrev pub invariant-loop-y : goal.invariant-loop-y
+invariant-loop-y l =
+    Finding l.numbers l.writes l.count l.accesses l.x l.depth l.rows l.initial.out l.out l.initial.chains l.chains l.found l.y
+
+abbrev pub decreases-loop-y : goal.decreases-loop-y
+decreases-loop-y l = l.count - l.y

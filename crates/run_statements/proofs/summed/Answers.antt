@@ -1,0 +1,41 @@
+use Rattle.std.proofs.Common.{◌≡◌, ℕ, ◌+◌, ◌-◌, ◌%◌, ◌^◌, ap, ◌∙◌, arith}
+use Rattle.model.specs.Store.{sum}
+use Rattle.run_statements.specs.Flat.{fetched}
+use Rattle.run_statements.proofs.RuleLaws.{one-read, sum-none, sum-next}
+use Rattle.run_statements.proofs.summed.Goals as goal
+
+pub loop-i-init : goal.loop-i-init
+loop-i-init c = (
+  omega arith,
+  sum-none c.args.numbers.now c.args.count c.args.x c.args.store.now
+      c.args.k c.args.constant c.ranges.constant.fits,
+)
+
+pub overflow_add-k : goal.overflow_add-k
+overflow_add-k c = let f = c.requires.few in let t = c.loop-i-test.true in omega arith
+
+pub read_word-requires : goal.read_word-requires
+read_word-requires c = one-read c.requires c.loop-i.i c.loop-i-test.true
+
+pub wrapping_add_u32-r-requires : goal.wrapping_add_u32-r-requires
+wrapping_add_u32-r-requires c = tt
+
+pub overflow_add-i : goal.overflow_add-i
+overflow_add-i c = let f = c.requires.few in let t = c.loop-i-test.true in omega
+    arith
+
+pub loop-i-smaller : goal.loop-i-smaller
+loop-i-smaller c = let t = c.loop-i-test.true in omega arith
+
+pub loop-i-preserved : goal.loop-i-preserved
+loop-i-preserved c = let l = c.loop-i in let t = c.loop-i-test.true in (
+      omega arith,
+      sum-next c.args.numbers.now c.args.count c.args.x
+          c.args.store.now c.args.k c.args.constant l.i l.r c.read_word.result c.wrapping_add_u32-r.result l.invariant.1
+          c.read_word.ensures c.wrapping_add_u32-r.ensures.value,
+    )
+
+pub returns : goal.returns
+returns c = let l = c.loop-i in let e : l.i ≡ c.args.n = omega
+    (arith, l.invariant.0, c.loop-i-test.false) in l.invariant.1 ∙ ap (λ (j : ℕ). (c.args.constant + sum
+    (fetched c.args.numbers.now c.args.count c.args.x c.args.store.now c.args.k j)) % 2 ^ 32) e

@@ -1,0 +1,58 @@
+use mathlib.Core.Path.{◌∙◌}
+use native.Mathlib.Omega.{arith}
+use Rattle.step_changes.proofs.SideLaws.{side-begins, next-there, next-room, next_small, side-stops, side-goes-on, side-ends}
+use Rattle.step_changes.proofs.change_side.Goals as goal
+
+pub loop-i-init : goal.loop-i-init
+loop-i-init c = let a = c.args in side-begins a.change a.words.now a.from a.n a.to a.m a.count c.requires
+
+pub overflow_add-from : goal.overflow_add-from
+overflow_add-from c = let p = c.requires.reads in let l = c.loop-i.invariant.room in omega arith
+
+pub limit_at-l-requires : goal.limit_at-l-requires
+limit_at-l-requires c = let a = c.args in let l = c.loop-i in next-there a.change
+    a.words.now a.from a.n a.to a.m a.count c.requires l.words l.i l.invariant c.loop-i-test.true
+
+pub change_limit-x-requires : goal.change_limit-x-requires
+change_limit-x-requires c = let a = c.args in let l = c.loop-i in (
+  c.requires.allowed,
+  next_small a.change a.words.now a.from a.n a.to a.m a.count c.requires l.words l.i l.invariant
+      c.loop-i-test.true c.limit_at-l.result c.limit_at-l.ensures,
+)
+
+pub overflow_add-to : goal.overflow_add-to
+overflow_add-to c = let p = c.requires.writes
+    in let l = c.loop-i.invariant.room in omega arith
+
+pub put_limit-requires : goal.put_limit-requires
+put_limit-requires c = let a = c.args
+    in let l = c.loop-i in next-room a.change a.words.now a.from a.n a.to a.m a.count
+    c.requires l.words l.i l.invariant c.loop-i-test.true
+
+pub shape_of-words-then-not-put_limit : goal.shape_of-words-then-not-put_limit
+shape_of-words-then-not-put_limit c = c.put_limit.ensures.room ∙ c.loop-i.invariant.room
+
+pub returns-then-not-put_limit : goal.returns-then-not-put_limit
+returns-then-not-put_limit c = let a = c.args
+    in let l = c.loop-i in
+    side-stops a.change a.words.now a.from a.n a.to a.m a.count c.requires l.words l.i l.invariant
+    c.loop-i-test.true c.limit_at-l.result
+    c.limit_at-l.ensures c.change_limit-x.result
+    c.change_limit-x.ensures c.put_limit.result _ c.put_limit.ensures
+    c.if-not-put_limit.true
+
+pub loop-i-preserved : goal.loop-i-preserved
+loop-i-preserved c = let a = c.args
+    in let l = c.loop-i in
+    side-goes-on a.change a.words.now a.from a.n a.to a.m a.count c.requires l.words l.i l.invariant
+    c.loop-i-test.true c.limit_at-l.result
+    c.limit_at-l.ensures c.change_limit-x.result
+    c.change_limit-x.ensures c.put_limit.result _ c.put_limit.ensures
+    c.if-not-put_limit.false
+
+pub shape_of-words : goal.shape_of-words
+shape_of-words c = c.loop-i.invariant.room
+
+pub returns : goal.returns
+returns c = let a = c.args in let l = c.loop-i in side-ends a.change a.words.now a.from a.n
+    a.to a.m a.count c.requires l.words l.i l.invariant (omega arith)

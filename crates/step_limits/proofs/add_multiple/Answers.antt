@@ -1,0 +1,12 @@
+use borrow.Author.Rules.{rules}
+use Rattle.step_limits.proofs.NumberLaws.{plus-fits}
+use Rattle.step_limits.proofs.add_multiple.Goals as goal
+
+pub overflow_mul-result : goal.overflow_mul-result
+overflow_mul-result c = let r = plus-fits c.args.x c.args.c c.args.y c.requires.0 c.requires.1 c.requires.2 in search rules
+
+pub overflow_add-result : goal.overflow_add-result
+overflow_add-result c = let r = plus-fits c.args.x c.args.c c.args.y c.requires.0 c.requires.1 c.requires.2 in search rules
+
+pub returns : goal.returns
+returns c = let r = plus-fits c.args.x c.args.c c.args.y c.requires.0 c.requires.1 c.requires.2 in search rules
