@@ -119,21 +119,18 @@ class Turner:
     def body(self, text):
         aliases = {}
         prefixes = {}
-        given_to, places = set(), {}
-        text = text.replace(".well-formed", ".well_formed").replace(".good", ".well_formed")
-        for name in self.above * 3:
-            text = re.sub(rf"\((?<![\w.'′-]){name}\s+(\w+(?:\.before)*)\)", r"\1", text)
-            text = re.sub(rf"(?<![\w.'′-]){name}\s+(?!in\b)(\w+(?:\.before)*)(?![\w'-])", r"\1", text)
+        given_to = set()
+        text = text.replace(".well-formed", ".well_formed")
+        for name in self.above:
+            text = re.sub(rf"\({name} (\w+(?:\.before)*)\)", r"\1", text)
+            text = re.sub(rf"(?<![\w.'′-]){name} (\w+(?:\.before)*)", r"\1", text)
         # c.before.before.X -> c.X
         text = re.sub(r"(?<![\w.'])(\w+)((?:\.before)+)(?=\.[A-Za-z])", r"\1", text)
         text = re.sub(r"let (\w+) = (\w+)((?:\.before)+)(\s+)in\b", r"let \1 = \2\4in", text)
-        text = re.sub(r"(?<![\w.'])(\w+)((?:\.before)+)(?![\w.'-])", r"\1", text)
 
         def fields(m):
             var, rest = m.group(1), m.group(2)
             parts = rest.split(".")[1:]
-            if var in places and re.fullmatch(r"(1\.)*0", ".".join(parts)) and rest.count("1") < len(places[var]):
-                return f"{var}.{places[var][rest.count('1')]}"
             if var in given_to and re.fullmatch(r"t\d+", parts[0]) and int(parts[0][1:]) <= len(self.given):
                 return ".".join([var, self.given[int(parts[0][1:]) - 1]] + parts[1:])
             if var in self.contexts and parts[:2] == ["match", "rest"]:
@@ -198,10 +195,6 @@ class Turner:
                 prefixes[var] = (base, norm2(parts[0]), parts[1:])
                 aliases.pop(var, None)
                 result.append("\0")
-            elif base in self.contexts and rest.count(".") == 2 and rest.endswith((".auto", ".new")) and self.step_name(rest.split(".")[1]):
-                places[var] = self.info["params"].get(self.callee.get(self.step_name(rest.split(".")[1])), [])
-                aliases.pop(var, None)
-                result.append(token.sub(fields, m.group(0)))
             elif base in self.contexts and rest in (".args", ".ranges"):
                 given_to.add(var)
                 aliases.pop(var, None)
@@ -217,7 +210,7 @@ class Turner:
         # the `let`s that are not needed
         text = re.sub(r"\s*\bin\s+\0(?=\s+in\b)", "", text)
         text = re.sub(r"\0\s+", "", text)
-        return cases_of_joins(facts_of_tests(without_aliases(text, self.contexts)))
+        return facts_of_tests(without_aliases(text, self.contexts))
 
     def loop_of(self, old):
         """the new name of invariant-OLD"""
@@ -243,7 +236,7 @@ class Turner:
             own = [re.sub(r"(?m)^  ", "", o) for o in own]
         else:
             var, own = None, [text]
-        made, local = [], []
+        made = []
         for o in own:
             head = re.match(rf"((?:--[^\n]*\n)*(?:abbrev )?)({NAME}) : ", o)
             if not head:
@@ -263,12 +256,6 @@ class Turner:
                 if args[0] != context:
                     body = re.sub(rf"(?<![\w.'′-]){args[0]}(?![\w'′-])", context, body)
                 args = args[1:]
-            if re.fullmatch(rf"tie\.{NAME}(?: (?:invariant|decreases)-{NAME})*", kind) and re.fullmatch(r"\w+(?:\.before)*", body):
-                local.append(name)
-                self.above.append(name)
-                continue
-            for other in local:
-                kind, body = (re.sub(rf"(?<![\w.'′-]){other}(?![\w'′-])", context, x) for x in (kind, body))
             self.contexts = {context}
             kind, body = self.body(kind), self.body(body)
             if context != "c":
@@ -289,8 +276,8 @@ class Turner:
 
         def applied(text):
             for name, *_ in self.inlined:
-                text = re.sub(rf"\((?<![\w.'′-]){re.escape(name)}\s+c(?:\.before)*\)", name, text)
-                text = re.sub(rf"(?<![\w.'′-]){re.escape(name)}\s+c(?:\.before)*(?![\w.'′-])", name, text)
+                text = re.sub(rf"\((?<![\w.'′-]){re.escape(name)} c(?:\.before)*\)", name, text)
+                text = re.sub(rf"(?<![\w.'′-]){re.escape(name)} c(?:\.before)*(?![\w.'′-])", name, text)
             return text
 
         uses_of(right)
@@ -449,38 +436,6 @@ def public(words):
     return "abbrev pub " if words == "abbrev " else "pub " + words
 
 
-def cases_of_joins(text):
-    """where the branches of a test join, `elim` has a case for each"""
-    at = 0
-    while True:
-        m = re.compile(r"⊎_elim(?=\s)").search(text, at)
-        if not m:
-            return text
-        end, parts = m.end(), []
-        for _ in range(3):
-            start, end = argument(text, end)
-            parts.append(text[start:end])
-        at = m.end()
-        alias = re.fullmatch(r"(\w+)\.branch", parts[2])
-        meant = alias and re.search(rf"let {alias.group(1)} = (c\.if-[\w'+\-]+)\s+in\b", text[: m.start()])
-        step = re.fullmatch(r"c\.(if-[\w'+\-]+)\.branch", meant.group(1) + ".branch" if meant else parts[2])
-        arms = [re.match(r"\(λ (\w+)((?: \w+)*)\. ((?:.|\n)*)\)$", p) for p in parts[:2]]
-        if not step or None in arms:
-            continue
-        made = []
-        for arm, kind in zip(arms, ("then", "else")):
-            var, more, right = arm.groups()
-            right = re.sub(rf"(?<![\w.'′]){var}\.0(?=\.)", f"{var}.{step.group(1)}", right)
-            right = re.sub(rf"(?<![\w.'′]){var}\.(?=left|taken|true|false)", f"{var}.{step.group(1)}.", right)
-            right = re.sub(rf"({re.escape(step.group(1))})\.left", r"\1.false", right)
-            right = re.sub(rf"({re.escape(step.group(1))})\.taken", r"\1.true", right)
-            made.append(f"{kind}-{step.group(1)[3:]} {var} ↦ " + (f"λ{more}. " if more else "") + right)
-        turned = f"elim {parts[2]} [ {made[0]} | {made[1]} ]"
-        if not re.search(r"[(=,]\s*$|\bin\s*$", text[: m.start()]) and not text[: m.start()].strip() == "":
-            turned = f"({turned})"
-        text = text[: m.start()] + turned + text[end:]
-
-
 def without_aliases(text, contexts):
     """`let s = c in .. s.args` is `.. c.args`"""
     done = set()
@@ -597,9 +552,6 @@ def main(crates):
                     f.write("\n".join(header + used(uses, body) + [f"use {module}.Given as goal", "", body]) + "\n")
             if answers:
                 body = "\n\n".join(a.strip("\n") for a in answers)
-                cases = sorted(set(re.findall(r"[\[|] ((?:then|else)-[\w'+\-]+) \w+ ↦", body)))
-                if cases:
-                    uses = uses + [f"use {module}.Goals.{{{', '.join(cases)}}}"]
                 if beside:
                     uses = uses + [f"use {module}.Invariants.{{{', '.join(beside)}}}"]
                 with open(os.path.join(folder, "Answers.antt"), "w") as f:
