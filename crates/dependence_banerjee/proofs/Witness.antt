@@ -1,10 +1,10 @@
 -- Real inputs meet `CoverIn`, so that the contract of the test says something: two accesses of an array with three dimensions, in six loops.
 use mathlib.Core.Bool.{false}
 use mathlib.Core.Path.{refl}
-use Prim.Native.Nat.{ℕ, zero, suc, ◌≤◌}
+use Prim.Native.Nat.{ℕ, zero, suc}
 use native.Mathlib.Omega.{arith}
 use lib.IntN.{pos}
-use lib.ListN.{length, replicate, length-replicate}
+use lib.ListN.{replicate, length-replicate}
 use Rattle.integers.specs.Affine.{Within}
 use Rattle.model.specs.Directions.{vector_count}
 use Rattle.nest_loop_ranges.specs.Ranges.{range_as, ranges_of, NearRange}

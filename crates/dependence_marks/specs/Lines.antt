@@ -1,5 +1,5 @@
 -- The marks of a nest's lines, and the directions that they show.
-use Rattle.std.specs.Prelude.{◌≡◌, Bool, false, List, map, ℕ, ◌*◌, ◌≤◌, ℤ, length, get_or}
+use Rattle.std.specs.Prelude.{◌≡◌, Bool, false, List, map, ℕ, ◌≤◌, ℤ, length, get_or}
 use Rattle.lists.specs.Membership.{SameMembers}
 use Rattle.model.specs.Answer.{accepted}
 use Rattle.model.specs.Points.{iterations}

@@ -24,7 +24,6 @@ use Rattle.ticket_refusals.specs.declared.Status.{Status}
 use Rattle.ticket_refusals.specs.declared.Status.TheVariants.{Fine, Refused}
 use Rattle.nest_admission.specs.Admission.{passed, Admits}
 use Rattle.nest_admission.specs.declared.Counted.{Counted}
-use Rattle.nest_admission.specs.declared.Counted.TheVariants as Counted
 use Rattle.ticket_admission.specs.CountedTickets.{Counts}
 use Rattle.ticket_admission.proofs.AdmitLaws.{not-counted, ticket-there}
 use Rattle.nest_quick_test.specs.Nests.{NestTestIn}

@@ -1,6 +1,6 @@
 -- The ranges of an accepted ticket's counts and numbers, section by section. Sizes of lists that follow from others are in `Shape`; which word is
 -- refused, and how, in `Roles`; the words of a ticket in `Encode`.
-use Rattle.std.specs.Prelude.{◌≡◌, List, [], ◌∷◌, ℕ, suc, ◌+◌, ◌-◌, ◌≤◌, ◌<◌, T, ℤ, nat_abs, length}
+use Rattle.std.specs.Prelude.{◌≡◌, List, [], ◌∷◌, ℕ, suc, ◌+◌, ◌≤◌, ◌<◌, ℤ, nat_abs, length}
 use Rattle.lists.specs.Membership.{All}
 use Rattle.model.specs.Ticket.{Limit, Loop, Subscript, Access, Statement, Step, exchange, reversal, skew, section, circulation, Nest, Ticket}
 use Rattle.model.specs.Grammar.{total, depth_after, most_statements, most_factor}

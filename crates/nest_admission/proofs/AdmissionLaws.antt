@@ -25,7 +25,7 @@ use Rattle.nest_elements.specs.Nests.{NestSearched}
 use Rattle.nest_points.proofs.NestLaws.{depth_is}
 use Rattle.nest_admission.specs.declared.Counted.{Counted}
 use Rattle.nest_admission.specs.declared.Counted.TheVariants.{Points, Refused}
-use Rattle.nest_admission.specs.Admission.{answer_of, passed, Counts, Admits, PointsCounted, FindIn, EnumerateIn, Enumerates}
+use Rattle.nest_admission.specs.Admission.{passed, Counts, Admits, PointsCounted, FindIn, EnumerateIn, Enumerates}
 
 -- a refusal is no count of points
 pub not-points : {A : Type 0} (r : Refusal) (n : ℕ) → Refused r ≡ Points n → A

@@ -7,7 +7,6 @@ use Rattle.model.specs.Shape.{WellFormed}
 use Rattle.model.specs.Grammar.{ticket_loops}
 use Rattle.ticket_refusals.specs.Refusals.{refusal}
 use Rattle.ticket_refusals.specs.declared.Status.{Status}
-use Rattle.ticket_refusals.specs.declared.Status.TheVariants as Status
 use Rattle.nest_flat.specs.FlatNests.{FlatNest, nest_of, FlatNestIn}
 use Rattle.nest_points.specs.Nests.{PointsAre}
 use Rattle.nest_elements.specs.Nests.{NestViolationIn}

@@ -1,5 +1,5 @@
 -- The box that the ranges of the loops make: how many points it has, and when it shows that a nest passes refusal 13.
-use Rattle.std.specs.Prelude.{List, [], ◌∷◌, ℕ, ◌*◌, ◌≤◌, ℤ, pos, negsuc, ◌-ℤ◌, ◌<ℤ◌, take}
+use Rattle.std.specs.Prelude.{List, [], ◌∷◌, ℕ, ◌*◌, ◌≤◌, pos, negsuc, ◌-ℤ◌, ◌<ℤ◌, take}
 use Rattle.lists.specs.Membership.{All}
 use Rattle.model.specs.Points.{span}
 use Rattle.model.specs.Quick.{Range}

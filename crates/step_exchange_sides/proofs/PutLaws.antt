@@ -15,7 +15,6 @@ use mir.Val.{Fits, SFits, to_z, of_z}
 use mir.Facts.{to_z_pos}
 use Rattle.lists.specs.Parts.{put}
 use Rattle.lists.proofs.PartLaws.{put-put, set-is-put, set-put, length-put}
-use Rattle.model.specs.Ticket as Model
 use Rattle.model.specs.Encode.{limit_words}
 use Rattle.ticket_loops.specs.LoopReads.{limit_of}
 use Rattle.ticket_loops.specs.declared.Limit.{Limit}

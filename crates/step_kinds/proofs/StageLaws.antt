@@ -10,7 +10,6 @@ use Rattle.model.specs.Steps.{chain}
 use Rattle.model.specs.Judge.{stages}
 use Rattle.step_kinds.specs.Kinds.{step_of}
 use Rattle.step_kinds.specs.declared.Step.{Step}
-use Rattle.step_kinds.specs.declared.Step.TheVariants as Step
 use Rattle.step_kinds.specs.declared.Circulation.{Circulation}
 
 single : (t : Model.Step) (j : ℕ) → j < 1 → t ≡ get_or (t ∷ []) j (exchange 0)

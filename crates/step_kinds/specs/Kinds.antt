@@ -3,7 +3,6 @@ use Rattle.model.specs.Ticket as Model
 use Rattle.step_kinds.specs.declared.Step.{Step}
 use Rattle.step_kinds.specs.declared.Step.TheVariants.{Exchange, Reversal, Skew, Section, Circulation}
 use Rattle.step_kinds.specs.declared.Stage.{Stage}
-use Rattle.step_kinds.specs.declared.Stage.TheVariants as Stage
 
 abbrev pub step_of : Step → Model.Step
 step_of (Exchange e) = Model.exchange e.outer

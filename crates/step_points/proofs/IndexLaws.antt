@@ -20,7 +20,6 @@ use Rattle.integers.specs.Affine.{Within}
 use Rattle.model.specs.Grammar.{depth_after}
 use Rattle.model.specs.Ranges.{StepThere}
 use Rattle.model.specs.Steps.{skewed, sectioned, chain, forward}
-use Rattle.model.specs.Ticket as Model
 use Rattle.model.proofs.Steps.ChainLaws.{chain-below}
 use Rattle.nest_rows.specs.Rows.{RowIs}
 use Rattle.step_kinds.specs.Kinds.{step_of}

@@ -18,7 +18,6 @@ use Rattle.ticket_decoding.specs.declared.Decoded.{Decoded}
 use Rattle.ticket_decoding.specs.Ticket.{ticket_on, decoded, ticket_of}
 use Rattle.nest_admission.specs.Admission.{answer_of, passed, Admits, PointsCounted}
 use Rattle.nest_admission.specs.declared.Counted.{Counted}
-use Rattle.nest_admission.specs.declared.Counted.TheVariants as Counted
 use Rattle.ticket_admission.specs.CountedTickets.{Laid, Counts}
 
 refused-before-9 : (m : Answer Model.Ticket) {n p : ℕ} → (m >>= (λ T. space T.nest.loops)) ≡ refused n p → admit_of m ≡ refused n p

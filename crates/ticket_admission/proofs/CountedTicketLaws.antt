@@ -15,7 +15,6 @@ use Rattle.ticket_decoding.specs.Ticket.{ticket_on, decoded, DecodedIn}
 use Rattle.nest_admission.specs.Admission as Admission
 use Rattle.nest_admission.specs.Admission.{answer_of}
 use Rattle.nest_admission.specs.declared.Counted.{Counted}
-use Rattle.nest_admission.specs.declared.Counted.TheVariants as Counted
 use Rattle.ticket_admission.specs.CountedTickets.{Counts}
 
 -- a refusal has no points

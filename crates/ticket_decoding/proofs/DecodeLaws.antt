@@ -18,7 +18,6 @@ use Rattle.ticket_words.specs.Reads.{answer}
 use Rattle.ticket_refusals.specs.declared.Refusal.{Refusal}
 use Rattle.ticket_refusals.specs.declared.Refusal.TheVariants.{TrailingBytes}
 use Rattle.ticket_refusals.specs.declared.Status.{Status}
-use Rattle.ticket_refusals.specs.declared.Status.TheVariants as Status
 use Rattle.ticket_loops.specs.LoopReads as Nest
 use Rattle.ticket_loops.specs.LoopReads.{ReadsLoops}
 use Rattle.ticket_loops.specs.declared.LoopsRead.{LoopsRead}

@@ -13,7 +13,6 @@ use Rattle.model.specs.Grammar.{Read, ◌>>=◌, ◌>>◌, done, must_at, loops,
 use Rattle.ticket_refusals.specs.Refusals.{first_of}
 use Rattle.ticket_words.specs.Reads.{answer}
 use Rattle.ticket_refusals.specs.declared.Status.{Status}
-use Rattle.ticket_refusals.specs.declared.Status.TheVariants as Status
 use Rattle.ticket_words.proofs.ReaderLaws.{after-value, after-refusal}
 use Rattle.ticket_decoding.specs.Ticket.{sections, end_of, decoded}
 

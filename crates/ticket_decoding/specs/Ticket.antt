@@ -11,7 +11,6 @@ use Rattle.model.specs.Grammar.{Reader, ◌>>=◌, ticket_loops, ticket_limits, 
 use Rattle.ticket_refusals.specs.Refusals.{refusal}
 use Rattle.ticket_refusals.specs.declared.Refusal.TheVariants.{TrailingBytes}
 use Rattle.ticket_refusals.specs.declared.Status.{Status}
-use Rattle.ticket_refusals.specs.declared.Status.TheVariants as Status
 use Rattle.nest_flat.specs.FlatNests.{FlatNest, flat_nest, nest_of, FlatNestIn}
 use Rattle.ticket_steps.specs.Steps.{steps_of, StepsIn}
 use Rattle.ticket_steps.specs.declared.Steps.{Steps}

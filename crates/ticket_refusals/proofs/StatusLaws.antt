@@ -4,7 +4,6 @@ use Prim.Native.Nat.{ℕ}
 use native.Mathlib.Omega.{arith}
 use Rattle.ticket_refusals.specs.declared.Refusal.{Refusal}
 use Rattle.ticket_refusals.specs.declared.Status.{Status}
-use Rattle.ticket_refusals.specs.declared.Status.TheVariants as Status
 use Rattle.ticket_refusals.specs.Refusals.{first_of}
 
 -- a refusal is not fine

@@ -4,7 +4,6 @@ use Rattle.model.specs.Answer.{Answer, refused}
 use Rattle.ticket_refusals.specs.declared.Refusal.{Refusal}
 use Rattle.ticket_refusals.specs.declared.Refusal.TheVariants.{Truncated, TrailingBytes, CountOutOfRange, WordOutOfRange, TooManyElements, LoopOutOfNest, IndexOutOfRange, TooManyPoints, SubscriptOutOfBounds, DependenceReversed, TooManyLimits, NumberOutOfRange, NewNestTooLarge, BufferTooShort, OpaqueRule, WrongStoreLength}
 use Rattle.ticket_refusals.specs.declared.Status.{Status}
-use Rattle.ticket_refusals.specs.declared.Status.TheVariants as Status
 
 -- torn, overhang, bad count, bad word, overfull, off the nest; far index, crowded, off the array; out of order, limits full, big number; sprawl;
 -- short buffer, opaque, wrong store

@@ -16,7 +16,6 @@ use Rattle.ticket_refusals.specs.Refusals.{refusal, first_of}
 use Rattle.ticket_words.specs.Reads.{answer, Reached, Reads}
 use Rattle.ticket_refusals.specs.declared.Refusal.{Refusal}
 use Rattle.ticket_refusals.specs.declared.Status.{Status}
-use Rattle.ticket_refusals.specs.declared.Status.TheVariants as Status
 
 -- a code's answer g that is x stands for what x stands for
 pub seen : {G : Type 0} {A : Type 0} (out : G → Answer A) {g x : G} {m : Answer A} → g ≡ x → out g ≡ m → m ≡ out x

@@ -20,7 +20,6 @@ use Rattle.ticket_words.specs.Reads.{Reached}
 use Rattle.ticket_words.specs.Words.{Ranged, ReadNatural}
 use Rattle.ticket_refusals.specs.declared.Refusal.{Refusal}
 use Rattle.ticket_words.specs.declared.Natural.{Natural}
-use Rattle.ticket_words.specs.declared.Natural.TheVariants as Natural
 
 -- ---- a word is there, or truncated
 

@@ -3,7 +3,6 @@ use Rattle.std.specs.Prelude.{◌≡◌, List, ℕ, ◌-◌, ◌*◌, ◌<◌, �
 use Rattle.model.specs.Answer.{Answer, accepted}
 use Rattle.model.specs.Grammar.{Read}
 use Rattle.ticket_refusals.specs.declared.Status.{Status}
-use Rattle.ticket_refusals.specs.declared.Status.TheVariants as Status
 use Rattle.ticket_refusals.specs.Refusals.{refusal}
 
 -- a value with the word after it, unless a refusal stands beside them

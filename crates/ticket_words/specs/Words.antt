@@ -7,11 +7,8 @@ use Rattle.ticket_refusals.specs.Refusals.{refusal}
 use Rattle.ticket_words.specs.Reads.{Reached}
 use Rattle.ticket_refusals.specs.declared.Refusal.{Refusal}
 use Rattle.ticket_words.specs.declared.Bits.{Bits}
-use Rattle.ticket_words.specs.declared.Bits.TheVariants as Bits
 use Rattle.ticket_words.specs.declared.Natural.{Natural}
-use Rattle.ticket_words.specs.declared.Natural.TheVariants as Natural
 use Rattle.ticket_words.specs.declared.Number.{Number}
-use Rattle.ticket_words.specs.declared.Number.TheVariants as Number
 
 -- ---- bits
 

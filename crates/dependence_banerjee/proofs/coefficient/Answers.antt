@@ -1,4 +1,3 @@
-use Prim.Native.Nat.{◌-◌}
 use native.Mathlib.Omega.{arith}
 use Rattle.dependence_banerjee.proofs.SumLaws.{coefficient-none, coefficient-small, word-near, coefficient-next, coefficient-whole}
 use Rattle.dependence_banerjee.proofs.coefficient.Goals as goal
@@ -20,10 +19,10 @@ word-requires c = let h = c.requires.0.inside in let l = c.loop-t-test.true in l
 
 pub add_coefficient-sum-requires : goal.add_coefficient-sum-requires
 add_coefficient-sum-requires c = let l = c.loop-t in (
-      coefficient-small c.args.words.now c.args.i c.args.m c.args.k c.requires.0 l.t l.invariant.1 l.invariant.0,
-      word-near
-          c.args.words.now c.args.i c.args.m c.args.k c.requires.0 l.t l.invariant.1 l.invariant.0 c.word.ensures,
-    )
+  coefficient-small c.args.words.now c.args.i c.args.m c.args.k c.requires.0 l.t l.invariant.1 l.invariant.0,
+  word-near
+      c.args.words.now c.args.i c.args.m c.args.k c.requires.0 l.t l.invariant.1 l.invariant.0 c.word.ensures,
+)
 
 pub overflow_add-t : goal.overflow_add-t
 overflow_add-t c = let f = c.requires.0.few in let h = c.loop-t-test.true in omega arith

@@ -91,14 +91,14 @@ loop-u-smaller c = let h = c.loop-u-test.true in omega arith
 
 pub loop-u-preserved : goal.loop-u-preserved
 loop-u-preserved c = let a = c.args in let l = c.loop-u in let h = c.loop-u-test.true in (
-      omega arith,
-      elim c.if-not-marks-base.branch [
-        then-not-marks-base+else-not-impossible w ↦ one-impossible a.words.now a.a a.b a.d a.n a.ranges a.base a.marks.now
-            c.stride-step.result l.u l.invariant.1 (w.impossible.ensures w.if-not-impossible.false)
-      | else-not-marks-base w ↦ one-marked a.words.now a.a a.b a.d a.n a.ranges a.base a.marks.now
-            c.stride-step.result l.u l.invariant.1 w.if-not-marks-base.false
-      ],
-    )
+  omega arith,
+  elim c.if-not-marks-base.branch [
+    | then-not-marks-base+else-not-impossible w ↦ one-impossible a.words.now a.a a.b a.d a.n a.ranges a.base a.marks.now
+        c.stride-step.result l.u l.invariant.1 (w.impossible.ensures w.if-not-impossible.false)
+    | else-not-marks-base w ↦ one-marked a.words.now a.a a.b a.d a.n a.ranges a.base a.marks.now
+        c.stride-step.result l.u l.invariant.1 w.if-not-marks-base.false
+  ],
+)
 
 pub returns : goal.returns
 returns c = let a = c.args in let l = c.loop-u in let f = c.candidates-end.ensures in let h = c.loop-u-test.false in

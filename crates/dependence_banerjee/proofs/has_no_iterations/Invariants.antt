@@ -1,5 +1,5 @@
 -- `has_no_iterations`: v is what is left of u for the k outermost loops.
-use Prim.Native.Nat.{◌-◌, ◌≤◌}
+use Prim.Native.Nat.{◌≤◌}
 use Rattle.dependence_banerjee.proofs.RegionLaws.{Outer}
 use Rattle.dependence_banerjee.proofs.has_no_iterations.Given as goal
 

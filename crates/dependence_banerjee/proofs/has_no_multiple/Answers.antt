@@ -26,7 +26,6 @@ ceil_div-requires c =
 pub returns : goal.returns
 returns c =
     let divisor : to_z w64 c.args.g ≡ pos c.args.g = let h = c.requires.0 in from-nat (omega arith) in
-   
     let z = c.if-g-eq0.false in
     λ t x i. no-multiple-between c.args.r.least c.args.r.greatest c.args.g c.requires.1 c.requires.2 (omega arith) divisor
     c.floor_div.ensures c.ceil_div.ensures t x i.low i.high

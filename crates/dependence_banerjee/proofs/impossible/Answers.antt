@@ -1,4 +1,3 @@
-use Prim.Native.Nat.{◌-◌}
 use native.Mathlib.Omega.{arith}
 use Rattle.dependence_banerjee.proofs.CoverLaws.{empty-impossible, all-excluded, dimension-in, dimension-excluded}
 use Rattle.dependence_banerjee.proofs.impossible.Goals as goal

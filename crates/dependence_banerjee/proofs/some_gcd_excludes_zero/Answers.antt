@@ -1,5 +1,4 @@
 use mathlib.Core.Bool.{false≢true}
-use Prim.Native.Nat.{◌-◌}
 use native.Mathlib.Omega.{arith}
 use Rattle.dependence_banerjee.proofs.CoverLaws.{dimension-in, dimension-excluded}
 use Rattle.dependence_banerjee.proofs.some_gcd_excludes_zero.Goals as goal

@@ -13,7 +13,7 @@ overflow_add-result-2 c = sum_fits c.args.r.greatest c.args.t.greatest
 
 pub returns : goal.returns
 returns c = (
-      (sum_is c.args.r.least c.args.t.least c.requires.first-low c.requires.second-low (omega arith)).0,
-      (sum_is c.args.r.greatest
-          c.args.t.greatest c.requires.first-high c.requires.second-high (omega arith)).0,
-    )
+  (sum_is c.args.r.least c.args.t.least c.requires.first-low c.requires.second-low (omega arith)).0,
+  (sum_is c.args.r.greatest
+      c.args.t.greatest c.requires.first-high c.requires.second-high (omega arith)).0,
+)

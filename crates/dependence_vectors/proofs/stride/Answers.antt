@@ -2,7 +2,6 @@
 use mathlib.Core.Path.{◌≡◌, refl}
 use native.Mathlib.Omega.{arith}
 use Rattle.dependence_vectors.specs.Candidates.{stride}
-use Rattle.dependence_vectors.proofs.NumberLaws.{no-missing-loop}
 use Rattle.dependence_vectors.proofs.stride.Goals as goal
 
 pub returns-in-0 : goal.returns-in-0

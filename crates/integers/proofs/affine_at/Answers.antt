@@ -1,4 +1,3 @@
-use Prim.Native.Nat.{◌-◌}
 use native.Mathlib.Omega.{arith}
 use Rattle.integers.proofs.SumLaws.{at_none, plus-at, at_more, at_all}
 use Rattle.integers.proofs.affine_at.Goals as goal

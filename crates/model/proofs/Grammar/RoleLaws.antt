@@ -16,7 +16,7 @@ use Rattle.lists.proofs.MembershipLaws.{all_nil, all_cons}
 use Rattle.model.specs.Answer as Answer
 use Rattle.model.specs.Answer.{Answer, accepted, refused}
 use Rattle.model.specs.Words.{first_word, word_at}
-use Rattle.model.specs.Grammar.{Read, Reader, ◌>>=◌, ◌>>◌, done, word, times}
+use Rattle.model.specs.Grammar.{Read, Reader, ◌>>=◌, done, word, times}
 use Rattle.model.specs.Roles.{Role, Slot, slot, any_number, word_check, number_slots, Offends, truncated, bad, AllTaken, Stops}
 use Rattle.model.proofs.Answers.PassLaws.{bind-pass, bind-stop, then-pass, then-stop}
 

@@ -1,7 +1,7 @@
 -- Every line that there could be: which they are, and their order, by source, then sink, then kind F A O, then signs < = >. First numbers, then
 -- vectors, then lines. Which of them a listing has is in `LineLaws`.
 use mathlib.Core.Path.{◌≡◌, refl, sym, ap, ◌∙◌, subst₂}
-use mathlib.Core.Logic.{◌⊎◌, inl, inr, ⊎_elim}
+use mathlib.Core.Logic.{inl, inr, ⊎_elim}
 use mathlib.Core.List.Memᴰ
 use mathlib.Core.List.{List, [], ◌∷◌, map, flat_map}
 use Prim.Native.Nat.{ℕ, zero, suc, ◌+◌, ◌≤◌, ◌<◌}

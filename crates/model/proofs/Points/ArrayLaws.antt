@@ -2,13 +2,13 @@
 -- points, then the statements of a body, both ways.
 use mathlib.Core.Path.{◌≡◌, refl}
 use mathlib.Core.Bool.{Bool, false, not, ◌||◌}
-use mathlib.Core.Logic.{◌⊎◌, inl, inr, ⊎_elim}
+use mathlib.Core.Logic.{inl, inr, ⊎_elim}
 use mathlib.Core.List.{List, [], ◌∷◌, ◌++◌, map}
 use Prim.Native.Nat.{ℕ, zero, suc, ◌+◌, ◌<◌}
 use native.Mathlib.Omega.{arith}
 use lib.Dec.{T}
 use lib.IntN.{ℤ, pos}
-use lib.Signed.{lt_z, le_z, ◌≤ℤ◌, ◌<ℤ◌}
+use lib.Signed.{lt_z, le_z}
 use lib.ListN.{length, get_or, length-map}
 use Rattle.integers.proofs.RingLaws.{≤ℤ-or-<ℤ}
 use Rattle.integers.proofs.RangeLaws.{test-lt, test-le, lt_test, le_test}

@@ -1,9 +1,9 @@
 -- The answers of every entry fit the fields that they are handed out in. In order: numbers and places of refusals; the count of iterations; the
 -- entries. How long a written nest and a listing can be is in `SizeLaws`.
 use mathlib.Core.Path.{◌≡◌, refl, sym, ap, subst, subst₂}
-use mathlib.Core.Logic.{◌↔◌, ◌⊎◌, inl, inr, ⊎_elim}
+use mathlib.Core.Logic.{◌↔◌, inl, inr, ⊎_elim}
 use mathlib.Core.List.{List, [], ◌∷◌, ◌++◌, map}
-use Prim.Native.Nat.{ℕ, ◌+◌, ◌≤◌, ◌<◌}
+use Prim.Native.Nat.{ℕ, ◌≤◌, ◌<◌}
 use native.Mathlib.Omega.{arith}
 use lib.ListN.{length, take, length-append, length-map}
 use Rattle.model.specs.Answer.{Answer, accepted, refused}

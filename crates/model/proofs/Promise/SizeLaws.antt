@@ -1,6 +1,5 @@
 -- How long what is handed out can be: the bytes of a written nest, the bytes of a listing, the records of pairs that trade places.
-use mathlib.Core.Path.{◌≡◌, refl, sym, ap, subst}
-use mathlib.Core.Bool.{Bool}
+use mathlib.Core.Path.{refl, sym, subst}
 use mathlib.Core.List.Memᴰ
 use mathlib.Core.List.{List, [], ◌∷◌, ◌++◌, map, flat_map}
 use Prim.Native.Nat.{ℕ, zero, suc, ◌+◌, ◌*◌, ◌/◌, ◌%◌, ◌≤◌, ◌<◌}
@@ -11,7 +10,6 @@ use lib.IntN.{ℤ, pos}
 use lib.ListN.{length, length-append, length-map}
 use Rattle.integers.specs.Sign.{Sign, less, equal, greater}
 use Rattle.lists.specs.Membership.{Mem, All}
-use Rattle.lists.specs.Tests.{select}
 use Rattle.lists.proofs.FlatMapLaws.{length-flat_map-most}
 use Rattle.lists.proofs.TestLaws.{cond_cases, select-fewer}
 use Rattle.model.specs.Ticket.{Limit, Loop, Subscript, Access, Statement, Step, Nest}

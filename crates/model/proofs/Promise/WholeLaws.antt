@@ -1,6 +1,6 @@
 -- Demand 3, undivided: one statement about the answers of judge, write and run, for a ticket, however it was read, and whatever is lent.
 use mathlib.Core.Path.{◌≡◌, sym, ◌∙◌, ap, subst}
-use mathlib.Core.Logic.{◌⊎◌, ⊎_elim}
+use mathlib.Core.Logic.{⊎_elim}
 use mathlib.Core.List.{List}
 use Prim.Native.Nat.{ℕ}
 use lib.ListN.{length}

@@ -1,6 +1,6 @@
 use mathlib.Core.Path.{◌≡◌, subst}
 use mathlib.Core.Bool.{false}
-use Prim.Native.Nat.{ℕ, ◌+◌, ◌*◌, ◌-◌}
+use Prim.Native.Nat.{ℕ, ◌+◌, ◌*◌}
 use native.Mathlib.Omega.{arith}
 use borrow.Author.Count.{below_more}
 use lib.ListN.{get_or}
@@ -112,12 +112,12 @@ loop-d-smaller c = let t = c.loop-d-test.true in omega arith
 
 pub loop-d-preserved : goal.loop-d-preserved
 loop-d-preserved c = let t = c.loop-d-test.true in let g = c.subscript_fits in (
-      omega arith,
-      below_more (λ (d : ℕ). Enclosed (ranges_of c.args.n c.args.ranges) (get_or c.args.arrays.now
-          (get_or c.args.accessed.now c.args.k 0 * 4 + 1 + d) 0) (form_at c.args.words.now c.args.n (c.args.k * 3 + d)))
-          c.loop-d.d c.loop-d.invariant.1
-          (g.ensures c.if-not-subscript_fits.false),
-    )
+  omega arith,
+  below_more (λ (d : ℕ). Enclosed (ranges_of c.args.n c.args.ranges) (get_or c.args.arrays.now
+      (get_or c.args.accessed.now c.args.k 0 * 4 + 1 + d) 0) (form_at c.args.words.now c.args.n (c.args.k * 3 + d)))
+      c.loop-d.d c.loop-d.invariant.1
+      (g.ensures c.if-not-subscript_fits.false),
+)
 
 pub returns : goal.returns
 returns c = λ _. let h = c.loop-d-test.false in let i = c.loop-d.invariant.0

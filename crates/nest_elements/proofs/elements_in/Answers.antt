@@ -1,5 +1,4 @@
 use mathlib.Core.Path.{sym}
-use Prim.Native.Nat.{◌-◌}
 use native.Mathlib.Omega.{arith}
 use Rattle.nest_flat.proofs.FlatNestLaws.{extents-count}
 use Rattle.nest_elements.proofs.NestArrayLaws.{arrays-in, total-is}

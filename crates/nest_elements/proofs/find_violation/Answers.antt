@@ -1,6 +1,5 @@
 use mathlib.Core.Path.{refl, sym, subst}
-use mathlib.Core.Bool.{false}
-use Prim.Native.Nat.{◌+◌, ◌-◌}
+use Prim.Native.Nat.{◌+◌}
 use native.Mathlib.Omega.{arith}
 use Rattle.nest_flat.specs.FlatNests.{FlatNest, flat_nest, extents_in, sizes_in, accessed_in, words_in}
 use Rattle.nest_flat.proofs.FlatNestLaws.{words_count, accessed-count, extents-count, sizes-count}
@@ -196,10 +195,10 @@ dimensions-preserved c =
     P.depth c.args.count = access-in searched c.search.invariant.1 c.search-test.true
     c.accesses-test.true in
     let e = c.dimensions in let z = c.dimensions-test.true in (
-  e.invariant.0,
-  omega arith,
-  next-dimension access z c.violates.ensures e.invariant.2 c.if-violates.false,
-)
+      e.invariant.0,
+      omega arith,
+      next-dimension access z c.violates.ensures e.invariant.2 c.if-violates.false,
+    )
 
 pub overflow_add-i : goal.overflow_add-i
 overflow_add-i c =
@@ -248,10 +247,10 @@ search-preserved c =
     let P : FlatNest = flat_nest c.args.header c.args.limits.now c.args.words.now in
     let searched : SearchIn (words_in P) (accessed_in P) (extents_in P) (sizes_in P) c.args.points.now P.depth c.args.count = search-in P _ _ c.requires in
     let l = c.accesses in (
-  l.invariant.0,
-  next-statement searched c.search.invariant.1 c.search-test.true l.i l.invariant.1
-      c.accesses-test.false l.invariant.2,
-)
+      l.invariant.0,
+      next-statement searched c.search.invariant.1 c.search-test.true l.i l.invariant.1
+          c.accesses-test.false l.invariant.2,
+    )
 
 pub returns-after-search : goal.returns-after-search
 returns-after-search c =

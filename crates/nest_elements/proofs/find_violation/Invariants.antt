@@ -6,7 +6,7 @@ use lib.ListN.{length}
 use Rattle.lists.specs.Parts.{rows}
 use Rattle.nest_elements.proofs.ViolationLaws.{accesses_violation}
 use Rattle.nest_elements.proofs.FindLaws.{violates_to}
-use Rattle.nest_elements.proofs.FindLaws.{Reached, found}
+use Rattle.nest_elements.proofs.FindLaws.{Reached}
 use Rattle.nest_elements.proofs.find_violation.Given as goal
 
 abbrev pub invariant-dimensions : goal.invariant-dimensions

@@ -1,4 +1,3 @@
-use Prim.Native.Nat.{◌-◌}
 use native.Mathlib.Omega.{arith}
 use Rattle.nest_elements.proofs.ClearLaws.{all_left, opaque-here, clear-here, none-opaque}
 use Rattle.nest_elements.proofs.first_opaque.Goals as goal

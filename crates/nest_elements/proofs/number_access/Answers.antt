@@ -1,5 +1,5 @@
 use mathlib.Core.Path.{◌≡◌, refl, sym, ◌∙◌, ap}
-use Prim.Native.Nat.{ℕ, ◌+◌, ◌*◌, ◌-◌}
+use Prim.Native.Nat.{ℕ, ◌+◌, ◌*◌}
 use native.Mathlib.Omega.{arith}
 use native.Mathlib.Nat.{zero-mul}
 use Rattle.lists.specs.Parts.{rows, put}
@@ -68,13 +68,13 @@ loop-i-smaller c = let v = c.loop-i-test.true in omega arith
 
 pub loop-i-preserved : goal.loop-i-preserved
 loop-i-preserved c = let l = c.loop-i in let v = c.loop-i-test.true in (
-      omega arith,
-      ap (λ (j : ℕ). j + c.args.depth) l.invariant.1
-          ∙ row_next c.args.depth l.i,
-      one_place c.requires.0 c.requires.1 c.base_of-b.ensures
-          c.form_of-form.ensures v l.invariant.1 c.args.out.now refl l.invariant.2 c.place.result
-          c.place.ensures,
-    )
+  omega arith,
+  ap (λ (j : ℕ). j + c.args.depth) l.invariant.1
+      ∙ row_next c.args.depth l.i,
+  one_place c.requires.0 c.requires.1 c.base_of-b.ensures
+      c.form_of-form.ensures v l.invariant.1 c.args.out.now refl l.invariant.2 c.place.result
+      c.place.ensures,
+)
 
 pub shape_of-out : goal.shape_of-out
 shape_of-out c = let l = c.loop-i in same-room c.requires.0

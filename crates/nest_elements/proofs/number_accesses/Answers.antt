@@ -1,5 +1,4 @@
 use mathlib.Core.Path.{refl, sym}
-use Prim.Native.Nat.{◌-◌}
 use native.Mathlib.Omega.{arith}
 use Rattle.nest_flat.proofs.FlatNestLaws.{words_count, accessed-count, extents-count}
 use Rattle.nest_elements.proofs.NestLaws.{number_in, number-out}

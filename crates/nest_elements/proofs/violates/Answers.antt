@@ -1,6 +1,5 @@
 use mathlib.Core.Path.{◌≡◌, refl, sym, ◌∙◌, ap}
-use mathlib.Core.Bool.{false}
-use Prim.Native.Nat.{ℕ, ◌+◌, ◌-◌}
+use Prim.Native.Nat.{ℕ, ◌+◌}
 use native.Mathlib.Omega.{arith}
 use native.Mathlib.Nat.{zero-mul}
 use Rattle.lists.specs.Parts.{rows}
@@ -45,12 +44,12 @@ loop-i-smaller c = let v = c.loop-i-test.true in omega arith
 
 pub loop-i-preserved : goal.loop-i-preserved
 loop-i-preserved c = let l = c.loop-i in let v = c.loop-i-test.true in (
-      omega arith,
-      ap (λ (k : ℕ). k + c.args.depth) l.invariant.1
-          ∙ row_next c.args.depth l.i,
-      violation-not c.requires v l.invariant.1
-          c.subscript_form-form.ensures c.leaves_extent.ensures c.if-leaves_extent.false l.invariant.2,
-    )
+  omega arith,
+  ap (λ (k : ℕ). k + c.args.depth) l.invariant.1
+      ∙ row_next c.args.depth l.i,
+  violation-not c.requires v l.invariant.1
+      c.subscript_form-form.ensures c.leaves_extent.ensures c.if-leaves_extent.false l.invariant.2,
+)
 
 pub returns : goal.returns
 returns c = let l = c.loop-i in let e : l.i ≡ c.args.count = omega

@@ -45,11 +45,11 @@ loop-i-smaller c = let h = c.loop-i-test.true in omega arith
 pub loop-i-preserved : goal.loop-i-preserved
 unfolding first_from
 loop-i-preserved c = let l = c.loop-i in let v = c.lower_index-in-loop-i in let e = copied v.result v.ensures.1 in (
-      omega arith,
-      c.larger-r.ensures.0 ∙ side_before lower (ceil_at c.args.outer.now) c.args.nest.now (length c.args.outer.now)
-          c.args.j c.args.n l.i c.loop-i-test.true l.invariant.0 l.r.value _ l.invariant.1 (e ∙ v.ensures.0),
-      c.larger-r.ensures.1,
-    )
+  omega arith,
+  c.larger-r.ensures.0 ∙ side_before lower (ceil_at c.args.outer.now) c.args.nest.now (length c.args.outer.now)
+      c.args.j c.args.n l.i c.loop-i-test.true l.invariant.0 l.r.value _ l.invariant.1 (e ∙ v.ensures.0),
+  c.larger-r.ensures.1,
+)
 
 pub returns : goal.returns
 unfolding first_from

@@ -1,4 +1,4 @@
-use Prim.Native.Nat.{suc, ◌+◌, ◌*◌, ◌-◌}
+use Prim.Native.Nat.{suc, ◌+◌, ◌*◌}
 use native.Mathlib.Omega.{arith}
 use mathlib.Core.Path.{sym, subst}
 use mathlib.Core.List.{List}
@@ -36,17 +36,17 @@ greatest_value-has_coefficient-requires t c = let q = c.requires in let f = q.sh
 
 pub greatest_value-least_value-least-requires : goal.greatest_value-least_value-least-requires
 greatest_value-least_value-least-requires t c = let h = c.loop-i-test.true in (
-      omega arith,
-      loops-before c.args.nest.now c.args.counts.now (suc c.args.k)
-          c.loop-i.i c.requires (omega arith),
-    )
+  omega arith,
+  loops-before c.args.nest.now c.args.counts.now (suc c.args.k)
+      c.loop-i.i c.requires (omega arith),
+)
 
 pub greatest_value-greatest_value-greatest-requires : goal.greatest_value-greatest_value-greatest-requires
 greatest_value-greatest_value-greatest-requires t c = let h = c.loop-i-test.true in (
-      omega arith,
-      loops-before c.args.nest.now c.args.counts.now
-          (suc c.args.k) c.loop-i.i c.requires (omega arith),
-    )
+  omega arith,
+  loops-before c.args.nest.now c.args.counts.now
+      (suc c.args.k) c.loop-i.i c.requires (omega arith),
+)
 
 pub greatest_value-offset_bounds-outer-i : goal.greatest_value-offset_bounds-outer-i
 greatest_value-offset_bounds-outer-i t c = let f = c.requires.shallow
@@ -73,10 +73,10 @@ greatest_value-loop-i-preserved t c =
     let are : List Range → Type 0 = NeededAre a.nest.now a.counts.now (a.k * 32 + 16) (get_or a.counts.now (a.k * 2 + 1) 0) (l.i + 1) in (
       omega arith,
       elim c.if-has_coefficient.branch [
-        greatest_value-then-has_coefficient w ↦ subst are (sym w.outer-is) (needed-more a.nest.now a.counts.now (a.k * 32 + 16) (get_or a.counts.now (a.k * 2 + 1) 0) l.i
+        | greatest_value-then-has_coefficient w ↦ subst are (sym w.outer-is) (needed-more a.nest.now a.counts.now (a.k * 32 + 16) (get_or a.counts.now (a.k * 2 + 1) 0) l.i
             l.outer l.invariant.1 w.least_value-least.result.value w.greatest_value-greatest.result.value (omega arith)
             w.least_value-least.ensures w.greatest_value-greatest.ensures)
-      | greatest_value-else-has_coefficient w ↦ subst are (sym w.outer-is) (needed-free a.nest.now a.counts.now (a.k * 32 + 16) (get_or a.counts.now (a.k * 2 + 1) 0) l.i
+        | greatest_value-else-has_coefficient w ↦ subst are (sym w.outer-is) (needed-free a.nest.now a.counts.now (a.k * 32 + 16) (get_or a.counts.now (a.k * 2 + 1) 0) l.i
             l.outer l.invariant.1 (c.has_coefficient.ensures.0 w.if-has_coefficient.false))
       ],
     )
@@ -87,10 +87,10 @@ greatest_value-loop_greatest-requires t c = let l = c.loop-i in let h = c.loop-i
 
 pub greatest_value-returns : goal.greatest_value-returns
 greatest_value-returns t c = let l = c.loop-i in let h = c.loop-i-test.false in let v = c.loop_greatest in (
-      needed-greatest c.args.nest.now c.args.counts.now c.args.k l.i l.outer c.requires (omega arith) v.result.value
-          l.invariant.1 v.ensures.0,
-      v.ensures.1,
-    )
+  needed-greatest c.args.nest.now c.args.counts.now c.args.k l.i l.outer c.requires (omega arith) v.result.value
+      l.invariant.1 v.ensures.0,
+  v.ensures.1,
+)
 
 pub least_value-overflow_mul-n : goal.least_value-overflow_mul-n
 least_value-overflow_mul-n t c = let f = c.requires.shallow in omega arith
@@ -113,17 +113,17 @@ least_value-has_coefficient-requires t c = let q = c.requires in let f = q.shall
 
 pub least_value-least_value-least-requires : goal.least_value-least_value-least-requires
 least_value-least_value-least-requires t c = let h = c.loop-i-test.true in (
-      omega arith,
-      loops-before c.args.nest.now c.args.counts.now (suc c.args.k)
-          c.loop-i.i c.requires (omega arith),
-    )
+  omega arith,
+  loops-before c.args.nest.now c.args.counts.now (suc c.args.k)
+      c.loop-i.i c.requires (omega arith),
+)
 
 pub least_value-greatest_value-greatest-requires : goal.least_value-greatest_value-greatest-requires
 least_value-greatest_value-greatest-requires t c = let h = c.loop-i-test.true in (
-      omega arith,
-      loops-before c.args.nest.now c.args.counts.now
-          (suc c.args.k) c.loop-i.i c.requires (omega arith),
-    )
+  omega arith,
+  loops-before c.args.nest.now c.args.counts.now
+      (suc c.args.k) c.loop-i.i c.requires (omega arith),
+)
 
 pub least_value-offset_bounds-outer-i : goal.least_value-offset_bounds-outer-i
 least_value-offset_bounds-outer-i t c = let f = c.requires.shallow
@@ -150,10 +150,10 @@ least_value-loop-i-preserved t c =
     let are : List Range → Type 0 = NeededAre a.nest.now a.counts.now (a.k * 32) (get_or a.counts.now (a.k * 2) 0) (l.i + 1) in (
       omega arith,
       elim c.if-has_coefficient.branch [
-        least_value-then-has_coefficient w ↦ subst are (sym w.outer-is) (needed-more a.nest.now a.counts.now (a.k * 32) (get_or a.counts.now (a.k * 2) 0) l.i
+        | least_value-then-has_coefficient w ↦ subst are (sym w.outer-is) (needed-more a.nest.now a.counts.now (a.k * 32) (get_or a.counts.now (a.k * 2) 0) l.i
             l.outer l.invariant.1 w.least_value-least.result.value w.greatest_value-greatest.result.value (omega arith)
             w.least_value-least.ensures w.greatest_value-greatest.ensures)
-      | least_value-else-has_coefficient w ↦ subst are (sym w.outer-is) (needed-free a.nest.now a.counts.now (a.k * 32) (get_or a.counts.now (a.k * 2) 0) l.i
+        | least_value-else-has_coefficient w ↦ subst are (sym w.outer-is) (needed-free a.nest.now a.counts.now (a.k * 32) (get_or a.counts.now (a.k * 2) 0) l.i
             l.outer l.invariant.1 (c.has_coefficient.ensures.0 w.if-has_coefficient.false))
       ],
     )

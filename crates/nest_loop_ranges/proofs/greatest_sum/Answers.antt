@@ -1,4 +1,3 @@
-use Prim.Native.Nat.{◌-◌}
 use native.Mathlib.Omega.{arith}
 use Rattle.nest_index_range.proofs.Sides.{upper}
 use Rattle.nest_loop_ranges.proofs.SumLaws.{nothing_yet, term_in, next-sum, whole_sum}

@@ -1,6 +1,5 @@
 use mathlib.Core.Path.{ap}
 use mathlib.Core.Bool.{false≢true, true≢false}
-use Prim.Native.Nat.{◌-◌}
 use native.Mathlib.Omega.{arith}
 use lib.IntN.{pos}
 use mir.Syntax.{w16}
@@ -21,10 +20,10 @@ returns-then-nest-j-ne0 c = (
 
 pub loop-l-preserved : goal.loop-l-preserved
 loop-l-preserved c = let s = c.args in let l = c.loop-l in let t = c.loop-l-test.true in (
-      omega arith,
-      free_more s.nest.now s.j l.l s.i l.invariant.1 (bits-inj {w = w16} (record { sfits = c.t13-1.given })
-          (sfits {z = pos 0} (omega arith)) c.if-nest-j-ne0.false),
-    )
+  omega arith,
+  free_more s.nest.now s.j l.l s.i l.invariant.1 (bits-inj {w = w16} (record { sfits = c.t13-1.given })
+      (sfits {z = pos 0} (omega arith)) c.if-nest-j-ne0.false),
+)
 
 pub returns : goal.returns
 returns c = (λ _ l h. c.loop-l.invariant.1 l (let t = c.loop-l-test.false in omega arith), λ e. absurd (false≢true e))

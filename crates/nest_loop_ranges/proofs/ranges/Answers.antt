@@ -1,5 +1,5 @@
 use mathlib.Core.Path.{◌≡◌, refl, subst}
-use Prim.Native.Nat.{ℕ, ◌-◌}
+use Prim.Native.Nat.{ℕ}
 use native.Mathlib.Omega.{arith}
 use Rattle.nest_loop_ranges.specs.Values.{RangesAre}
 use Rattle.nest_loop_ranges.proofs.RangeLaws.{none-held, more-held, loops-before}
@@ -34,11 +34,11 @@ loop-i-smaller c = let h = c.loop-i-test.true in omega arith
 
 pub loop-i-preserved : goal.loop-i-preserved
 loop-i-preserved c = let l = c.loop-i in let f = c.requires.shallow in let h = c.loop-i-test.true in (
-      omega arith,
-      more-held c.args.nest.now c.args.counts.now l.i l.r c.least_value-least.result.value
-          c.greatest_value-greatest.result.value (omega arith) l.invariant.1 c.least_value-least.ensures
-          c.greatest_value-greatest.ensures,
-    )
+  omega arith,
+  more-held c.args.nest.now c.args.counts.now l.i l.r c.least_value-least.result.value
+      c.greatest_value-greatest.result.value (omega arith) l.invariant.1 c.least_value-least.ensures
+      c.greatest_value-greatest.ensures,
+)
 
 pub returns : goal.returns
 returns c = let l = c.loop-i in let e : l.i ≡ c.args.n = omega arith in subst

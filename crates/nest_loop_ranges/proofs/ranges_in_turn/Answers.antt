@@ -1,5 +1,5 @@
 use mathlib.Core.Path.{◌≡◌, refl, subst}
-use Prim.Native.Nat.{ℕ, ◌-◌}
+use Prim.Native.Nat.{ℕ}
 use native.Mathlib.Omega.{arith}
 use Rattle.nest_loop_ranges.specs.Values.{RangesAre}
 use Rattle.nest_loop_ranges.proofs.RangeLaws.{none-held, more-held, loop-in, least_at, greatest-at, loops-before}

@@ -48,11 +48,11 @@ loop-i-smaller c = let h = c.loop-i-test.true in omega arith
 pub loop-i-preserved : goal.loop-i-preserved
 unfolding smallest_from greatest_of
 loop-i-preserved c = let l = c.loop-i in let v = c.limit_greatest-in-loop-i in let e = copied v.result v.ensures.1 in (
-      omega arith,
-      c.smaller-r.ensures.0 ∙ side_before upper (greatest_of (ranges_of c.args.k c.args.outer)) c.args.nest.now c.args.k
-          c.args.j c.args.n l.i c.loop-i-test.true l.invariant.0 l.r.value _ l.invariant.1 (e ∙ v.ensures.0),
-      c.smaller-r.ensures.1,
-    )
+  omega arith,
+  c.smaller-r.ensures.0 ∙ side_before upper (greatest_of (ranges_of c.args.k c.args.outer)) c.args.nest.now c.args.k
+      c.args.j c.args.n l.i c.loop-i-test.true l.invariant.0 l.r.value _ l.invariant.1 (e ∙ v.ensures.0),
+  c.smaller-r.ensures.1,
+)
 
 pub returns : goal.returns
 unfolding smallest_from greatest_of

@@ -1,5 +1,4 @@
 use mathlib.Core.Path.{refl, sym, ◌∙◌}
-use Prim.Native.Nat.{◌-◌}
 use native.Mathlib.Omega.{arith}
 use Rattle.nest_points.proofs.CollectLaws.{shallow, outer-range, last-in, last_out, start, same-room, turn_in, turn-out, level_out}
 use Rattle.nest_points.proofs.StepLaws.{index-fits, index-set, take-moved, length_moved, still_kept}
@@ -105,7 +104,7 @@ shape_of-out t c = let l = c.loop-t in same-room
 
 pub returns : goal.returns
 returns t c = let l = c.loop-t in (
-      level_out c.args.out.now c.requires.0 c.range-e.ensures c.index_count-n.ensures.0 l.t
-          l.p l.out l.invariant.0 c.loop-t-test.false l.invariant.1 l.invariant.2,
-      l.invariant.3,
-    )
+  level_out c.args.out.now c.requires.0 c.range-e.ensures c.index_count-n.ensures.0 l.t
+      l.p l.out l.invariant.0 c.loop-t-test.false l.invariant.1 l.invariant.2,
+  l.invariant.3,
+)

@@ -1,5 +1,4 @@
 use mathlib.Core.Path.{refl, sym, ◌∙◌}
-use Prim.Native.Nat.{◌-◌}
 use native.Mathlib.Omega.{arith}
 use Rattle.nest_points.proofs.StepLaws.{index-fits, index-set, take-moved, length_moved, still_kept}
 use Rattle.nest_points.proofs.WalkLaws.{room, outer-length, outer-range, leaf-in, leaf-out, start, turn_in, turn-out, level_out}
@@ -104,7 +103,7 @@ shape_of-point t c = c.loop-t.invariant.4
 
 pub returns : goal.returns
 returns t c = let l = c.loop-t in (
-      level_out c.requires.0 c.requires.1 c.if-left-eq1.false c.range-e.ensures
-          c.index_count-n.ensures.0 l.t l.b l.invariant.0 c.loop-t-test.false l.invariant.1 l.invariant.2,
-      l.invariant.3,
-    )
+  level_out c.requires.0 c.requires.1 c.if-left-eq1.false c.range-e.ensures
+      c.index_count-n.ensures.0 l.t l.b l.invariant.0 c.loop-t-test.false l.invariant.1 l.invariant.2,
+  l.invariant.3,
+)

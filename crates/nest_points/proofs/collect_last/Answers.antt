@@ -1,5 +1,4 @@
 use mathlib.Core.Path.{refl}
-use Prim.Native.Nat.{◌-◌}
 use native.Mathlib.Omega.{arith}
 use Rattle.nest_points.proofs.CollectLaws.{shallow, outer-range, start, same-room, point-fits, point-out, level_out}
 use Rattle.nest_points.proofs.collect_last.Goals as goal

@@ -1,5 +1,4 @@
 use mathlib.Core.Path.{sym}
-use Prim.Native.Nat.{◌-◌}
 use native.Mathlib.Omega.{arith}
 use Rattle.lists.proofs.PartLaws.{put-nil}
 use Rattle.nest_points.proofs.StoreLaws.{copy-room, copy_more, copy_done}

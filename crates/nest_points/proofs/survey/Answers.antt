@@ -1,4 +1,3 @@
-use Prim.Native.Nat.{◌-◌}
 use native.Mathlib.Omega.{arith}
 use Rattle.nest_points.proofs.DepthLaws.{tally-in, passes, counts, far-out, many-out, admitted-out}
 use Rattle.nest_points.proofs.survey.Goals as goal

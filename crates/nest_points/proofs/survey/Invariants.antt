@@ -4,7 +4,7 @@ use Prim.Native.Nat.{◌+◌, ◌-◌, ◌≤◌, ◌<◌}
 use lib.ListN.{length}
 use Rattle.model.specs.Points.{partial_points}
 use Rattle.nest_flat.specs.Flat.{loops_from}
-use Rattle.nest_points.proofs.DepthLaws.{Passed, counts}
+use Rattle.nest_points.proofs.DepthLaws.{Passed}
 use Rattle.nest_points.proofs.survey.Given as goal
 
 abbrev pub invariant-loop-level : goal.invariant-loop-level

@@ -1,5 +1,4 @@
 use mathlib.Core.Path.{◌∙◌}
-use Prim.Native.Nat.{◌-◌}
 use native.Mathlib.Omega.{arith}
 use Rattle.nest_quick_test.proofs.DivisorLaws.{gcd-none, magnitude-in, gcd-more, gcd-all}
 use Rattle.nest_quick_test.proofs.gcd_of_words.Goals as goal

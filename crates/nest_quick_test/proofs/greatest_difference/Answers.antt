@@ -7,8 +7,8 @@ use Rattle.nest_quick_test.proofs.greatest_difference.Goals as goal
 pub returns : goal.returns
 unfolding greatest_difference
 returns c = let x = c.greatest_sum-e in let y = c.least_sum-f in let d = c.constant_difference-c in (
-      difference-is c.args.words.now c.args.u c.args.v c.args.n c.args.ranges c.requires upper d.result.value x.result.value
-          y.result.value _
-          d.ensures.0 x.ensures.0 y.ensures.0 c.plus_difference.ensures.0,
-      c.plus_difference.ensures.1,
-    )
+  difference-is c.args.words.now c.args.u c.args.v c.args.n c.args.ranges c.requires upper d.result.value x.result.value
+      y.result.value _
+      d.ensures.0 x.ensures.0 y.ensures.0 c.plus_difference.ensures.0,
+  c.plus_difference.ensures.1,
+)

@@ -1,4 +1,3 @@
-use Prim.Native.Nat.{◌-◌}
 use native.Mathlib.Omega.{arith}
 use Rattle.nest_loop_ranges.specs.Ranges.{ranges_of}
 use Rattle.nest_quick_test.proofs.SearchLaws.{all-forms-left, form-pair-in, apart-found, fewer-forms-left, no-form-left}
@@ -34,10 +33,10 @@ loop-i-smaller c = let h = c.loop-i-test.true in omega arith
 
 pub loop-i-preserved : goal.loop-i-preserved
 loop-i-preserved c = let l = c.loop-i in let z = c.never_zero in let h = c.loop-i-test.true in (
-      omega arith,
-      fewer-forms-left (ranges_of c.args.n c.args.ranges) c.args.words.now c.args.u c.args.v c.args.d
-          c.args.n l.i h l.invariant.1 z.result z.ensures c.if-never_zero.false,
-    )
+  omega arith,
+  fewer-forms-left (ranges_of c.args.n c.args.ranges) c.args.words.now c.args.u c.args.v c.args.d
+      c.args.n l.i h l.invariant.1 z.result z.ensures c.if-never_zero.false,
+)
 
 pub returns : goal.returns
 returns c = let l = c.loop-i in let h = c.loop-i-test.false in

@@ -1,4 +1,3 @@
-use Prim.Native.Nat.{◌-◌}
 use native.Mathlib.Omega.{arith}
 use Rattle.nest_loop_ranges.proofs.SumLaws.{range-near}
 use Rattle.nest_quick_test.proofs.SearchLaws.{all-ranges-left, empty-found, fewer-ranges-left, no-range-left}
@@ -27,10 +26,10 @@ overflow_add-i c = let f = c.requires.few in omega arith
 
 pub loop-i-preserved : goal.loop-i-preserved
 loop-i-preserved c = let l = c.loop-i in (
-      omega arith,
-      fewer-ranges-left c.args.ranges c.args.n l.i c.requires c.loop-i-test.true l.invariant.1
-          c.range_is_empty.result c.range_is_empty.ensures c.if-range_is_empty.false,
-    )
+  omega arith,
+  fewer-ranges-left c.args.ranges c.args.n l.i c.requires c.loop-i-test.true l.invariant.1
+      c.range_is_empty.result c.range_is_empty.ensures c.if-range_is_empty.false,
+)
 
 pub returns : goal.returns
 returns c = let l = c.loop-i in no-range-left c.args.ranges c.args.n l.i (omega arith) l.invariant.1

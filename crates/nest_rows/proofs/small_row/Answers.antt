@@ -1,6 +1,4 @@
 use mathlib.Core.Path.{◌≡◌, sym, ◌∙◌, ap}
-use mathlib.Core.Bool.{true}
-use Prim.Native.Nat.{◌-◌}
 use native.Mathlib.Omega.{arith}
 use lib.IntN.{pos}
 use lib.ListN.{length, get_or, take}
@@ -22,7 +20,6 @@ returns-then-not-small_number c =
     let test : small (get_or (take c.args.n
     c.args.cs) c.loop-k.k (pos 0)) ≡ c.small_number.result = let x : to_z w32 (of_z w32 (get_or c.args.cs c.loop-k.k (pos 0))) ≡ get_or c.args.cs c.loop-k.k (pos 0) = search rules in
     sym (c.small_number.ensures ∙ ap small (x ∙ sym (get_or-take c.args.n c.args.cs c.loop-k.k (pos 0) (omega arith)))) in
-   
     let n = front in
     sym (all-broken small (take c.args.n c.args.cs) c.loop-k.k (pos 0) (omega arith)
     (test ∙ c.if-not-small_number.true))
@@ -34,7 +31,6 @@ loop-k-preserved c =
     let test : small (get_or (take c.args.n
     c.args.cs) c.loop-k.k (pos 0)) ≡ c.small_number.result = let x : to_z w32 (of_z w32 (get_or c.args.cs c.loop-k.k (pos 0))) ≡ get_or c.args.cs c.loop-k.k (pos 0) = search rules in
     sym (c.small_number.ensures ∙ ap small (x ∙ sym (get_or-take c.args.n c.args.cs c.loop-k.k (pos 0) (omega arith)))) in
-   
     let n = front in (
       omega arith,
       all-next small (take c.args.n c.args.cs) c.loop-k.k (pos 0) (omega arith) c.loop-k.invariant.1
@@ -45,6 +41,5 @@ pub returns : goal.returns
 returns c =
     let six : length c.args.cs ≡ 6 = search rules in
     let front : length (take c.args.n c.args.cs) ≡ c.args.n = let n = six in let p = c.requires in length-take-le c.args.n c.args.cs (omega arith) in
-   
     let n = front in
     sym (all_done small (take c.args.n c.args.cs) c.loop-k.k (omega arith) c.loop-k.invariant.1)

@@ -10,7 +10,7 @@ list_points-requires c = list-in _ c.args.count _ c.requires.0 most_points
 
 pub run_parts-requires : goal.run_parts-requires
 run_parts-requires c = let p = c.list_points in (
-      c.requires.0,
-      listed _ c.args.count _ c.requires.0 _ p.result p.ensures.0,
-      c.requires.1,
-    )
+  c.requires.0,
+  listed _ c.args.count _ c.requires.0 _ p.result p.ensures.0,
+  c.requires.1,
+)

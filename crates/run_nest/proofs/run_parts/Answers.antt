@@ -1,5 +1,4 @@
 use mathlib.Core.Path.{refl, ◌∙◌}
-use Prim.Native.Nat.{◌-◌}
 use native.Mathlib.Omega.{arith}
 use native.Mathlib.Nat.{mul-le-mul_left}
 use Rattle.run_nest.proofs.PartLaws.{none_passed, all-passed, begins, part_in, part-passed}
@@ -32,9 +31,9 @@ slice_bounds-run_part-count c = (begins _ c.args.points.now c.args.count c.args.
 
 pub run_part-requires : goal.run_part-requires
 run_part-requires c = let l = c.loop-first in let r = c.part_size-n in (
-      part_in _ c.args.points.now c.args.count c.args.store.now c.requires.0 c.requires.1 l.invariant.1 r.result r.ensures.1,
-      let m = mul-le-mul_left c.args.header.accesses r.ensures.2 in let k = l.invariant.0 in let n = c.requires.2 in omega arith,
-    )
+  part_in _ c.args.points.now c.args.count c.args.store.now c.requires.0 c.requires.1 l.invariant.1 r.result r.ensures.1,
+  let m = mul-le-mul_left c.args.header.accesses r.ensures.2 in let k = l.invariant.0 in let n = c.requires.2 in omega arith,
+)
 
 pub overflow_add-first : goal.overflow_add-first
 overflow_add-first c = let i = c.loop-first.invariant.1.inside
@@ -46,10 +45,10 @@ loop-first-smaller c = let t = c.loop-first-test.true
 
 pub loop-first-preserved : goal.loop-first-preserved
 loop-first-preserved c = let l = c.loop-first in let r = c.part_size-n in let k = c.run_part in (
-      k.auto.numbers ∙ l.invariant.0,
-      part-passed _ c.args.points.now c.args.count c.args.store.now c.requires.0 c.requires.1
-          l.invariant.1 r.result r.ensures.1 _ k.auto.store k.ensures,
-    )
+  k.auto.numbers ∙ l.invariant.0,
+  part-passed _ c.args.points.now c.args.count c.args.store.now c.requires.0 c.requires.1
+      l.invariant.1 r.result r.ensures.1 _ k.auto.store k.ensures,
+)
 
 pub shape_of-numbers : goal.shape_of-numbers
 shape_of-numbers c = c.loop-first.invariant.0

@@ -1,4 +1,4 @@
-use Rattle.std.proofs.Common.{◌-◌, refl, ◌∙◌, arith, length-set}
+use Rattle.std.proofs.Common.{refl, ◌∙◌, arith, length-set}
 use Rattle.run_statements.proofs.BaseLaws.{base-in, one-base, all-bases}
 use Rattle.run_statements.proofs.bases_of.Goals as goal
 

@@ -1,4 +1,4 @@
-use Rattle.std.proofs.Common.{◌≡◌, ℕ, ◌-◌, ap, ◌∙◌, ⊎_elim, arith}
+use Rattle.std.proofs.Common.{◌≡◌, ℕ, ap, ◌∙◌, arith}
 use Rattle.model.specs.Store.{most}
 use Rattle.run_statements.specs.Flat.{fetched}
 use Rattle.run_statements.proofs.RuleLaws.{one-read, most-none, most-new, most-old}
@@ -27,14 +27,14 @@ loop-i-smaller c = let t = c.loop-i-test.true in omega arith
 
 pub loop-i-preserved : goal.loop-i-preserved
 loop-i-preserved c = let l = c.loop-i in let t = c.loop-i-test.true in let v = c.read_word-v in (
-      omega arith,
-      elim c.if-r-v.branch [
-        then-r-v w ↦ w.r-is ∙ most-new c.args.numbers.now c.args.count c.args.x c.args.store.now c.args.k c.args.constant l.i
-            l.r v.result l.invariant.1 v.ensures w.if-r-v.true
-      | else-r-v w ↦ w.r-is ∙ most-old c.args.numbers.now c.args.count c.args.x c.args.store.now c.args.k c.args.constant l.i
-            l.r v.result l.invariant.1 v.ensures w.if-r-v.false
-      ],
-    )
+  omega arith,
+  elim c.if-r-v.branch [
+    | then-r-v w ↦ w.r-is ∙ most-new c.args.numbers.now c.args.count c.args.x c.args.store.now c.args.k c.args.constant l.i
+        l.r v.result l.invariant.1 v.ensures w.if-r-v.true
+    | else-r-v w ↦ w.r-is ∙ most-old c.args.numbers.now c.args.count c.args.x c.args.store.now c.args.k c.args.constant l.i
+        l.r v.result l.invariant.1 v.ensures w.if-r-v.false
+  ],
+)
 
 pub returns : goal.returns
 returns c = let l = c.loop-i in let e : l.i ≡ c.args.n = omega

@@ -1,4 +1,4 @@
-use Rattle.std.proofs.Common.{◌-◌, length, arith}
+use Rattle.std.proofs.Common.{length, arith}
 use Rattle.run_statements.proofs.BodyLaws.{still, none_done, all_done, one-done, accesses-end}
 use Rattle.run_statements.proofs.perform_all.Goals as goal
 
@@ -37,10 +37,10 @@ overflow_sub-m c = let e = accesses-end
 
 pub perform-requires : goal.perform-requires
 perform-requires c = let l = c.loop-i in (
-      still c.requires.0 (length l.store) l.invariant.same,
-      (accesses-end c.requires.1 c.args.numbers.now c.args.count c.args.x
-          c.args.store.now l.invariant c.loop-i-test.true).0,
-    )
+  still c.requires.0 (length l.store) l.invariant.same,
+  (accesses-end c.requires.1 c.args.numbers.now c.args.count c.args.x
+      c.args.store.now l.invariant c.loop-i-test.true).0,
+)
 
 pub overflow_add-k : goal.overflow_add-k
 overflow_add-k c = let l = c.loop-i in let f = c.requires.0.few in let e = accesses-end c.requires.1

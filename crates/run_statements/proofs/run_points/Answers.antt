@@ -1,4 +1,4 @@
-use Rattle.std.proofs.Common.{◌-◌, length, arith}
+use Rattle.std.proofs.Common.{length, arith}
 use Rattle.run_statements.proofs.BodyLaws.{still, none_passed, all-passed, one-passed}
 use Rattle.run_statements.proofs.run_points.Goals as goal
 

@@ -1,4 +1,4 @@
-use Rattle.std.proofs.Common.{◌≡◌, ℕ, ◌+◌, ◌-◌, ◌%◌, ◌^◌, ap, ◌∙◌, arith}
+use Rattle.std.proofs.Common.{◌≡◌, ℕ, ◌+◌, ◌%◌, ◌^◌, ap, ◌∙◌, arith}
 use Rattle.model.specs.Store.{sum}
 use Rattle.run_statements.specs.Flat.{fetched}
 use Rattle.run_statements.proofs.RuleLaws.{one-read, sum-none, sum-next}
@@ -29,11 +29,11 @@ loop-i-smaller c = let t = c.loop-i-test.true in omega arith
 
 pub loop-i-preserved : goal.loop-i-preserved
 loop-i-preserved c = let l = c.loop-i in let t = c.loop-i-test.true in (
-      omega arith,
-      sum-next c.args.numbers.now c.args.count c.args.x
-          c.args.store.now c.args.k c.args.constant l.i l.r c.read_word.result c.wrapping_add_u32-r.result l.invariant.1
-          c.read_word.ensures c.wrapping_add_u32-r.ensures.value,
-    )
+  omega arith,
+  sum-next c.args.numbers.now c.args.count c.args.x
+      c.args.store.now c.args.k c.args.constant l.i l.r c.read_word.result c.wrapping_add_u32-r.result l.invariant.1
+      c.read_word.ensures c.wrapping_add_u32-r.ensures.value,
+)
 
 pub returns : goal.returns
 returns c = let l = c.loop-i in let e : l.i ≡ c.args.n = omega

@@ -1,4 +1,3 @@
-use Prim.Native.Nat.{◌-◌}
 use Rattle.step_points.proofs.StepsLaws.{step-in, none-reached, one-reached, all-reached}
 use Rattle.step_points.proofs.depth_after_steps.Goals as goal
 

@@ -1,4 +1,4 @@
-use Prim.Native.Nat.{◌+◌, ◌-◌, ◌*◌, ◌≤◌}
+use Prim.Native.Nat.{◌+◌, ◌*◌, ◌≤◌}
 use native.Mathlib.Omega.{arith}
 use lib.ListN.{length}
 use Rattle.model.specs.Grammar.{most_loops}
@@ -29,7 +29,6 @@ overflow_mul-j-in-loop-j c =
 pub store_moved-requires : goal.store_moved-requires
 store_moved-requires c =
     let writes : c.loop-j.j * c.depth_after_steps-loops.result + most_loops ≤ length c.args.out.now = write-fits c.args.out.now c.requires c.depth_after_steps-loops.ensures c.loop-j.j c.loop-j-test.true in
-   
     let h = writes in
     let e = c.loop-j.invariant.room in (
       c.requires.taken,
@@ -47,9 +46,8 @@ pub shape_of-out : goal.shape_of-out
 shape_of-out c = c.loop-j.invariant.room
 
 pub returns : goal.returns
-returns c =
-    (
-      all-written c.args.out.now c.requires c.depth_after_steps-loops.ensures c.loop-j.out c.loop-j.j c.loop-j.invariant
-          c.loop-j-test.false,
-      c.loop-j.invariant.room,
-    )
+returns c = (
+  all-written c.args.out.now c.requires c.depth_after_steps-loops.ensures c.loop-j.out c.loop-j.j c.loop-j.invariant
+      c.loop-j-test.false,
+  c.loop-j.invariant.room,
+)

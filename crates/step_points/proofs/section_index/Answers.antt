@@ -1,5 +1,5 @@
 use mathlib.Core.Path.{◌≡◌, ◌∙◌}
-use Prim.Native.Nat.{ℕ, ◌-◌, ◌≤◌}
+use Prim.Native.Nat.{ℕ, ◌≤◌}
 use native.Mathlib.Omega.{arith}
 use lib.IntN.{pos}
 use lib.Signed.{◌<ℤ◌}
@@ -28,10 +28,10 @@ loop-j-init c = let n : length c.args.row ≡ 6 = search rules in (omega arith, 
 
 pub loop-j-preserved : goal.loop-j-preserved
 loop-j-preserved c = let n : length c.args.row ≡ 6 = search rules in (
-      omega arith,
-      simp length-set c.loop-j.invariant.1,
-      shift-more c.args.a c.loop-j.j c.loop-j.r c.args.row _ (omega arith) (omega arith) c.loop-j.invariant.2 (search rules),
-    )
+  omega arith,
+  simp length-set c.loop-j.invariant.1,
+  shift-more c.args.a c.loop-j.j c.loop-j.r c.args.row _ (omega arith) (omega arith) c.loop-j.invariant.2 (search rules),
+)
 
 pub floor_div-q-requires : goal.floor_div-q-requires
 floor_div-q-requires c = let a = c.requires.2 in rw (width c.args.w c.requires.3) (above c.args.w a)
@@ -44,10 +44,10 @@ take_widths-e-requires c =
     let part_small : size c.floor_div-q.result ≤ farthest = let y = at_y in let f = size-floor (get_or c.args.row c.args.a (pos 0)) (pos c.args.w)
     in rw part-is (omega arith) in
     let a = c.requires.3 in (
-  rw reads_y at_y,
-  rw (width c.args.w c.requires.3) (omega arith),
-  rw (index_back _ part_small) part_small,
-)
+      rw reads_y at_y,
+      rw (width c.args.w c.requires.3) (omega arith),
+      rw (index_back _ part_small) part_small,
+    )
 
 pub returns : goal.returns
 returns c =

@@ -16,7 +16,6 @@ pub store-requires : goal.store-requires
 store-requires c =
     let front : length (take c.point_after_steps-moved.result.depth c.point_after_steps-moved.result.row)
     ≡ c.point_after_steps-moved.result.depth = moved_length c.point_after_steps-moved.ensures in
-   
     let h = c.requires.2 in
     let e = front in
     let g = c.point_after_steps-moved.ensures.shallow in

@@ -7,7 +7,6 @@ use Rattle.ticket_refusals.proofs.StatusLaws.{not-fine}
 use Rattle.ticket_words.proofs.ReaderLaws.{seen, known_of, read-value, read-refusal}
 use Rattle.ticket_statements.proofs.AccessLaws.{array_count, array-dimensions, no-array, no-subscripts, one-access, filling-starts, next-in, filling-more, filling-no, filling-done, filling-laid}
 use borrow.Author.Rules.{rules}
-use Prim.Native.Nat.{◌-◌}
 use Rattle.ticket_statements.proofs.read_access.Goals as goal
 
 pub read_natural-requires : goal.read_natural-requires

@@ -6,7 +6,6 @@ use Rattle.ticket_refusals.proofs.StatusLaws.{not-fine}
 use Rattle.ticket_words.proofs.ReaderLaws.{seen, known_of, read-value, read-refusal}
 use Rattle.ticket_statements.proofs.AccessLaws.{no-count, passing-starts, passing-more, passing-no, passing-done}
 use borrow.Author.Rules.{rules}
-use Prim.Native.Nat.{◌-◌}
 use Rattle.ticket_statements.proofs.read_accesses.Goals as goal
 
 pub read_count-requires : goal.read_count-requires

@@ -1,5 +1,4 @@
 -- `read_statements`: i statements are read and laid, and the rest goes on from `next`.
-use borrow.Author.Rules.{rules}
 use Prim.Native.Nat.{◌-◌}
 use Rattle.nest_flat.specs.Layout.{arrays_of}
 use Rattle.ticket_statements.proofs.BodyLaws.{Filling}

@@ -1,0 +1,18 @@
+-- `pass_sinks`. The loop's invariant: the records with the sink statements before t have come by, and b is the first access of t.
+use mathlib.Core.Path.{◌≡◌}
+use Prim.Native.Nat.{◌*◌, ◌-◌, ◌≤◌}
+use lib.ListN.{length, take}
+use Rattle.model.specs.Directions.{kind_count}
+use Rattle.model.specs.Store.{sum}
+use Rattle.pair_records.specs.Conflicts.{sized}
+use Rattle.pair_records.specs.Statements.{block_records}
+use Rattle.pair_records.specs.Windows.{batch_room, Passes}
+use Rattle.pair_records.proofs.pass_sinks.Given as goal
+
+abbrev pub invariant-loop-t : goal.invariant-loop-t
+invariant-loop-t l = (l.t ≤ l.body) × (length l.found ≡ batch_room)
+    × (l.b ≡ sum (take l.t l.sizes))
+    × Passes l.initial.w l.initial.found l.w l.found (block_records (sized l.points l.depth l.count l.numbers l.sizes l.body) l.x l.y (l.s * l.body * kind_count) (l.t * kind_count))
+
+abbrev pub decreases-loop-t : goal.decreases-loop-t
+decreases-loop-t l = l.body - l.t

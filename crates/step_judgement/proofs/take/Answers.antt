@@ -1,0 +1,151 @@
+use mathlib.Core.Path.{◌≡◌, sym, ◌∙◌}
+use Prim.Native.Nat.{◌-◌, ◌<◌}
+use native.Mathlib.Omega.{arith}
+use lib.ListN.{length, get_or}
+use Rattle.model.specs.Ticket.{exchange}
+use Rattle.model.specs.Grammar.{depth_after}
+use Rattle.model.specs.Judge.{stages}
+use Rattle.step_kinds.specs.Kinds.{step_of, stage_of}
+use Rattle.step_kinds.specs.declared.Stage.{Stage}
+use Rattle.nest_flat.specs.FlatNests.{FlatNest}
+use Rattle.nest_flat.proofs.FlatNestLaws.{words_count, accessed-count, extents-count}
+use Rattle.step_judgement.specs.Judgement.{flat_nest_at, TakeIn}
+use Rattle.step_judgement.proofs.StepLaws.{stage-words, stage-taken}
+use Rattle.step_judgement.proofs.StageLaws.{first-underway, stage-in, stage-stops, stage-passes, stages-pass}
+use Rattle.step_judgement.proofs.take.Goals as goal
+
+pub loop-j-init : goal.loop-j-init
+loop-j-init c = (omega arith, first-underway (step_of c.args.step) c.args.number _ c.requires)
+
+pub stage_at-stage-requires : goal.stage_at-stage-requires
+stage_at-stage-requires c = let t = c.loop-j-test.true in let n = c.stage_count-count.ensures in omega (arith, t, n)
+
+pub overflow_mul-accesses : goal.overflow_mul-accesses
+overflow_mul-accesses c = let f = c.loop-j.invariant.1.flat-nest.few-accesses in omega arith
+
+pub slice_bounds-take_stage-end : goal.slice_bounds-take_stage-end
+slice_bounds-take_stage-end c = let i = c.loop-j.invariant.1.flat-nest in let f = i.few-accesses
+    in let l = i.words-length in omega arith
+
+pub slice_bounds-take_stage-end-in-loop-j : goal.slice_bounds-take_stage-end-in-loop-j
+slice_bounds-take_stage-end-in-loop-j c =
+    let Q : FlatNest = flat_nest_at c.args.header c.loop-j.loops c.loop-j.limits c.loop-j.counts c.loop-j.words in
+    sym (words_count Q c.loop-j.invariant.1.flat-nest)
+
+pub slice_bounds-accessed-end : goal.slice_bounds-accessed-end
+slice_bounds-accessed-end c = let i = c.loop-j.invariant.1.flat-nest in let f = i.few-accesses
+    in let l = i.accessed-length in omega arith
+
+pub slice_bounds-take_stage-end-in-loop-j-2 : goal.slice_bounds-take_stage-end-in-loop-j-2
+slice_bounds-take_stage-end-in-loop-j-2 c =
+    let Q : FlatNest = flat_nest_at c.args.header c.loop-j.loops c.loop-j.limits c.loop-j.counts c.loop-j.words in
+    sym (accessed-count Q c.loop-j.invariant.1.flat-nest)
+
+pub overflow_mul-extents : goal.overflow_mul-extents
+overflow_mul-extents c = let f = c.loop-j.invariant.1.flat-nest.few-arrays in omega arith
+
+pub slice_bounds-extents-end : goal.slice_bounds-extents-end
+slice_bounds-extents-end c = let i = c.loop-j.invariant.1.flat-nest in let f = i.few-arrays
+    in let l = i.extents-length in omega arith
+
+pub slice_bounds-take_stage-end-in-loop-j-3 : goal.slice_bounds-take_stage-end-in-loop-j-3
+slice_bounds-take_stage-end-in-loop-j-3 c =
+    let Q : FlatNest = flat_nest_at c.args.header c.loop-j.loops c.loop-j.limits c.loop-j.counts c.loop-j.words in
+    sym (extents-count Q c.loop-j.invariant.1.flat-nest)
+
+-- a stage that is left may be taken
+module _ (a : goal.At-loop) (h : a.loop-j.j < length (stages (step_of a.args.step))) (t : Stage)
+    (e : stage_of t ≡ get_or (stages (step_of a.args.step)) a.loop-j.j (exchange 0)) where
+  next-in : TakeIn (Q a) (stage_of t)
+  next-in = stage-in (stages (step_of a.args.step)) (depth_after (step_of a.args.step) a.args.depth) a.args.number (P a)
+      a.loop-j.j (Q a) a.loop-j.invariant.1 h (stage_of t) e
+
+pub take_stage-status-requires : goal.take_stage-status-requires
+take_stage-status-requires c =
+    let at = c.stage_at-stage in
+    let t = c.loop-j-test.true in
+    let n = c.stage_count-count.ensures in
+    let i = next-in c (omega (arith, t, n)) at.result at.ensures in
+    record { loops = record { nest = i.flat-nest.nest; there = i.there }; accesses = i.flat-nest.accesses-ok }
+
+pub shape_of-limits-in-Refused : goal.shape_of-limits-in-Refused
+shape_of-limits-in-Refused c =
+    let limits-kept : length c.loop-j.limits ≡ length c.args.limits.now = c.loop-j.invariant.1.flat-nest.nest.words ∙ sym c.requires.flat-nest.nest.words in
+    c.take_stage-status.auto.limits
+    ∙ limits-kept
+
+pub shape_of-counts-in-Refused : goal.shape_of-counts-in-Refused
+shape_of-counts-in-Refused c =
+    let counts-kept : length c.loop-j.counts ≡ length c.args.counts.now = c.loop-j.invariant.1.flat-nest.nest.counts ∙ sym c.requires.flat-nest.nest.counts in
+    c.take_stage-status.auto.counts
+    ∙ counts-kept
+
+pub shape_of-words-in-Refused : goal.shape_of-words-in-Refused
+shape_of-words-in-Refused c =
+    let Q : FlatNest = flat_nest_at c.args.header c.loop-j.loops c.loop-j.limits c.loop-j.counts c.loop-j.words in
+   
+    let at = c.stage_at-stage in
+    let g = c.take_stage-status in
+    let t = c.loop-j-test.true in
+    let n = c.stage_count-count.ensures in
+    stage-words Q at.result (next-in c (omega (arith, t, n)) at.result at.ensures) c.args.number g.result _ _ _ g.ensures
+    ∙ sym c.requires.flat-nest.words-length
+
+pub returns-in-Refused : goal.returns-in-Refused
+returns-in-Refused c =
+    let P : FlatNest = flat_nest_at c.args.header c.args.depth c.args.limits.now c.args.counts.now c.args.words.now in
+    let Q : FlatNest = flat_nest_at c.args.header c.loop-j.loops c.loop-j.limits c.loop-j.counts c.loop-j.words in
+   
+    let at = c.stage_at-stage in
+    let g = c.take_stage-status in
+    let t = c.loop-j-test.true in
+    let n = c.stage_count-count.ensures in
+    let h : c.loop-j.j < length (stages (step_of c.args.step)) = omega (arith, t, n) in
+    stage-stops (stages (step_of c.args.step)) (depth_after (step_of c.args.step) c.args.depth) c.args.number P c.loop-j.j Q
+    c.loop-j.invariant.1 h (stage_of at.result) at.ensures g.result _ _ _
+    (stage-taken Q at.result (next-in c h at.result at.ensures) c.args.number g.result _ _ _ g.ensures) _
+    c.in-Refused.is _ _ _
+
+pub depth_after_stage-loops-requires : goal.depth_after_stage-loops-requires
+depth_after_stage-loops-requires c = c.loop-j.invariant.1.flat-nest.nest.shallow
+
+pub loop-j-preserved : goal.loop-j-preserved
+loop-j-preserved c =
+    let P : FlatNest = flat_nest_at c.args.header c.args.depth c.args.limits.now c.args.counts.now c.args.words.now in
+    let Q : FlatNest = flat_nest_at c.args.header c.loop-j.loops c.loop-j.limits c.loop-j.counts c.loop-j.words in
+   
+    let at = c.stage_at-stage in
+    let g = c.take_stage-status in
+    let t = c.loop-j-test.true in
+    let n = c.stage_count-count.ensures in
+    let h : c.loop-j.j < length (stages (step_of c.args.step)) = omega (arith, t, n) in (
+      omega (arith, h),
+      stage-passes (stages (step_of c.args.step)) (depth_after (step_of c.args.step) c.args.depth) c.args.number P c.loop-j.j Q
+          c.loop-j.invariant.1 h (stage_of at.result) at.ensures g.result _ _ _
+          (stage-taken Q at.result (next-in c h at.result at.ensures) c.args.number g.result _ _ _ g.ensures)
+          c.in-Fine.is c.depth_after_stage-loops.result c.depth_after_stage-loops.ensures,
+    )
+
+pub shape_of-limits : goal.shape_of-limits
+shape_of-limits c =
+    let limits-kept : length c.loop-j.limits ≡ length c.args.limits.now = c.loop-j.invariant.1.flat-nest.nest.words ∙ sym c.requires.flat-nest.nest.words in
+    limits-kept
+
+pub shape_of-counts : goal.shape_of-counts
+shape_of-counts c =
+    let counts-kept : length c.loop-j.counts ≡ length c.args.counts.now = c.loop-j.invariant.1.flat-nest.nest.counts ∙ sym c.requires.flat-nest.nest.counts in
+    counts-kept
+
+pub shape_of-words : goal.shape_of-words
+shape_of-words c =
+    let words-kept : length c.loop-j.words ≡ length c.args.words.now = c.loop-j.invariant.1.flat-nest.words-length ∙ sym c.requires.flat-nest.words-length in
+    words-kept
+
+pub returns : goal.returns
+returns c =
+    let P : FlatNest = flat_nest_at c.args.header c.args.depth c.args.limits.now c.args.counts.now c.args.words.now in
+   
+    let t = c.loop-j-test.false in
+    stages-pass (stages (step_of c.args.step)) (depth_after (step_of c.args.step) c.args.depth) c.args.number P c.loop-j.j
+    c.stage_count-count.result c.loop-j.loops c.loop-j.limits c.loop-j.counts c.loop-j.words c.loop-j.invariant.1 c.loop-j.invariant.0
+    c.stage_count-count.ensures (omega (arith, t))
