@@ -1,12 +1,10 @@
 use mathlib.Core.Path.{◌≡◌, sym, ◌∙◌}
-use Prim.Native.Nat.{◌-◌, ◌<◌}
+use Prim.Native.Nat.{◌<◌}
 use native.Mathlib.Omega.{arith}
-use lib.ListN.{length, get_or}
-use Rattle.model.specs.Ticket.{exchange}
+use lib.ListN.{length}
 use Rattle.model.specs.Grammar.{depth_after}
 use Rattle.model.specs.Judge.{stages}
 use Rattle.step_kinds.specs.Kinds.{step_of, stage_of}
-use Rattle.step_kinds.specs.declared.Stage.{Stage}
 use Rattle.nest_flat.specs.FlatNests.{FlatNest}
 use Rattle.nest_flat.proofs.FlatNestLaws.{words_count, accessed-count, extents-count}
 use Rattle.step_judgement.specs.Judgement.{flat_nest_at, TakeIn}
@@ -60,8 +58,8 @@ take_stage-status-requires c =
     let at = c.stage_at-stage in
     -- a stage that is left may be taken
     let next-in : c.loop-j.j < length (stages (step_of c.args.step)) → TakeIn Q (stage_of at.result) =
-        λ h. stage-in (stages (step_of c.args.step)) (depth_after (step_of c.args.step) c.args.depth) c.args.number P
-        c.loop-j.j Q c.loop-j.invariant.1 h (stage_of at.result) at.ensures in
+    λ h. stage-in (stages (step_of c.args.step)) (depth_after (step_of c.args.step) c.args.depth) c.args.number P
+    c.loop-j.j Q c.loop-j.invariant.1 h (stage_of at.result) at.ensures in
     let t = c.loop-j-test.true in
     let n = c.stage_count-count.ensures in
     let i = next-in (omega (arith, t, n)) in
@@ -86,8 +84,8 @@ shape_of-words-in-Refused c =
     let at = c.stage_at-stage in
     -- a stage that is left may be taken
     let next-in : c.loop-j.j < length (stages (step_of c.args.step)) → TakeIn Q (stage_of at.result) =
-        λ h. stage-in (stages (step_of c.args.step)) (depth_after (step_of c.args.step) c.args.depth) c.args.number P
-        c.loop-j.j Q c.loop-j.invariant.1 h (stage_of at.result) at.ensures in
+    λ h. stage-in (stages (step_of c.args.step)) (depth_after (step_of c.args.step) c.args.depth) c.args.number P
+    c.loop-j.j Q c.loop-j.invariant.1 h (stage_of at.result) at.ensures in
     let g = c.take_stage-status in
     let t = c.loop-j-test.true in
     let n = c.stage_count-count.ensures in
@@ -101,8 +99,8 @@ returns-in-Refused c =
     let at = c.stage_at-stage in
     -- a stage that is left may be taken
     let next-in : c.loop-j.j < length (stages (step_of c.args.step)) → TakeIn Q (stage_of at.result) =
-        λ h. stage-in (stages (step_of c.args.step)) (depth_after (step_of c.args.step) c.args.depth) c.args.number P
-        c.loop-j.j Q c.loop-j.invariant.1 h (stage_of at.result) at.ensures in
+    λ h. stage-in (stages (step_of c.args.step)) (depth_after (step_of c.args.step) c.args.depth) c.args.number P
+    c.loop-j.j Q c.loop-j.invariant.1 h (stage_of at.result) at.ensures in
     let g = c.take_stage-status in
     let t = c.loop-j-test.true in
     let n = c.stage_count-count.ensures in
@@ -122,8 +120,8 @@ loop-j-preserved c =
     let at = c.stage_at-stage in
     -- a stage that is left may be taken
     let next-in : c.loop-j.j < length (stages (step_of c.args.step)) → TakeIn Q (stage_of at.result) =
-        λ h. stage-in (stages (step_of c.args.step)) (depth_after (step_of c.args.step) c.args.depth) c.args.number P
-        c.loop-j.j Q c.loop-j.invariant.1 h (stage_of at.result) at.ensures in
+    λ h. stage-in (stages (step_of c.args.step)) (depth_after (step_of c.args.step) c.args.depth) c.args.number P
+    c.loop-j.j Q c.loop-j.invariant.1 h (stage_of at.result) at.ensures in
     let g = c.take_stage-status in
     let t = c.loop-j-test.true in
     let n = c.stage_count-count.ensures in
@@ -153,7 +151,6 @@ shape_of-words c =
 pub returns : goal.returns
 returns c =
     let P : FlatNest = flat_nest_at c.args.header c.args.depth c.args.limits.now c.args.counts.now c.args.words.now in
-   
     let t = c.loop-j-test.false in
     stages-pass (stages (step_of c.args.step)) (depth_after (step_of c.args.step) c.args.depth) c.args.number P c.loop-j.j
     c.stage_count-count.result c.loop-j.loops c.loop-j.limits c.loop-j.counts c.loop-j.words c.loop-j.invariant.1 c.loop-j.invariant.0
