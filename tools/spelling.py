@@ -3,8 +3,8 @@
 
 usage: python3 tools/spelling.py        at the top of the repository
 
-A definition `loopAt` becomes `loop_at` in specs/, proofs/, contracts, must-fail edits and documents. Where the new name is also that of a function
-of the crate, its contracts name the definition by its path. Lemmas that port.py has given the new name of a definition get their dash back.
+A definition `loopAt` becomes `loop_at` in specs/, proofs/, contracts, must-fail edits and documents. Lemmas that port.py has given the new name of a definition get their
+dash back.
 Must-fail edits are brought to the form of contracts too (a result, old and new values, no corner brackets)."""
 import glob
 import os
@@ -45,21 +45,6 @@ def own_names():
     return names
 
 
-def with_paths(text, functions):
-    """The definitions whose new names are functions of this crate, by their paths."""
-    for name in sorted(set(CAMEL.findall(text))):
-        if snake(name) not in functions:
-            continue
-        for module, items in re.findall(r"(?m)^ghost use ([\w.]+)\.\{([^}]*)\};$", text):
-            if name not in [i.strip() for i in items.split(",")]:
-                continue
-            kept = ", ".join(i.strip() for i in items.split(",") if i.strip() != name)
-            line = f"ghost use {module}.{{{kept}}};\n" if kept else ""
-            text = text.replace(f"ghost use {module}.{{{items}}};\n", line)
-            text = re.sub(rf"(?<![\w'.]){name}(?![\w'])", f"{module}.{name}", text)
-    return text
-
-
 def respelled(text, names):
     return CAMEL.sub(lambda m: snake(m.group(1)) if m.group(1) in names else m.group(1), text)
 
@@ -83,11 +68,8 @@ def edit_lines(text):
 
 def main():
     names = own_names()
-    for crate in sorted(os.listdir("crates")):
-        sources = below(f"crates/{crate}/src/**/*.rt")
-        functions = set(re.findall(r"\bfn ([a-z_0-9]+)", "".join(read(p) for p in sources)))
-        for path in sources:
-            write(path, respelled(with_paths(read(path), functions), names))
+    for path in below("crates/*/src/**/*.rt"):
+        write(path, respelled(read(path), names))
     for path in below("crates/*/specs/**/*.antt", "crates/*/proofs/**/*.antt"):
         text = read(path)
         for name in DASHED:

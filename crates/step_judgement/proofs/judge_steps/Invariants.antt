@@ -7,7 +7,7 @@ use Rattle.step_judgement.proofs.judge_steps.Given as goal
 
 abbrev pub invariant-loop-k : goal.invariant-loop-k
 invariant-loop-k l = SoFar
-    (record { l.count = l.count; steps = l.all }) (flat_nest l.header l.initial.limits l.initial.words) l.initial.vectors (flat_nest_at l.header l.depth l.limits l.counts l.words) l.vectors l.k
+    (record { count = l.count; steps = l.all }) (flat_nest l.header l.initial.limits l.initial.words) l.initial.vectors (flat_nest_at l.header l.depth l.limits l.counts l.words) l.vectors l.k
 
 abbrev pub decreases-loop-k : goal.decreases-loop-k
 decreases-loop-k l = l.count - l.k

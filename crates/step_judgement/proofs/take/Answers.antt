@@ -1,12 +1,10 @@
 use mathlib.Core.Path.{◌≡◌, sym, ◌∙◌}
-use Prim.Native.Nat.{◌-◌, ◌<◌}
+use Prim.Native.Nat.{◌<◌}
 use native.Mathlib.Omega.{arith}
-use lib.ListN.{length, get_or}
-use Rattle.model.specs.Ticket.{exchange}
+use lib.ListN.{length}
 use Rattle.model.specs.Grammar.{depth_after}
 use Rattle.model.specs.Judge.{stages}
 use Rattle.step_kinds.specs.Kinds.{step_of, stage_of}
-use Rattle.step_kinds.specs.declared.Stage.{Stage}
 use Rattle.nest_flat.specs.FlatNests.{FlatNest}
 use Rattle.nest_flat.proofs.FlatNestLaws.{words_count, accessed-count, extents-count}
 use Rattle.step_judgement.specs.Judgement.{flat_nest_at, TakeIn}
@@ -53,19 +51,18 @@ slice_bounds-take_stage-end-in-loop-j-3 c =
     let Q : FlatNest = flat_nest_at c.args.header c.loop-j.loops c.loop-j.limits c.loop-j.counts c.loop-j.words in
     sym (extents-count Q c.loop-j.invariant.1.flat-nest)
 
--- a stage that is left may be taken
-module _ (a : goal.At-loop) (h : a.loop-j.j < length (stages (step_of a.args.step))) (t : Stage)
-    (e : stage_of t ≡ get_or (stages (step_of a.args.step)) a.loop-j.j (exchange 0)) where
-  next-in : TakeIn (Q a) (stage_of t)
-  next-in = stage-in (stages (step_of a.args.step)) (depth_after (step_of a.args.step) a.args.depth) a.args.number (P a)
-      a.loop-j.j (Q a) a.loop-j.invariant.1 h (stage_of t) e
-
 pub take_stage-status-requires : goal.take_stage-status-requires
 take_stage-status-requires c =
+    let P : FlatNest = flat_nest_at c.args.header c.args.depth c.args.limits.now c.args.counts.now c.args.words.now in
+    let Q : FlatNest = flat_nest_at c.args.header c.loop-j.loops c.loop-j.limits c.loop-j.counts c.loop-j.words in
     let at = c.stage_at-stage in
+    -- a stage that is left may be taken
+    let next-in : c.loop-j.j < length (stages (step_of c.args.step)) → TakeIn Q (stage_of at.result) =
+    λ h. stage-in (stages (step_of c.args.step)) (depth_after (step_of c.args.step) c.args.depth) c.args.number P
+    c.loop-j.j Q c.loop-j.invariant.1 h (stage_of at.result) at.ensures in
     let t = c.loop-j-test.true in
     let n = c.stage_count-count.ensures in
-    let i = next-in c (omega (arith, t, n)) at.result at.ensures in
+    let i = next-in (omega (arith, t, n)) in
     record { loops = record { nest = i.flat-nest.nest; there = i.there }; accesses = i.flat-nest.accesses-ok }
 
 pub shape_of-limits-in-Refused : goal.shape_of-limits-in-Refused
@@ -82,28 +79,35 @@ shape_of-counts-in-Refused c =
 
 pub shape_of-words-in-Refused : goal.shape_of-words-in-Refused
 shape_of-words-in-Refused c =
+    let P : FlatNest = flat_nest_at c.args.header c.args.depth c.args.limits.now c.args.counts.now c.args.words.now in
     let Q : FlatNest = flat_nest_at c.args.header c.loop-j.loops c.loop-j.limits c.loop-j.counts c.loop-j.words in
-   
     let at = c.stage_at-stage in
+    -- a stage that is left may be taken
+    let next-in : c.loop-j.j < length (stages (step_of c.args.step)) → TakeIn Q (stage_of at.result) =
+    λ h. stage-in (stages (step_of c.args.step)) (depth_after (step_of c.args.step) c.args.depth) c.args.number P
+    c.loop-j.j Q c.loop-j.invariant.1 h (stage_of at.result) at.ensures in
     let g = c.take_stage-status in
     let t = c.loop-j-test.true in
     let n = c.stage_count-count.ensures in
-    stage-words Q at.result (next-in c (omega (arith, t, n)) at.result at.ensures) c.args.number g.result _ _ _ g.ensures
+    stage-words Q at.result (next-in (omega (arith, t, n))) c.args.number g.result _ _ _ g.ensures
     ∙ sym c.requires.flat-nest.words-length
 
 pub returns-in-Refused : goal.returns-in-Refused
 returns-in-Refused c =
     let P : FlatNest = flat_nest_at c.args.header c.args.depth c.args.limits.now c.args.counts.now c.args.words.now in
     let Q : FlatNest = flat_nest_at c.args.header c.loop-j.loops c.loop-j.limits c.loop-j.counts c.loop-j.words in
-   
     let at = c.stage_at-stage in
+    -- a stage that is left may be taken
+    let next-in : c.loop-j.j < length (stages (step_of c.args.step)) → TakeIn Q (stage_of at.result) =
+    λ h. stage-in (stages (step_of c.args.step)) (depth_after (step_of c.args.step) c.args.depth) c.args.number P
+    c.loop-j.j Q c.loop-j.invariant.1 h (stage_of at.result) at.ensures in
     let g = c.take_stage-status in
     let t = c.loop-j-test.true in
     let n = c.stage_count-count.ensures in
     let h : c.loop-j.j < length (stages (step_of c.args.step)) = omega (arith, t, n) in
     stage-stops (stages (step_of c.args.step)) (depth_after (step_of c.args.step) c.args.depth) c.args.number P c.loop-j.j Q
     c.loop-j.invariant.1 h (stage_of at.result) at.ensures g.result _ _ _
-    (stage-taken Q at.result (next-in c h at.result at.ensures) c.args.number g.result _ _ _ g.ensures) _
+    (stage-taken Q at.result (next-in h) c.args.number g.result _ _ _ g.ensures) _
     c.in-Refused.is _ _ _
 
 pub depth_after_stage-loops-requires : goal.depth_after_stage-loops-requires
@@ -113,8 +117,11 @@ pub loop-j-preserved : goal.loop-j-preserved
 loop-j-preserved c =
     let P : FlatNest = flat_nest_at c.args.header c.args.depth c.args.limits.now c.args.counts.now c.args.words.now in
     let Q : FlatNest = flat_nest_at c.args.header c.loop-j.loops c.loop-j.limits c.loop-j.counts c.loop-j.words in
-   
     let at = c.stage_at-stage in
+    -- a stage that is left may be taken
+    let next-in : c.loop-j.j < length (stages (step_of c.args.step)) → TakeIn Q (stage_of at.result) =
+    λ h. stage-in (stages (step_of c.args.step)) (depth_after (step_of c.args.step) c.args.depth) c.args.number P
+    c.loop-j.j Q c.loop-j.invariant.1 h (stage_of at.result) at.ensures in
     let g = c.take_stage-status in
     let t = c.loop-j-test.true in
     let n = c.stage_count-count.ensures in
@@ -122,7 +129,7 @@ loop-j-preserved c =
       omega (arith, h),
       stage-passes (stages (step_of c.args.step)) (depth_after (step_of c.args.step) c.args.depth) c.args.number P c.loop-j.j Q
           c.loop-j.invariant.1 h (stage_of at.result) at.ensures g.result _ _ _
-          (stage-taken Q at.result (next-in c h at.result at.ensures) c.args.number g.result _ _ _ g.ensures)
+          (stage-taken Q at.result (next-in h) c.args.number g.result _ _ _ g.ensures)
           c.in-Fine.is c.depth_after_stage-loops.result c.depth_after_stage-loops.ensures,
     )
 
@@ -144,7 +151,6 @@ shape_of-words c =
 pub returns : goal.returns
 returns c =
     let P : FlatNest = flat_nest_at c.args.header c.args.depth c.args.limits.now c.args.counts.now c.args.words.now in
-   
     let t = c.loop-j-test.false in
     stages-pass (stages (step_of c.args.step)) (depth_after (step_of c.args.step) c.args.depth) c.args.number P c.loop-j.j
     c.stage_count-count.result c.loop-j.loops c.loop-j.limits c.loop-j.counts c.loop-j.words c.loop-j.invariant.1 c.loop-j.invariant.0
