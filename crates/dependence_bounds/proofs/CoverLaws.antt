@@ -1,9 +1,9 @@
 -- Where every pair of accesses is covered, every line of the nest's listing is marked (`covered-marked`): the two accesses of a dependence have
 -- numbers, its two iterations are in the loops' ranges, and its vector is one that is covered.
-use mathlib.Core.Path.{◌≡◌, refl, sym, ap, ap₂, ◌∙◌, subst}
+use mathlib.Core.Path.{◌≡◌, sym, ap, ap₂, ◌∙◌, subst}
 use mathlib.Core.Bool.{Bool, true, false}
 use mathlib.Core.Logic.{◌⊎◌, inl, inr, ⊎_elim}
-use mathlib.Core.List.{List, [], ◌∷◌, map}
+use mathlib.Core.List.{List, map}
 use Prim.Native.Nat.{ℕ, ◌+◌, ◌*◌, ◌<◌}
 use native.Mathlib.Omega.{arith}
 use native.Mathlib.Nat.{zero-add, add-zero}
@@ -11,21 +11,19 @@ use lib.Dec.{T, ltb, lt→ltb}
 use lib.IntN.{ℤ}
 use lib.ListN.{length, get_or, get_or-map}
 use Rattle.integers.specs.Sign.{Sign}
-use Rattle.integers.specs.Affine.{Within}
-use Rattle.lists.specs.Membership.{Mem, All}
+use Rattle.lists.specs.Membership.{Mem}
 use Rattle.lists.proofs.MembershipLaws.{mem-get_d}
 use Rattle.lists.proofs.TestLaws.{true-T, T_true}
 use Rattle.model.specs.Answer.{accepted}
-use Rattle.model.specs.Ticket.{Access, Statement}
-use Rattle.model.specs.Bounds.{subscript_at, space, admitted}
+use Rattle.model.specs.Ticket.{Access}
+use Rattle.model.specs.Bounds.{subscript_at, admitted}
 use Rattle.model.specs.Points.{iterations}
 use Rattle.model.specs.Machine.{Element, element, body_at}
-use Rattle.model.specs.Inside.{Earlier}
 use Rattle.model.specs.Shape.{WellFormed}
-use Rattle.model.specs.Quick.{Range, ranges, InRanges}
-use Rattle.model.specs.Directions.{signs, earlier, Kind, Line, kind_count, vector_count}
+use Rattle.model.specs.Quick.{Range, InRanges}
+use Rattle.model.specs.Directions.{signs, earlier, Line, kind_count, vector_count}
 use Rattle.model.specs.Listing.{lines_of}
-use Rattle.model.specs.Promises.{Fitting, source_accesses, sink_accesses, Dependence}
+use Rattle.model.specs.Promises.{Fitting, Dependence}
 use Rattle.model.proofs.Points.PointLaws.{iterations-inside}
 use Rattle.model.proofs.Points.WithinLaws.{space-within}
 use Rattle.model.proofs.Quick.QuickRangeLaws.{in-ranges}
@@ -39,9 +37,9 @@ use Rattle.dependence_search.specs.Flat.{kind_of, Use, uses, no_use, use_at}
 use Rattle.dependence_search.proofs.UseLaws.{side, of-uses}
 use Rattle.dependence_search.proofs.KindLaws.{source_writes, sink_writes, kind-is, kind-small, source-side, sink-side}
 use Rattle.dependence_listing_text.specs.Text.{marked}
-use Rattle.nest_flat.specs.FlatNests.{FlatNest, extents_in, accessed_in, words_in, nest_of, FlatNestIn, access_of}
+use Rattle.nest_flat.specs.FlatNests.{FlatNest, extents_in, accessed_in, words_in, nest_of, FlatNestIn}
 use Rattle.nest_flat.proofs.FlatNestLaws.{access-is, accessed-count}
-use Rattle.dependence_marks.proofs.MarkLaws.{statement-count, use-access, use-count}
+use Rattle.dependence_marks.proofs.MarkLaws.{use-access, use-count}
 use Rattle.dependence_bounds.specs.Covered.{kind_at}
 use Rattle.dependence_bounds.specs.KnownLines.{pairs_of, FlatNestCovered, RangesOn}
 

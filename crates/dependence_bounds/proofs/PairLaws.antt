@@ -1,9 +1,9 @@
 -- One pair of accesses, as the code goes: it is no conflict, the arrays differ, or what Banerjee's inequalities are asked is met and their answer
 -- covers the pair. Then the loops over sinks and sources.
-use mathlib.Core.Path.{◌≡◌, sym, ap, ap₂, ◌∙◌, subst}
-use mathlib.Core.Bool.{Bool, true, false}
+use mathlib.Core.Path.{◌≡◌, ap, ◌∙◌, subst}
+use mathlib.Core.Bool.{Bool, true}
 use mathlib.Core.List.{List}
-use Prim.Native.Nat.{ℕ, zero, suc, ◌+◌, ◌*◌, ◌/◌, ◌^◌, ◌≤◌, ◌<◌}
+use Prim.Native.Nat.{ℕ, ◌+◌, ◌*◌, ◌^◌, ◌≤◌, ◌<◌}
 use native.Mathlib.Omega.{arith}
 use native.Mathlib.Nat.{mul-le-mul}
 use native.Mathlib.Decide.{dec_lt}
@@ -14,7 +14,7 @@ use Rattle.model.specs.Directions.{kind_count}
 use Rattle.dependence_banerjee.specs.Covers.{Covers, CoverIn}
 use Rattle.dependence_vectors.specs.Numbers.{place_of, marks_for}
 use Rattle.dependence_search.proofs.FlatLaws.{block-fits}
-use Rattle.dependence_bounds.specs.Covered.{Pairs, PairsIn, kind_at, PairCovered, CoveredFrom, CoveredTo}
+use Rattle.dependence_bounds.specs.Covered.{Pairs, PairsIn, kind_at, PairCovered}
 
 module _ (F : Pairs) (m : List Bool) (p : PairsIn F m) (a b : ℕ) (la : a < length F.accessed) (lb : b < length F.accessed) where
   abbrev s : ℕ

@@ -5,21 +5,21 @@ use mathlib.Core.List.{List, [], ◌∷◌, ◌++◌, map}
 use Prim.Native.Nat.{ℕ, zero, suc, ◌+◌, ◌*◌, ◌-◌, ◌≤◌, ◌<◌}
 use native.Mathlib.Omega.{arith}
 use lib.IntN.{ℤ}
-use lib.ListN.{length, get_or, take, drop, length-drop}
+use lib.ListN.{length, get_or, drop, length-drop}
 use lib.Seq.{length-take-le}
 use Rattle.lists.specs.Membership.{Mem, All}
 use Rattle.lists.proofs.TestLaws.{false-not-T}
 use Rattle.model.specs.Ticket.{Limit, Statement}
 use Rattle.model.specs.Points.{iterations}
 use Rattle.model.specs.Inside.{Inside}
-use Rattle.model.specs.Shape.{Sized, Shaped, Runs, FitsAll, WellFormed}
+use Rattle.model.specs.Shape.{Sized, Shaped, Runs, WellFormed}
 use Rattle.model.specs.Machine.{body_at}
 use Rattle.model.specs.Directions.{Line}
 use Rattle.model.specs.Listing.{lines_of}
 use Rattle.model.specs.Answer.{accepted}
 use Rattle.model.specs.Grammar.{extents, nest_room}
 use Rattle.model.specs.Bounds.{subscript_at, violates, in_arrays}
-use Rattle.model.specs.Promises.{Fitting, source_accesses, sink_accesses, Dependence}
+use Rattle.model.specs.Promises.{source_accesses, sink_accesses}
 use Rattle.model.proofs.Points.ArrayLaws.{off-outside, arrays-inside, accepted-arrays}
 use Rattle.model.proofs.Points.PointLaws.{iterations-inside}
 use Rattle.model.proofs.Listing.ListingLaws.{lines_of-exact}

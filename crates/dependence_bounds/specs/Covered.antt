@@ -1,5 +1,5 @@
 -- Accesses as flat data, and marks that have every vector which Banerjee's inequalities allow a pair of them.
-use Rattle.std.specs.Prelude.{◌≡◌, Bool, true, false, List, ℕ, ◌*◌, ◌≤◌, ◌<◌, ltb, ℤ, length, get_or}
+use Rattle.std.specs.Prelude.{◌≡◌, Bool, false, List, ℕ, ◌*◌, ◌≤◌, ◌<◌, ltb, ℤ, length, get_or}
 use Rattle.model.specs.Grammar.{most_statements, array_room}
 use Rattle.model.specs.Directions.{kind_count}
 use Rattle.nest_flat.specs.Layout.{AccessesOk}

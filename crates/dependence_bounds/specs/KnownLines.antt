@@ -1,5 +1,5 @@
 -- A flat nest with other limits, and the lines of a nest as they are known without its points.
-use Rattle.std.specs.Prelude.{◌≡◌, Bool, false, List, map, ℕ, ◌*◌, ◌≤◌, ℤ, length, get_or}
+use Rattle.std.specs.Prelude.{◌≡◌, Bool, false, List, map, ℕ, ◌≤◌, ℤ, length, get_or}
 use Rattle.model.specs.Answer.{accepted}
 use Rattle.model.specs.Bounds.{admitted}
 use Rattle.model.specs.Quick.{ranges}
