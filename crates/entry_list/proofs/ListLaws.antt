@@ -20,9 +20,7 @@ use Rattle.model.specs.Entries.{Outcome, hand_out, list, list_of}
 use Rattle.ticket_refusals.specs.declared.Refusal.{Refusal}
 use Rattle.ticket_refusals.specs.declared.Refusal.TheVariants.{BufferTooShort}
 use Rattle.ticket_refusals.specs.declared.Status.{Status}
-use Rattle.ticket_refusals.specs.declared.Status.TheVariants as Status
 use Rattle.ticket_refusals.specs.declared.Status.TheVariants.{Fine}
-use Rattle.ticket_refusals.specs.Refusals.{refusal}
 use Rattle.ticket_steps.specs.declared.Steps.{Steps}
 use Rattle.ticket_decoding.specs.declared.Decoded.{Decoded}
 use Rattle.ticket_decoding.specs.Ticket.{ticket_on, ticket_of, Decodes}
@@ -31,7 +29,6 @@ use Rattle.dependence_listing_text.specs.Text.{text, Written}
 use Rattle.dependence_marks.proofs.MarkLaws.{listing-is}
 use Rattle.nest_admission.specs.Admission.{passed}
 use Rattle.nest_admission.specs.declared.Counted.{Counted}
-use Rattle.nest_admission.specs.declared.Counted.TheVariants as Counted
 use Rattle.nest_admission.proofs.AdmissionLaws.{few-points}
 use Rattle.entry_answers.specs.declared.Answer.{Answer}
 use Rattle.entry_answers.specs.declared.Answer.TheVariants.{Accepted, Refused}
