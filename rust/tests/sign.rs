@@ -182,8 +182,10 @@ fn no_jump_in_the_machine_code() {
     assert!(sign.iter().any(|name| name == "sub"), "{by_itself:?}");
     assert!(!sign.iter().any(|name| name.starts_with('j') || name == "call"), "{by_itself:?}");
 
-    // inlined in the search it is the same: two answers from one comparison, for each sign of the vectors of one to four loops
+    // inlined in the search it is the same, for each sign of the vectors of one to four loops: two answers from one comparison; or those of two signs
+    // at once, from two comparisons of two pairs of indices each
     let inlined = instructions("dependence_search::mark_sources");
-    let signs = inlined.windows(2).filter(|pair| pair[0] == "setl" && pair[1] == "setg").count();
+    let count = |first: &str, second: &str| inlined.windows(2).filter(|pair| pair[0] == first && pair[1] == second).count();
+    let signs = count("setl", "setg") + 2 * count("pcmpgtq", "pcmpgtq");
     assert!(signs >= 1 + 2 + 3 + 4, "{signs} signs");
 }
