@@ -21,7 +21,6 @@ use Rattle.model.proofs.Grammar.GrammarLaws.{decode-ranges, decode-formed}
 use Rattle.model.proofs.Verdict.VerdictLaws.{admit-accepted, judge_ticket-accepted, judged-accepted}
 use Rattle.ticket_refusals.specs.declared.Refusal.{Refusal}
 use Rattle.ticket_refusals.specs.declared.Status.{Status}
-use Rattle.ticket_refusals.specs.declared.Status.TheVariants as Status
 use Rattle.ticket_refusals.specs.Refusals.{refusal}
 use Rattle.nest_flat.specs.FlatNests.{flat_nest, nest_of}
 use Rattle.nest_elements.specs.Nests.{opaque_at}

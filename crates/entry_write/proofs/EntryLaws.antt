@@ -13,7 +13,6 @@ use Rattle.model.specs.Entries.{Outcome, hand_out, write, write_of}
 use Rattle.ticket_refusals.specs.declared.Refusal.{Refusal}
 use Rattle.ticket_refusals.specs.declared.Refusal.TheVariants.{BufferTooShort}
 use Rattle.ticket_refusals.specs.declared.Status.{Status}
-use Rattle.ticket_refusals.specs.declared.Status.TheVariants as Status
 use Rattle.ticket_refusals.specs.Refusals.{refusal}
 use Rattle.nest_flat.specs.FlatNests.{flat_nest, nest_of}
 use Rattle.ticket_encoding.specs.Encodable.{FlatNestEncodable}

@@ -1,4 +1,5 @@
 use mathlib.Core.Path.{refl, sym, ◌∙◌}
+use borrow.Author.Rules.{rules}
 use native.Mathlib.Omega.{arith}
 use lib.ListN.{length-set}
 use Rattle.dependence_bounds.proofs.CopyLaws.{copy_more, copy_done}
@@ -15,7 +16,7 @@ loop-i-preserved c = let l = c.loop-i in (
   omega arith,
   length-set l.out l.i _ ∙ l.invariant.1,
   copy_more l.out c.args.from.now l.i l.invariant.1 l.invariant.2
-      c.loop-i-test.true (record { sfits = c.out-1.given }),
+      c.loop-i-test.true (record { sfits = search rules }),
 )
 
 pub shape_of-out : goal.shape_of-out

@@ -1,5 +1,5 @@
 -- `mark_part`: the part is cut and marked; then every pair of accesses is looked at.
-use Rattle.dependence_bounds.proofs.FewLaws.{unsaid}
+use borrow.Author.Rules.{rules}
 use Rattle.dependence_bounds.proofs.BoundLaws.{cut_in, part_in, cover-in, lines-known}
 use Rattle.dependence_bounds.proofs.mark_part.Goals as goal
 
@@ -12,9 +12,6 @@ mark_if_few-requires c = let f = c.copy_words in let k = c.restrict_nest in let 
     c.args.limits.now c.args.words.now c.args.marks.now c.requires.0 c.args.ranges c.requires.1 _ f.ensures _ _ k.ensures
     w.result w.ensures
 
-pub returns-then-not-mark_if_few : goal.returns-then-not-mark_if_few
-returns-then-not-mark_if_few c = (unsaid, c.mark_if_few.ensures.1)
-
 pub flat_nest_covered-requires : goal.flat_nest_covered-requires
 flat_nest_covered-requires c = let f = c.copy_words in let k = c.restrict_nest in let w = c.with_counts-narrow in let m = c.mark_if_few in cover-in c.args.header c.args.limits.now c.args.words.now c.args.marks.now c.requires.0 c.args.ranges c.requires.1 _
     f.ensures _ _ k.ensures w.result w.ensures _ m.result m.ensures
@@ -23,6 +20,6 @@ pub returns : goal.returns
 returns c = let f = c.copy_words in let k = c.restrict_nest in let w = c.with_counts-narrow in let m = c.mark_if_few in (
   lines-known c.args.header c.args.limits.now c.args.words.now
       c.args.marks.now c.requires.0 c.args.ranges c.requires.1 _ f.ensures _ _ k.ensures w.result w.ensures _ m.result
-      m.ensures c.if-not-mark_if_few.false c.flat_nest_covered.result c.flat_nest_covered.ensures,
+      m.ensures (search rules) c.flat_nest_covered.result c.flat_nest_covered.ensures,
   m.ensures.1,
 )

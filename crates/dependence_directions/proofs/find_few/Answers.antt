@@ -8,7 +8,7 @@ find_using_points-requires c = (
   c.requires.0,
   c.requires.1,
   enumerate-in _ c.args.count
-      c.requires.0.points-counted 128 (omega (arith, c.if-count-le32.true)),
+      c.requires.0.points-counted 128 (omega arith),
 )
 
 pub find_using_points-requires-2 : goal.find_using_points-requires-2

@@ -1,4 +1,5 @@
 -- `list_using_marks`: few points, or many: without them, or by them.
+use borrow.Author.Rules.{rules}
 use native.Mathlib.Omega.{arith}
 use Rattle.nest_admission.proofs.AdmissionLaws.{enumerate-many}
 use Rattle.dependence_directions.proofs.SearchResultLaws.{mark-in, finds-known}
@@ -10,13 +11,16 @@ write_admitted-requires c = record {
   finds = c.find_few-few.ensures;
 }
 
+pub find_few-few-requires : goal.find_few-few-requires
+find_few-few-requires c = (c.requires, omega arith)
+
 pub mark_lines-requires : goal.mark_lines-requires
 mark_lines-requires c = mark-in _ c.args.count c.args.marks.now c.requires
 
 pub write_admitted-requires-then-mark_lines : goal.write_admitted-requires-then-mark_lines
 write_admitted-requires-then-mark_lines c = record {
   points-counted = c.requires.points-counted;
-  finds = finds-known _ _ (c.mark_lines.ensures.0 c.if-mark_lines.true);
+  finds = finds-known _ _ (c.mark_lines.ensures.0 (search rules));
 }
 
 pub find_many-many-requires : goal.find_many-many-requires

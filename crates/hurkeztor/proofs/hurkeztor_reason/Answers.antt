@@ -1,6 +1,5 @@
-use Rattle.std.proofs.Common.{◌≡◌, refl, sym, ap, ◌∙◌, ℕ, ◌+◌, ◌<◌, [], length, get_or, min, arith, add-one}
+use Rattle.std.proofs.Common.{◌≡◌, refl, sym, ap, ◌∙◌, ℕ, ◌+◌, [], length, get_or, min, arith, add-one}
 use lib.ListN.{set}
-use Rattle.model.specs.Pairs.{reason}
 use Rattle.entry_reason.specs.Finders.{no_pair}
 use Rattle.entry_reason.specs.Records.{packed_reason, records_in, found_in}
 use Rattle.entry_reason.proofs.RecordLaws.{reasoned-list, reasoned-answer}
