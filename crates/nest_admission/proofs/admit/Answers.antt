@@ -6,7 +6,7 @@ use Rattle.nest_admission.proofs.AdmissionLaws.{enumerate-in, enumerate-many}
 use Rattle.nest_admission.proofs.admit.Goals as goal
 
 pub admit_by_points-requires : goal.admit_by_points-requires
-admit_by_points-requires c = enumerate-in _ c.args.count c.requires 128 (omega (arith, c.if-count-le32.true))
+admit_by_points-requires c = enumerate-in _ c.args.count c.requires 128 (omega arith)
 
 pub stays_inside-requires : goal.stays_inside-requires
 stays_inside-requires c = c.requires.nest.flat-nest
@@ -18,7 +18,7 @@ returns-then-stays_inside c =
 
 pub admit_by_points-requires-then-count-le256 : goal.admit_by_points-requires-then-count-le256
 admit_by_points-requires-then-count-le256 c =
-    enumerate-in _ c.args.count c.requires 1024 (omega (arith, c.if-count-le256.true))
+    enumerate-in _ c.args.count c.requires 1024 (omega arith)
 
 pub admit_many-requires : goal.admit_many-requires
 admit_many-requires c = enumerate-many _ c.args.count c.requires

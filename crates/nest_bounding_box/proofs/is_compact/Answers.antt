@@ -55,7 +55,7 @@ loop-i-preserved c = let l = c.loop-i in let h = c.loop-i-test.true in let t = c
     in let f = c.requires.few in (
       omega arith,
       one-range c.args.ranges l.i l.volume w.result (omega arith) l.invariant.1
-          (t.ensures c.if-not-is_unclamped.false) w.ensures.0 c.if-volume-gt65536.false,
+          (t.ensures c.if-not-is_unclamped.false) w.ensures.0 (omega arith),
     )
 
 pub returns : goal.returns

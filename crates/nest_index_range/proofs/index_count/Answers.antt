@@ -1,4 +1,5 @@
 -- `index_count`: 0 where the last index is below the first, else one more than their difference.
+use native.Mathlib.Omega.{arith}
 use Rattle.nest_index_range.proofs.RangeLaws.{none, difference-fits, difference-cast, one_more, how-many}
 use Rattle.nest_index_range.proofs.index_count.Goals as goal
 
@@ -10,7 +11,7 @@ overflow_cast-result c = difference-cast c.args.e.lo c.args.e.hi c.requires
     c.if-e.false
 
 pub overflow_add-result : goal.overflow_add-result
-overflow_add-result c = one_more c.args.e.lo c.args.e.hi c.requires c.if-e.false
+overflow_add-result c = omega (arith, one_more c.args.e.lo c.args.e.hi c.requires c.if-e.false)
 
 pub returns-then-e : goal.returns-then-e
 returns-then-e c = none c.args.e.lo c.args.e.hi c.requires c.if-e.true
