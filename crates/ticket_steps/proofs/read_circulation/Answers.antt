@@ -63,8 +63,9 @@ overflow_sub-result c = let k = known_of (OnNatural _ _ _ _) c.in-Value.is
     c.read_loop_number.ensures.known in omega (arith, k.low)
 
 pub overflow_sub-result-in-Value-read_natural : goal.overflow_sub-result-in-Value-read_natural
-overflow_sub-result-in-Value-read_natural c = let k = known_of (OnNatural _ _ _ _) c.in-Value-read_other_loop.is
-    c.read_other_loop.ensures.0.known in omega (arith, k.low)
+overflow_sub-result-in-Value-read_natural c = let j = known_of (OnNatural _ _ _ _) c.in-Value.is
+    c.read_loop_number.ensures.known in let k = known_of (OnNatural _ _ _ _) c.in-Value-read_other_loop.is
+    c.read_other_loop.ensures.0.known in omega (arith, j.low, k.low)
 
 pub returns-in-Value-read_natural : goal.returns-in-Value-read_natural
 unfolding depth_after
