@@ -28,7 +28,7 @@ block-requires c = let r = c.requires.0.room in let g = c.well_formed.1.1.1.1.1.
   omega arith,
   c.requires.0.in_body c.args.a c.requires.1,
   c.requires.0.in_body c.args.b c.requires.2,
-  c.if-k-lt-KINDS.true,
+  (let t = c.if-k-lt-KINDS.true in omega arith),
 )
 
 pub search-requires : goal.search-requires
@@ -47,7 +47,7 @@ returns-then-k-lt-KINDS c =
     c.args.body in
     let k = c.kind-k in let b = c.block in let r = c.search in (
       call-sets nest c.args.marks.now c.requires.0 r.new.marks c.args.a c.args.b k.result b.result
-          c.requires.1 k.ensures c.if-k-lt-KINDS.true b.ensures.0 r.ensures.0,
+          c.requires.1 k.ensures (let t = c.if-k-lt-KINDS.true in omega arith) b.ensures.0 r.ensures.0,
       r.ensures.1,
     )
 
