@@ -1,6 +1,6 @@
 -- `begin_refused`: by the number of the refusal.
 use mathlib.Core.Path.{◌≡◌, sym, ap, ap₂, ◌∙◌}
-use Rattle.std.proofs.Common.{arith, ⊥}
+use Rattle.std.proofs.Common.{arith}
 use Rattle.model.specs.Answer.{refused, number_in}
 use Rattle.entry_packing.specs.Packed.{packed}
 use Rattle.entry_reason.proofs.TicketLaws.{ten-at}
