@@ -7,8 +7,8 @@ use std::fs::{self, File, OpenOptions};
 use std::io::{IsTerminal, Write};
 use std::os::unix::process::parent_id;
 
-/// The processor minutes that the proofs of the library take.
-const PROCESSOR_MINUTES: usize = 30;
+/// The processor minutes that the proofs of the library took with an older kit.
+const PROCESSOR_MINUTES: usize = 13;
 /// As many crates are proved at a time, where there is memory for them.
 const MOST_JOBS: usize = 4;
 const KILOBYTES_FOR_ONE: usize = 3_000_000;

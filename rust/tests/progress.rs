@@ -100,6 +100,6 @@ fn lines_and_bars() {
         bar(51, 51, "hurkeztor"),
         "[==============================] proving 51 of 51: hurkeztor"
     );
-    assert!(head(51, 51, 2).ends_with("51 of 51 crates, about 15 minutes."));
+    assert!(head(51, 51, 2).ends_with("51 of 51 crates, about 7 minutes."));
     assert!(head(1, 51, 2).ends_with("1 of 51 crates, about a minute."));
 }
