@@ -1,6 +1,6 @@
 -- The range of the difference of two sums of subscripts. In order: the constants; the loop that adds the terms, the innermost first; the test that
 -- 0 is none of it.
-use mathlib.Core.Path.{◌≡◌, refl, ◌∙◌, ap₂}
+use mathlib.Core.Path.{◌≡◌, ◌∙◌, ap₂, sym}
 use mathlib.Core.Bool.{true}
 use mathlib.Core.List.{List, [], ◌∷◌}
 use Prim.Native.Nat.{ℕ, suc, ◌+◌, ◌*◌, ◌-◌, ◌/◌, ◌%◌, ◌≤◌, ◌<◌}
@@ -25,12 +25,12 @@ use Rattle.model.specs.Quick.{Contains}
 
 -- ---- the constants
 
-pub constant-is : (c d : ℤ) {x y : ℤ} → (c ≡ x) × (size c ≤ 98301) → (d ≡ y) × (size d ≤ 98301)
-    → let e = copy (copy c -ℤ copy d) in (copy e ≡ x -ℤ y) × (copy e ≡ copy e) × (size (copy e) ≤ 196602)
-constant-is c d ec ed =
+pub constant-is : (c d : ℤ) {x y : ℤ} {r : Range} → (c ≡ x) × (size c ≤ 98301) → (d ≡ y) × (size d ≤ 98301)
+    → (r.least ≡ copy (copy c -ℤ copy d)) × (r.greatest ≡ copy (copy c -ℤ copy d))
+    → (r.least ≡ x -ℤ y) × (r.greatest ≡ r.least) × (size r.least ≤ 196602)
+constant-is c d ec ed h =
     let e = difference-is c d {m = 98301} {n = 98301} ec.1 ed.1 (omega arith) in
-    let f = kept (copy (copy c -ℤ copy d)) e.1 (omega arith) in
-    (f ∙ e.0 ∙ ap₂ ◌-ℤ◌ ec.0 ed.0, refl, rw f e.1)
+    (h.0 ∙ e.0 ∙ ap₂ ◌-ℤ◌ ec.0 ed.0, h.1 ∙ sym h.0, rw h.0 e.1)
 
 -- ---- what the loop keeps
 

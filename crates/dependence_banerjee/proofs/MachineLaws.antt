@@ -1,15 +1,16 @@
 -- What the machine makes of small numbers: a sum of words, the difference of two products, an index beside a range, a range widened.
 use mathlib.Core.Path.{◌≡◌, ◌∙◌}
-use mathlib.Core.Bool.{true, false}
 use Prim.Native.Nat.{ℕ, ◌+◌, ◌≤◌}
 use native.Mathlib.Omega.{arith}
 use lib.IntN.{ℤ, ◌+ℤ◌, ◌-ℤ◌, ◌*ℤ◌}
-use lib.Signed.{lt_z, ≤ℤ_refl}
+use lib.Signed.{lt_z, ◌≤ℤ◌, ≤ℤ_refl}
 use mir.Syntax.{w64}
 use mir.Val.{SFits}
+use Rattle.std.specs.Int.{int_max, int_min}
 use Rattle.integers.specs.Difference.{size}
-use Rattle.integers.proofs.RingLaws.{≤ℤ-trans, <ℤ-≤ℤ}
-use Rattle.integers.proofs.RangeLaws.{back, size_fits, size-add, size-sub, size-mul, test-lt, test-lt-no}
+use Rattle.integers.proofs.RingLaws.{≤ℤ-trans}
+use Rattle.integers.proofs.RangeLaws.{back, size_fits, size-add, size-sub, size-mul}
+use Rattle.lists.proofs.TestLaws.{cond_cases}
 use Rattle.nest_loop_ranges.specs.declared.Range.{Range}
 use Rattle.nest_loop_ranges.proofs.TermLaws.{copy}
 use Rattle.dependence_banerjee.specs.Spans.{TermDifferenceIn, Filled, Widened}
@@ -78,44 +79,30 @@ module _ (c d x y : ℤ) (p : TermDifferenceIn c d x y) where
 pub only-filled : (z : ℤ) → size z ≤ 6442254336 → Filled (record { least = copy z; greatest = copy z }) × (copy z ≡ z) × (copy z ≡ z)
 only-filled z h = let e = kept z h (omega arith) in (rw e (record { low = h; high = h; order = ≤ℤ_refl z }), e, e)
 
-module _ (r : Range) (z : ℤ) (p : Filled r × (size z ≤ 6442254336)) where
-  low-kept : copy r.least ≡ r.least
-  low-kept = kept r.least p.0.low (omega arith)
+-- the lesser and the greater of two
+lesser-size : (x y : ℤ) {n : ℕ} → size x ≤ n → size y ≤ n → size (int_min x y) ≤ n
+lesser-size x y {n} h g = cond_cases (λ z. size z ≤ n) (lt_z y x) y x (λ _. g) (λ _. h)
 
-  high-kept : copy r.greatest ≡ r.greatest
-  high-kept = kept r.greatest p.0.high (omega arith)
+greater-size : (x y : ℤ) {n : ℕ} → size x ≤ n → size y ≤ n → size (int_max x y) ≤ n
+greater-size x y {n} h g = cond_cases (λ z. size z ≤ n) (lt_z y x) x y (λ _. h) (λ _. g)
 
-  new-kept : copy z ≡ z
-  new-kept = kept z p.1 (omega arith)
-
-  pub widened-down : lt_z (copy z) (copy r.least) ≡ true → Widened r z (record { least = copy z; greatest = copy r.greatest })
-  widened-down t =
-      let h = <ℤ-≤ℤ (test-lt {a = z} {b = r.least} (rw (new-kept, low-kept) at t)) in let g = ≤ℤ-trans h p.0.order in
-      rw (new-kept, high-kept) (record {
-        filled = record { low = p.1; high = p.0.high; order = g };
-        low = h;
-        high = ≤ℤ_refl r.greatest;
-        new = record { low = ≤ℤ_refl z; high = g };
-      })
-
-  pub widened-up : lt_z (copy r.greatest) (copy z) ≡ true → Widened r z (record { least = copy r.least; greatest = copy z })
-  widened-up t =
-      let h = <ℤ-≤ℤ (test-lt {a = r.greatest} {b = z} (rw (new-kept, high-kept) at t)) in let g = ≤ℤ-trans p.0.order h in
-      rw (new-kept, low-kept) (record {
-        filled = record { low = p.0.low; high = p.1; order = g };
-        low = ≤ℤ_refl r.least;
-        high = h;
-        new = record { low = g; high = ≤ℤ_refl z };
-      })
-
-  pub widened-not : lt_z (copy z) (copy r.least) ≡ false → lt_z (copy r.greatest) (copy z) ≡ false → Widened r z r
-  widened-not t u = record {
-    filled = p.0;
-    low = ≤ℤ_refl r.least;
-    high = ≤ℤ_refl r.greatest;
-    new = record {
-      low = test-lt-no {a = z} {b = r.least} (rw (new-kept, low-kept) at t);
-      high = test-lt-no {a = r.greatest} {b = z}
-          (rw (new-kept, high-kept) at u);
-    };
-  }
+pub widened : (r : Range) (z : ℤ) {a b : ℤ} → Filled r × (size z ≤ 6442254336)
+    → (a ≡ int_min (copy r.least) (copy z)) × (a ≤ℤ copy r.least) × (a ≤ℤ copy z)
+    → (b ≡ int_max (copy r.greatest) (copy z)) × (copy r.greatest ≤ℤ b) × (copy z ≤ℤ b)
+    → Widened r z (record { least = copy a; greatest = copy b })
+widened r z {a} {b} p l h =
+    let kl = kept r.least p.0.low (omega arith) in
+    let kh = kept r.greatest p.0.high (omega arith) in
+    let kz = kept z p.1 (omega arith) in
+    let sa : size a ≤ 6442254336 = rw (l.0, kl, kz) (lesser-size r.least z p.0.low p.1) in
+    let sb : size b ≤ 6442254336 = rw (h.0, kh, kz) (greater-size r.greatest z p.0.high p.1) in
+    let al : a ≤ℤ r.least = rw kl at l.1 in
+    let az : a ≤ℤ z = rw kz at l.2 in
+    let hb : r.greatest ≤ℤ b = rw kh at h.1 in
+    let zb : z ≤ℤ b = rw kz at h.2 in
+    rw (kept a sa (omega arith), kept b sb (omega arith)) (record {
+      filled = record { low = sa; high = sb; order = ≤ℤ-trans al (≤ℤ-trans p.0.order hb) };
+      low = al;
+      high = hb;
+      new = record { low = az; high = zb };
+    })

@@ -1,6 +1,6 @@
 -- Sums of subscripts: their sizes and the loop that sums a coefficient; then the difference of two sums is 0 where the subscripts are equal in
 -- pairs.
-use mathlib.Core.Path.{◌≡◌, refl, sym, ◌∙◌, ap, ap₂}
+use mathlib.Core.Path.{◌≡◌, refl, sym, ◌∙◌, ap}
 use mathlib.Core.List.{List, [], ◌∷◌, map}
 use Prim.Native.Nat.{ℕ, zero, suc, ◌+◌, ◌*◌, ◌≤◌, ◌<◌}
 use native.Mathlib.Numerals.{add-one}
@@ -9,9 +9,11 @@ use native.Mathlib.Omega.{arith}
 use lib.IntN.{ℤ, pos, ◌+ℤ◌, ◌-ℤ◌}
 use lib.ListN.{length, get_or, take, drop, length-drop}
 use lib.Seq.{get_or-drop, take-length}
+use mir.Syntax.{w64}
+use mir.Val.{SFits}
 use Rattle.integers.specs.Difference.{size}
 use Rattle.integers.specs.Affine.{dot, affine, Within}
-use Rattle.integers.proofs.RangeLaws.{size-add}
+use Rattle.integers.proofs.RangeLaws.{size_fits, size-add}
 use Rattle.integers.proofs.AffineLaws.{within-at, dot-snoc}
 use Rattle.integers.proofs.Polynomial.{◌⊕◌, ◌⊖◌, ◌⊗◌, #}
 use Rattle.integers.proofs.Linear.{lin, by, ◌≐◌, ◌⟶◌}
@@ -39,19 +41,25 @@ unfolding coefficient_sum
 coefficient-none w i k = refl
 
 module _ (w : List ℤ) (i m k : ℕ) (p : SubscriptsIn w i m) (t : ℕ) {s : ℤ} (e : s ≡ coefficient_sum w i k t) (h : t ≤ m) where
-  pub coefficient-small : size s ≤ 98301
+  coefficient-small : size s ≤ 98301
   coefficient-small = let f = p.few in rw e (omega (arith, coefficient-size w i k t p.small))
 
   module _ {x : ℤ} (f : x ≡ get_or w ((i + t) * 8 + k) (pos 0)) where
     word_small : size x ≤ 32767
     word_small = rw f (within-at 32767 w p.small ((i + t) * 8 + k))
 
-    pub word-near : size (copy x) ≤ 32767
-    word-near = rw (kept x word_small (omega arith)) word_small
+    copied : copy x ≡ get_or w ((i + t) * 8 + k) (pos 0)
+    copied = kept x word_small (omega arith) ∙ f
 
-    pub coefficient-next : {r : ℤ} → r ≡ s +ℤ copy x → r ≡ coefficient_sum w i k (t + 1)
+    sum-small : size (s +ℤ copy x) ≤ 131068
+    sum-small = let a = coefficient-small in let b = word_small in let e = kept x word_small (omega arith) in rw e (omega (arith, size-add s x))
+
+    pub coefficient-fits : SFits w64 (s +ℤ copy x)
+    coefficient-fits = size_fits sum-small (omega arith)
+
+    pub coefficient-next : copy (s +ℤ copy x) ≡ coefficient_sum w i k (t + 1)
     unfolding coefficient_sum
-    coefficient-next g = g ∙ rw (add-one t, kept x word_small (omega arith)) (ap₂ ◌+ℤ◌ e f)
+    coefficient-next = kept (s +ℤ copy x) sum-small (omega arith) ∙ rw (add-one t, copied, e) refl
 
   pub coefficient-whole : m ≤ t → (s ≡ coefficient_sum w i k m) × (size s ≤ 98301)
   coefficient-whole g = let q : t ≡ m = omega arith in (e ∙ ap (coefficient_sum w i k) q, coefficient-small)

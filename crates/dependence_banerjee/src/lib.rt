@@ -20,28 +20,16 @@ use nest_loop_ranges::Range;
 
 // ---- sums of coefficients
 
-// The sum and one word more.
-fn add_coefficient(sum: Whole, x: i64) -> Whole
-    requires { (size sum.value ≤ 98301) × (size x ≤ 32767) }
-    ensures { result.value ≡ sum.value +ℤ x }
-{
-    Whole {
-        value: sum.value + x,
-    }
-}
-
 // Coefficient k of m subscripts from subscript i on, summed; 0 is the constant.
 fn coefficient(words: &[i16], i: usize, m: usize, k: usize) -> Whole
     requires { SubscriptsIn words.now i m × (k ≤ most_loops) }
     ensures { (result.value ≡ coefficient_sum words.now i k m) × (size result.value ≤ 98301) }
 {
-    let mut sum = Whole { value: 0 };
-    let mut t = 0;
-    while t < m {
-        sum = add_coefficient(sum, integers::word(words, (i + t) * 8 + k));
-        t += 1;
+    let mut sum = 0;
+    for t in 0..m {
+        sum += integers::word(words, (i + t) * 8 + k);
     }
-    sum
+    Whole { value: sum }
 }
 
 // ---- one loop
@@ -61,19 +49,10 @@ fn include_value(r: Range, z: Whole) -> Range
     requires { Filled r × (size z.value ≤ 6442254336) }
     ensures { Widened r z.value result }
 {
-    if z.value < r.least {
-        return Range {
-            least: z.value,
-            greatest: r.greatest,
-        };
+    Range {
+        least: r.least.min(z.value),
+        greatest: r.greatest.max(z.value),
     }
-    if r.greatest < z.value {
-        return Range {
-            least: r.least,
-            greatest: z.value,
-        };
-    }
-    r
 }
 
 // One value.
@@ -106,11 +85,12 @@ fn less_span(c: Whole, d: Whole, r: Range) -> Range
     include_value(s, term_difference(c, r.greatest - 1, d, r.greatest))
 }
 
+// The number on the other side of 0.
 fn negated(z: Whole) -> Whole
     requires { size z.value ≤ 98301 }
     ensures { result.value ≡ neg_ℤ z.value }
 {
-    Whole { value: 0 - z.value }
+    Whole { value: -z.value }
 }
 
 // What it can be where the source's index is the greater: c x - d y is (-d) y - (-c) x.
@@ -121,7 +101,7 @@ fn greater_span(c: Whole, d: Whole, r: Range) -> Range
     less_span(negated(d), negated(c), r)
 }
 
-// By the digit of a sign: 0 is <, 1 is = and 2 is >.
+// By the digit of a sign, as the number of a vector has it: 0 is <, 1 is = and 2 is >.
 fn span(c: Whole, d: Whole, r: Range, s: usize) -> Range
     requires { SpanIn c.value d.value r × (s < 3) }
     ensures { Spans c.value d.value r s result }
@@ -153,13 +133,9 @@ fn constant(words: &[i16], i: usize, j: usize, m: usize) -> Range
 {
     let c = coefficient(words, i, m, 0);
     let d = coefficient(words, j, m, 0);
-    let e = Whole {
+    single_value(Whole {
         value: c.value - d.value,
-    };
-    Range {
-        least: e.value,
-        greatest: e.value,
-    }
+    })
 }
 
 // Two ranges summed.
@@ -173,6 +149,7 @@ fn sum(r: Range, t: Range) -> Range
     }
 }
 
+// The subscripts, the depth and the ranges stay parameters: in a struct they cost 7 % more instructions, since each dimension copied the ranges.
 // What two sums of m subscripts can differ by, where the iterations have vector u: its digits, the innermost first.
 fn difference_span(
     words: &[i16],
@@ -188,11 +165,9 @@ fn difference_span(
 {
     let mut r = constant(words, i, j, m);
     let mut v = u;
-    let mut k = n;
-    while 0 < k {
-        r = sum(r, term(words, i, j, m, k, ranges[k - 1], v % 3));
-        v = v / 3;
-        k -= 1;
+    for k in (0..n).rev() {
+        r = sum(r, term(words, i, j, m, k + 1, ranges[k], v % 3));
+        v /= 3;
     }
     r
 }
@@ -211,10 +186,7 @@ fn span_excludes_zero(
     ensures { result ≡ true → Excluded words.now i j m n ranges u }
 {
     let t = difference_span(words, i, j, m, n, ranges, u);
-    if 0 < t.least {
-        return true;
-    }
-    t.greatest < 0
+    0 < t.least || t.greatest < 0
 }
 
 // Whether no multiple of g is in the range. Of 0 nothing is said.
@@ -244,14 +216,12 @@ fn gcd_excludes_zero(
 {
     let mut r = constant(words, i, j, 1);
     let mut v = u;
-    let mut k = n;
-    while 0 < k {
-        if has_no_multiple(r, nest_quick_test::common_divisor(words, i, j, k)) {
+    for k in (0..n).rev() {
+        if has_no_multiple(r, nest_quick_test::common_divisor(words, i, j, k + 1)) {
             return true;
         }
-        r = sum(r, term(words, i, j, 1, k, ranges[k - 1], v % 3));
-        v = v / 3;
-        k -= 1;
+        r = sum(r, term(words, i, j, 1, k + 1, ranges[k], v % 3));
+        v /= 3;
     }
     false
 }
@@ -269,12 +239,10 @@ fn some_gcd_excludes_zero(
     requires { RegionIn words.now i j d n ranges }
     ensures { result ≡ true → Impossible words.now i j d n ranges u }
 {
-    let mut t = 0;
-    while t < d {
+    for t in 0..d {
         if gcd_excludes_zero(words, i + t, j + t, n, ranges, u) {
             return true;
         }
-        t += 1;
     }
     false
 }
@@ -293,15 +261,11 @@ fn has_no_iterations(n: usize, ranges: [Range; LOOPS], u: usize) -> bool
     ensures { result ≡ true → NoIterations n ranges u }
 {
     let mut v = u;
-    let mut k = n;
-    while 0 < k {
-        k -= 1;
-        if v % 3 != 1 {
-            if is_single(ranges[k]) {
-                return true;
-            }
+    for k in (0..n).rev() {
+        if v % 3 != 1 && is_single(ranges[k]) {
+            return true;
         }
-        v = v / 3;
+        v /= 3;
     }
     false
 }
@@ -323,12 +287,10 @@ fn impossible(
     if has_no_iterations(n, ranges, u) {
         return true;
     }
-    let mut t = 0;
-    while t < d {
+    for t in 0..d {
         if span_excludes_zero(words, i + t, j + t, 1, n, ranges, u) {
             return true;
         }
-        t += 1;
     }
     if span_excludes_zero(words, i, j, d, n, ranges, u) {
         return true;
@@ -366,14 +328,10 @@ pub fn covers_vectors(
     let step = dependence_vectors::stride(n);
     let rest = (step - 1) / 2;
     let end = candidates(n, own);
-    let mut u = 0;
-    while u < end {
-        if !marks[base + u * step + rest] {
-            if !impossible(words, a * 3, b * 3, d, n, ranges, u) {
-                return false;
-            }
+    for u in 0..end {
+        if !marks[base + u * step + rest] && !impossible(words, a * 3, b * 3, d, n, ranges, u) {
+            return false;
         }
-        u += 1;
     }
     true
 }

@@ -8,6 +8,7 @@ use native.Mathlib.Omega.{arith}
 use native.Mathlib.Nat.{mul-le-mul}
 use lib.IntN.{ℤ}
 use lib.ListN.{length, get_or, take, length-map, get_or-map}
+use Rattle.std.specs.Prelude.{Result, Ok}
 use Rattle.lists.proofs.MembershipLaws.{get_d-mem}
 use Rattle.model.specs.Answer.{accepted}
 use Rattle.model.specs.Points.{iterations}
@@ -18,10 +19,9 @@ use Rattle.dependence_search.proofs.UseLaws.{uses-of}
 use Rattle.nest_flat.specs.FlatNests.{FlatNest, extents_in, accessed_in, words_in, nest_of}
 use Rattle.nest_points.specs.Nests.{ListIn, PointsAre}
 use Rattle.nest_flat.proofs.FlatNestLaws.{accessed-count}
-use Rattle.nest_admission.specs.Admission.{answer_of, Counts, EnumerateIn}
+use Rattle.nest_admission.specs.Admission.{passed, Counts, EnumerateIn}
 use Rattle.nest_admission.proofs.AdmissionLaws.{list-in}
-use Rattle.nest_admission.specs.declared.Counted.{Counted}
-use Rattle.nest_admission.specs.declared.Counted.TheVariants.{Points}
+use Rattle.ticket_refusals.specs.declared.Refusal.{Refusal}
 use Rattle.dependence_marks.specs.declared.Uses.{Uses}
 use Rattle.dependence_marks.specs.Uses.{UsesAre}
 use Rattle.dependence_marks.specs.Lines.{Markable}
@@ -81,9 +81,9 @@ module _ (P : FlatNest) (rs : List Range) (m : List Bool) (h : CoverIn P rs m) w
 
 -- ---- few points
 
-module _ (P : FlatNest) (m : List Bool) (h : Markable P m) (r : Counted) (g : Counts P r) (n : ℕ) (e : r ≡ Points n) (few : n ≤ 128) where
+module _ (P : FlatNest) (m : List Bool) (h : Markable P m) (r : Result ℕ Refusal) (g : Counts P r) (n : ℕ) (e : r ≡ Ok n) (few : n ≤ 128) where
   space-accepted : space (nest_of P).loops ≡ accepted tt
-  space-accepted = sym g.same ∙ ap answer_of e
+  space-accepted = sym g.same ∙ ap passed e
 
   counted : n ≡ length (iterations (nest_of P).loops)
   counted = g.count n e

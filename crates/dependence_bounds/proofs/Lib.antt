@@ -1,5 +1,4 @@
 -- Laws that the crate's contracts need.
-pub mod CopyLaws
 pub mod PairLaws
 pub mod FewLaws
 pub mod PartLaws

@@ -26,8 +26,8 @@ module _ (F : Pairs) (m : List Bool) (p : PairsIn F m) (a b : ℕ) (la : a < len
   abbrev its-array : ℕ
   its-array = get_or F.accessed a 0
 
-  pub no-conflict : (k : ℕ) → k ≡ kind_at F a b → kind_count ≤ k → PairCovered F m a b
-  no-conflict k e h g = absurd (omega arith)
+  pub no-conflict : kind_at F a b ≡ kind_count → PairCovered F m a b
+  no-conflict e g = absurd (omega arith)
 
   pub other-array : (its-array ≡ get_or F.accessed b 0 → ⊥) → PairCovered F m a b
   other-array h g e = absurd (h e)

@@ -1,7 +1,6 @@
 -- Laws of what `specs` defines.
 pub mod IndexLaws
 pub mod TextLaws
-pub mod CopyLaws
 pub mod LineLaws
 pub mod WholeLaws
 pub mod WitnessLaws

@@ -9,6 +9,7 @@ use lib.IntN.{ℤ}
 use lib.ListN.{length, get_or, take, length-append}
 use lib.Seq.{length-take-le}
 use borrow.Author.Tests.{le-leb, lt-leb}
+use Rattle.std.specs.Prelude.{Some, None}
 use Rattle.lists.specs.Parts.{put}
 use Rattle.lists.specs.Tests.{select}
 use Rattle.lists.proofs.PartLaws.{put-put, length-rows}
@@ -77,10 +78,10 @@ module _ (m : List Bool) (s d n k a b c : ℕ) (A B C : List ℕ) (fa : Field A 
 pub size_fits : (k d : ℕ) → k ≤ marks_for most_statements → d ≤ 6 → k * (d + 7) ≤ marks_for most_statements * 13
 size_fits k d h g = mul-le-mul h (let i : d + 7 ≤ 13 = omega arith in i)
 
-pub fits : (t o o' : List ℕ) (n : ℕ) → length t ≡ n → n ≤ length o → o' ≡ put o 0 t → Written t o o' n
-fits t o o' n e h f = let l = le-leb (length t) (length o) (omega arith) in record { count = rw l (sym e); bytes = rw l f }
+pub fits : (t o o' : List ℕ) (n : ℕ) → length t ≡ n → n ≤ length o → o' ≡ put o 0 t → Written t o o' (Some n)
+fits t o o' n e h f = let l = le-leb (length t) (length o) (omega arith) in record { count = rw l (ap Some (sym e)); bytes = rw l f }
 
-pub short : (t o : List ℕ) (n : ℕ) → length t ≡ n → length o < n → Written t o o 0
+pub short : (t o : List ℕ) (n : ℕ) → length t ≡ n → length o < n → Written t o o None
 short t o n e h = let l = lt-leb (length t) (length o) (omega arith) in record { count = rw l; bytes = rw l }
 
 -- ---- the model's listing

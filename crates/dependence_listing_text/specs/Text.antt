@@ -1,5 +1,5 @@
 -- The lines whose marks are set, and their listing; then what the functions that write it ask and give.
-use Rattle.std.specs.Prelude.{◌≡◌, Bool, false, cond, ℕ, ◌*◌, ◌≤◌, leb, length, get_or, take}
+use Rattle.std.specs.Prelude.{◌≡◌, Bool, false, cond, ℕ, ◌*◌, ◌≤◌, leb, length, get_or, take, Option, Some, None}
 use mathlib.Core.List.{List, [], ◌∷◌, ◌++◌, flat_map}
 use Rattle.lists.specs.Parts.{put}
 use Rattle.lists.specs.Tests.{select}
@@ -39,7 +39,7 @@ pub record Field (bytes : List ℕ) (len n end : ℕ) : Type 0 where
   pub short : len ≤ 6
   pub is : take len bytes ≡ decimal n ++ (end ∷ [])
 
--- the text t written and its length, or 0 and nothing written where the buffer is short
-pub record Written (t out out' : List ℕ) (r : ℕ) : Type 0 where
-  pub count : r ≡ cond (leb (length t) (length out)) (length t) 0
+-- the text t written and its length, or nothing written where the buffer is short
+pub record Written (t out out' : List ℕ) (r : Option ℕ) : Type 0 where
+  pub count : r ≡ cond (leb (length t) (length out)) (Some (length t)) None
   pub bytes : out' ≡ cond (leb (length t) (length out)) (put out 0 t) out

@@ -27,11 +27,7 @@ fn copy_bytes(out: &mut [u8], at: usize, src: &[u8])
     requires { at + length src.now ≤ length out.old }
     ensures { out.new ≡ put out.old at src.now }
 {
-    let mut j = 0;
-    while j < src.len() {
-        out[at + j] = src[j];
-        j += 1;
-    }
+    out[at..at + src.len()].copy_from_slice(src);
 }
 
 // ---- line i of all that there could be, by source, sink, kind and signs
@@ -75,13 +71,11 @@ pub fn letter(k: usize) -> u8
     requires { k < kind_count }
     ensures { result ≡ «letter-of» (get_or kinds k flow) }
 {
-    if k == 0 {
-        return b'F';
+    match k {
+        0 => b'F',
+        1 => b'A',
+        _ => b'O',
     }
-    if k == 1 {
-        return b'A';
-    }
-    b'O'
 }
 
 // Its text, in the first depth + 7 bytes.
@@ -127,12 +121,10 @@ fn marked_count(marks: &[bool], n: usize, depth: usize) -> usize
 {
     let total = line_count(n, depth);
     let mut k = 0;
-    let mut i = 0;
-    while i < total {
+    for i in 0..total {
         if is_marked(marks, n, depth, i) {
             k += 1;
         }
-        i += 1;
     }
     k
 }
@@ -144,19 +136,17 @@ fn write_lines(marks: &[bool], n: usize, depth: usize, out: &mut [u8], at: usize
 {
     let total = line_count(n, depth);
     let mut p = at;
-    let mut i = 0;
-    while i < total {
+    for i in 0..total {
         if is_marked(marks, n, depth, i) {
             write_line(out, p, n, depth, i);
             p += depth + 7;
         }
-        i += 1;
     }
 }
 
 // ---- the whole
 
-// A number and the byte after it, in the first `len` bytes.
+// A number and the byte after it, in the first `len` bytes. Made before anything is written: a buffer that is short for the whole stays as it is.
 #[derive(Clone, Copy)]
 pub struct Digits {
     pub bytes: [u8; 6],
@@ -212,8 +202,14 @@ fn write_field(f: Digits, out: &mut [u8], at: usize) -> usize
     at + l
 }
 
-// The whole listing: the number of bytes written, or 0, with nothing written, where the buffer is short.
-pub fn write_listing(marks: &[bool], n: usize, depth: usize, points: usize, out: &mut [u8]) -> usize
+// The whole listing: the number of bytes written, or None, with nothing written, where the buffer is short.
+pub fn write_listing(
+    marks: &[bool],
+    n: usize,
+    depth: usize,
+    points: usize,
+    out: &mut [u8],
+) -> Option<usize>
     requires { Marks marks.now n depth × (points < 100000) }
     ensures { Written («text_of» marks.now n depth points) out.old out.new result }
 {
@@ -224,11 +220,11 @@ pub fn write_listing(marks: &[bool], n: usize, depth: usize, points: usize, out:
     let head = a.len + b.len + c.len;
     let size = head + k * (depth + 7);
     if out.len() < size {
-        return 0;
+        return None;
     }
     let p = write_field(a, out, 0);
     let q = write_field(b, out, p);
     let e = write_field(c, out, q);
     write_lines(marks, n, depth, out, e);
-    size
+    Some(size)
 }

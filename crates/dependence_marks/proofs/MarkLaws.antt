@@ -1,6 +1,6 @@
 -- The lines of a nest, marked in its flat form. In order: equal places are equal elements; the accesses of the model's uses; what
 -- `mark_using_numbers` asks is met (`lines-in`); what the search is lent describes the nest (`describes`), and so does what the sizes of the
--- statements give (`describes-sized`); it is as the search asks (`ready`); what it marks are the lines of the nest's listing (`lines_are`); their text
+-- statements give (`describes-sized`); it is as the search asks (`flat_in`); what it marks are the lines of the nest's listing (`lines_are`); their text
 -- is the listing (`listing-is`).
 use mathlib.Core.Path.{◌≡◌, refl, sym, ◌∙◌, ap, ap₂, subst}
 use mathlib.Core.Bool.{Bool, true, false, ◌||◌}
@@ -35,7 +35,7 @@ use Rattle.model.proofs.Points.PointLaws.{iterations-rise}
 use Rattle.model.proofs.Store.PlaceLaws.{place-injective}
 use Rattle.dependence_vectors.specs.Candidates.{row}
 use Rattle.dependence_vectors.specs.Numbers.{place}
-use Rattle.dependence_search.specs.Flat.{Flat, flat, statement_of, point_at, Use, use·of, uses_from, uses, no_use, use_at, Describes, Ready, NumbersBelow, Searched}
+use Rattle.dependence_search.specs.Flat.{Flat, flat, statement_of, point_at, Use, use·of, uses_from, uses, no_use, use_at, Describes, FlatIn, NumbersBelow, Searched}
 use Rattle.dependence_search.proofs.UseLaws.{uses-of}
 use Rattle.dependence_listing_text.specs.Text.{marked, shown, text}
 use Rattle.nest_flat.specs.FlatNests.{FlatNest, sizes_in, statements_from, nest_of, FlatNestIn, no_access, access_of}
@@ -195,18 +195,19 @@ module _ (P : FlatNest) (points : List ℤ) (n : ℕ) (marks : List Bool) (h : L
         ∙ get_or-map (λ (v : Use). v.statement) (uses (nest_of P).statements) a no_use in
         omega arith
 
-    pub ready : Ready F marks
-    ready = let s = h.violation.points-are.stored in let c = statements-count P flat-nest-in r u in let w = writes-count P flat-nest-in r u
+    pub flat_in : FlatIn F
+    flat_in = let s = h.violation.points-are.stored in let c = statements-count P flat-nest-in r u in let w = writes-count P flat-nest-in r u
         in let q = h.violation.points-are.count in let t = g.room in record {
           few = s.bound;
           shallow = s.few;
           stored = s.room;
-          rising = subst (Ordered Earlier) (sym h.violation.points-are.are) (iterations-rise (nest_of P).loops);
           both = w ∙ sym c;
           in_body = in-body;
           table = omega (arith, ap (λ (m : ℕ). m * n) c);
-          room = h.room;
         }
+
+    pub rising : Ordered Earlier (rows P.depth n points)
+    rising = subst (Ordered Earlier) (sym h.violation.points-are.are) (iterations-rise (nest_of P).loops)
 
     pub numbers-below : (m : ℕ) → m ≡ total (nest_of P).arrays → NumbersBelow m F
     unfolding nest_of

@@ -30,9 +30,7 @@ fn clear_heads(from: &[u16], head: &mut [u16])
     requires { Below (length head.old) from.now × (length head.old ≤ most_elements) × ClearElse from.now head.old (length from.now) }
     ensures { Clear head.new }
 {
-    let mut y = from.len();
-    while 0 < y {
-        y -= 1;
+    for y in (0..from.len()).rev() {
         head[to_index(from[y])] = 0;
     }
 }
@@ -45,8 +43,7 @@ pub fn link(from: &[u16], to: &[u16], own: bool, head: &mut [u16], out: &mut [u1
         × (result ≡ false → Unlinked (length from.now) out.new) }
 {
     let mut any = false;
-    let mut y = 0;
-    while y < from.len() {
+    for y in 0..from.len() {
         let e = to_index(to[y]);
         let mut l = head[e];
         head[to_index(from[y])] = to_link(y + 1);
@@ -55,7 +52,6 @@ pub fn link(from: &[u16], to: &[u16], own: bool, head: &mut [u16], out: &mut [u1
         }
         out[y] = l;
         any = any | (l != 0);
-        y += 1;
     }
     clear_heads(from, head);
     any
@@ -78,6 +74,7 @@ fn mark_chain(
 {
     let mut steps = 0;
     let mut l = first;
+    // not a `for`: a chain is followed from link to link
     while l != 0 {
         let x = l - 1;
         marks[base + dependence_vectors::stored_vector(points, depth, step, x, y)] = true;
@@ -103,15 +100,13 @@ fn index_changes(points: &[i64], depth: usize, count: usize, links: &[u16], k: u
     requires { (k < depth) × Tabled points.now depth count links.now }
     ensures { result ≡ false → Level depth points.now count links.now k }
 {
-    let mut x = 0;
-    while x < count {
+    for x in 0..count {
         let l = to_index(links[x]);
         if l != 0 {
             if dependence_vectors::sign(points[(l - 1) * depth + k], points[x * depth + k]) != 1 {
                 return true;
             }
         }
-        x += 1;
     }
     false
 }
@@ -147,14 +142,13 @@ fn find_varying(
     requires { Tabled points.now depth count next.now × Tabled points.now depth count start.now × (depth ≤ length varying.old) }
     ensures { LevelElse depth points.now count next.now start.now depth varying.new }
 {
-    let mut k = 0;
-    while k < depth {
+    for k in 0..depth {
         varying[k] = loop_varies(points, depth, count, next, start, k);
-        k += 1;
     }
 }
 
-// The first vector from v on, a step after another, that the search of two accesses can find and that is not marked, or where the vectors end.
+// The first vector from v on, a step after another, that the search of two accesses can find and that is not marked, or where the vectors end: a
+// place in either case, up to which all are marked, so an Option would be no plainer.
 fn next_missing(
     marks: &[bool],
     base: usize,
@@ -179,7 +173,7 @@ fn next_missing(
     w
 }
 
-// The first sink from y on that has a source, or the end.
+// The first sink from y on that has a source, or the end, which the loop below tests as its bound: an Option would be no plainer.
 fn next_linked(start: &[u16], y: usize, end: usize) -> usize
     requires { (y ≤ end) × (end ≤ length start.now) }
     ensures { NextLinked start.now y end result }
@@ -218,6 +212,7 @@ fn mark_chains(
     let mut v = (step - 1) / 2;
     let mut spent = 0;
     let mut y = next_linked(start, 0, from.len());
+    // not a `for`: from each sink to the next that has a source
     while y < from.len() {
         spent = spent
             + mark_chain(

@@ -8,12 +8,14 @@ use native.Mathlib.Omega.{arith}
 use lib.Dec.{ltb}
 use lib.ListN.{length, get_or, take, drop, length-take, length-drop, replicate, length-replicate}
 use lib.Seq.{get_or-take, get_or-drop}
-use borrow.Author.Tests.{lt-ltb, le-ltb}
+use borrow.Author.Tests.{lt-ltb}
 use Rattle.lists.proofs.PartLaws.{row_fits}
 use Rattle.model.specs.Directions.{kind_count, vector_count}
 use Rattle.dependence_vectors.specs.Numbers.{place_of, marks_for}
 use Rattle.dependence_pair_search.specs.Search.{some, Below, Links, Clear, Linkable, Linked, found, Adds, Searchable}
-use Rattle.dependence_search.specs.Flat.{Flat, number_at, statement_of, writes_at, Ready, kind_of, numbers_of, set_by, set_from, NumbersBelow, Listed, Alike, Lent}
+use Rattle.lists.specs.Order.{Ordered}
+use Rattle.model.specs.Inside.{Earlier}
+use Rattle.dependence_search.specs.Flat.{Flat, points_of, number_at, statement_of, writes_at, Ready, kind_of, numbers_of, set_by, set_from, NumbersBelow, FlatIn, Alike, Lent}
 
 -- ---- places of marks
 
@@ -38,15 +40,12 @@ module _ (F : Flat) (marks : List Bool) (ok : Ready F marks) where
   unfolding numbers_of
   numbers-at a x h = get_or-take F.count (drop (a * F.count) F.numbers) x 0 h ∙ get_or-drop (a * F.count) F.numbers x 0
 
-  numbers-below : (m a : ℕ) → NumbersBelow m F → a < length F.statements → Below m (numbers_of F.count F.numbers a)
+  pub numbers-below : (m a : ℕ) → NumbersBelow m F → a < length F.statements → Below m (numbers_of F.count F.numbers a)
   numbers-below m a b h i l = let e = numbers-length a h in rw (numbers-at a i (omega arith)) (b.below a i h (omega arith))
-
-  pub listed : Listed F.count F.numbers F.statements F.writes
-  listed = record { few = ok.few; both = ok.both; table = ok.table }
 
   -- ---- what a pair of accesses sets
 
-  searchable : (a b base : ℕ) → a < length F.statements → b < length F.statements → base + vector_count ≤ marks_for F.body
+  pub searchable : (a b base : ℕ) → a < length F.statements → b < length F.statements → base + vector_count ≤ marks_for F.body
       → Searchable F.points F.depth (numbers_of F.count F.numbers a) (numbers_of F.count F.numbers b) base marks
   searchable a b base h g r = let e = numbers-length a h in let f = numbers-length b g in let p = ok.few in let m = ok.room in record {
     few = omega arith;
@@ -57,38 +56,26 @@ module _ (F : Flat) (marks : List Bool) (ok : Ready F marks) where
     room = omega arith;
   }
 
-  pub call-ready : (a b base : ℕ) → a < length F.statements → b < length F.statements → base + vector_count ≤ marks_for F.body
-      → Searchable F.points F.depth (take (a * F.count + F.count - a * F.count) (drop (a * F.count) F.numbers))
-      (take (b * F.count + F.count - b * F.count) (drop (b * F.count) F.numbers)) base marks
-  call-ready a b base h g r = rw (part-is F.count F.numbers a, part-is F.count F.numbers b) (searchable a b base h g r)
-
   -- the links of a source access
 
-  pub call-linkable : (a : ℕ) (next head start : List ℕ) → a < length F.statements → Lent F next head start
-      → Linkable (take (a * F.count + F.count - a * F.count) (drop (a * F.count) F.numbers))
-      (take (a * F.count + F.count - a * F.count) (drop (a * F.count) F.numbers)) head next
-  call-linkable a next head start h l = rw (part-is F.count F.numbers a) (linkable (numbers-length a h))
-    where
-      linkable : length (numbers_of F.count F.numbers a) ≡ F.count
-          → Linkable (numbers_of F.count F.numbers a) (numbers_of F.count F.numbers a) head next
-      linkable e = let p = ok.few in let r = l.nexts in record {
-        few = omega arith;
-        both = refl;
-        sources = numbers-below (length head) a
-            l.heads h;
-        sinks = numbers-below (length head) a l.heads h;
-        heads = l.heads.few;
-        clear = l.clear;
-        room = omega arith;
-      }
+  pub linkable : (a : ℕ) (next head start : List ℕ) → a < length F.statements → Lent F next head start
+      → Linkable (numbers_of F.count F.numbers a) (numbers_of F.count F.numbers a) head next
+  linkable a next head start h l = let e = numbers-length a h in let p = ok.few in let r = l.nexts in record {
+    few = omega arith;
+    both = refl;
+    sources = numbers-below (length head) a l.heads h;
+    sinks = numbers-below (length head) a l.heads h;
+    heads = l.heads.few;
+    clear = l.clear;
+    room = omega arith;
+  }
 
   pub linked : (a : ℕ) (next head start next' head' : List ℕ) → a < length F.statements → Lent F next head start
-      → Links (take (a * F.count + F.count - a * F.count) (drop (a * F.count) F.numbers))
-      (take (a * F.count + F.count - a * F.count) (drop (a * F.count) F.numbers)) false next'
+      → Links (numbers_of F.count F.numbers a) (numbers_of F.count F.numbers a) false next'
       → length next' ≡ length next → length head' ≡ length head → Clear head' → Linked (numbers_of F.count F.numbers a) next' head' start
   linked a next head start next' head' h l k m n c = let e = numbers-length a h in let p = l.nexts in let q = l.heads.few in let r = l.starts in
       record {
-        nexts = rw (part-is F.count F.numbers a) at k;
+        nexts = k;
         table = omega arith;
         sources = rw n
             (numbers-below (length head) a l.heads h);
@@ -97,40 +84,26 @@ module _ (F : Flat) (marks : List Bool) (ok : Ready F marks) where
         room = omega arith;
       }
 
-  pub call-linked : (a : ℕ) (next head start : List ℕ) → Linked (numbers_of F.count F.numbers a) next head start
-      → Linked (take (a * F.count + F.count - a * F.count) (drop (a * F.count) F.numbers)) next head start
-  call-linked a next head start l = rw (part-is F.count F.numbers a) l
-
-  pub call_below : (b m : ℕ) → b < length F.statements → NumbersBelow m F
-      → Below m (take (b * F.count + F.count - b * F.count) (drop (b * F.count) F.numbers))
-  call_below b m h l = rw (part-is F.count F.numbers b) (numbers-below m b l h)
-
-  call-found : (a b k base : ℕ) → a < length F.statements → k ≡ kind_of (writes_at F a) (writes_at F b) → k < kind_count
+  sets-found : (a b k base : ℕ) → a < length F.statements → k ≡ kind_of (writes_at F a) (writes_at F b) → k < kind_count
       → base ≡ place_of F.body (statement_of F a) (statement_of F b) k 0
-      → (j : ℕ) → found F.depth F.points (length (take (a * F.count + F.count - a * F.count) (drop (a * F.count) F.numbers)))
-      (take (a * F.count + F.count - a * F.count) (drop (a * F.count) F.numbers))
-      (take (b * F.count + F.count - b * F.count) (drop (b * F.count) F.numbers))
+      → (j : ℕ) → found F.depth F.points (length (numbers_of F.count F.numbers a)) (numbers_of F.count F.numbers a) (numbers_of F.count F.numbers b)
       (ltb (statement_of F a) (statement_of F b)) base j ≡ set_by F a b j
   unfolding set_by
-  call-found a b k base h e l f j = let t : ltb (kind_of (writes_at F a) (writes_at F b)) kind_count ≡ true = lt-ltb
+  sets-found a b k base h e l f j = let t : ltb (kind_of (writes_at F a) (writes_at F b)) kind_count ≡ true = lt-ltb
       (kind_of (writes_at F a) (writes_at F b)) kind_count (rw e at l) in
-      rw (part-is F.count F.numbers a, part-is F.count F.numbers b, numbers-length a h, f, e, t)
+      rw (numbers-length a h, f, e, t)
 
-  pub call-sets : (m : List Bool) (a b k base : ℕ) → a < length F.statements → k ≡ kind_of (writes_at F a) (writes_at F b) → k < kind_count
+  pub pair-sets : (m : List Bool) (a b k base : ℕ) → a < length F.statements → k ≡ kind_of (writes_at F a) (writes_at F b) → k < kind_count
       → base ≡ place_of F.body (statement_of F a) (statement_of F b) k 0
-      → Adds marks m (found F.depth F.points (length (take (a * F.count + F.count - a * F.count) (drop (a * F.count) F.numbers)))
-      (take (a * F.count + F.count - a * F.count) (drop (a * F.count) F.numbers))
-      (take (b * F.count + F.count - b * F.count) (drop (b * F.count) F.numbers))
-      (ltb (statement_of F a) (statement_of F b)) base)
+      → Adds marks m (found F.depth F.points (length (numbers_of F.count F.numbers a)) (numbers_of F.count F.numbers a)
+      (numbers_of F.count F.numbers b) (ltb (statement_of F a) (statement_of F b)) base)
       → Adds marks m (set_by F a b)
-  call-sets m a b k base h e l f w j = w j ∙ ap (get_or marks j false ||◌) (call-found a b k base h e l f j)
+  pair-sets m a b k base h e l f w j = w j ∙ ap (get_or marks j false ||◌) (sets-found a b k base h e l f j)
 
   -- two reads
-  pub no_call : (a b k : ℕ) → k ≡ kind_of (writes_at F a) (writes_at F b) → kind_count ≤ k → Adds marks marks (set_by F a b)
+  pub reads-set-none : (a b : ℕ) → kind_of (writes_at F a) (writes_at F b) ≡ kind_count → Adds marks marks (set_by F a b)
   unfolding set_by
-  no_call a b k e l j =
-      let t : ltb (kind_of (writes_at F a) (writes_at F b)) kind_count ≡ false = le-ltb (kind_of (writes_at F a) (writes_at F b)) kind_count (rw e at l) in
-      rw t (sym (or-false (get_or marks j false)))
+  reads-set-none a b e j = rw e (sym (or-false (get_or marks j false)))
 
 pub linked-still : (from next head start head' start' : List ℕ) → length head' ≡ length head → Clear head' → length start' ≡ length start
     → Linked from next head start → Linked from next head' start'
@@ -143,25 +116,25 @@ pub lent_still : (F : Flat) (next head start next' head' start' : List ℕ) → 
 lent_still F next head start next' head' start' e f g c l = let n = l.nexts in let s = l.starts
     in record { nexts = omega arith; heads = rw f l.heads; clear = c; starts = omega arith }
 
--- marks of the same length
-pub ready-still : (F : Flat) (m m' : List Bool) → length m' ≡ length m → Ready F m → Ready F m'
-ready-still F m m' e r = record {
+-- room for all marks
+pub ready : (F : Flat) (m : List Bool) → FlatIn F → Ordered Earlier (points_of F) → marks_for F.body ≤ length m → Ready F m
+ready F m r o l = record {
   few = r.few;
   shallow = r.shallow;
   stored = r.stored;
-  rising = r.rising;
+  rising = o;
   both = r.both;
   in_body = r.in_body;
   table = r.table;
-  room = (let l = r.room in omega arith);
+  room = l;
 }
 
--- room that is clear, with a head for each of m elements and maybe more
-pub lent-clear : (F : Flat) (m links heads : ℕ) → NumbersBelow m F → F.count ≤ links → m ≤ heads → heads ≤ 16384
+-- room that is clear
+pub lent-clear : (F : Flat) (links heads : ℕ) → NumbersBelow heads F → F.count ≤ links
     → Lent F (replicate links 0) (replicate heads 0) (replicate links 0)
-lent-clear F m links heads b l h k = let n = length-replicate {A = ℕ} links 0 in let e = length-replicate {A = ℕ} heads 0 in record {
+lent-clear F links heads b l = let n = length-replicate {A = ℕ} links 0 in let e = length-replicate {A = ℕ} heads 0 in record {
   nexts = omega arith;
-  heads = record { few = omega arith; below = λ a x g i. let q = b.below a x g i in omega arith };
+  heads = record { few = (let f = b.few in omega arith); below = λ a x g i. let q = b.below a x g i in omega arith };
   clear = λ x. none heads x;
   starts = omega arith;
 }

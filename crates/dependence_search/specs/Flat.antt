@@ -1,17 +1,18 @@
 -- The points and accesses of a nest as flat data, the model's statements that they stand for, and what the whole search asks and gives.
 use Rattle.std.specs.Prelude.{◌≡◌, Bool, true, false, ◌&&◌, ◌||◌, List, [], ◌∷◌, ◌++◌, map, ℕ, suc, ◌+◌, ◌*◌, ◌≤◌, ◌<◌, eqb, ltb, ℤ, length, take, drop, get_or}
+use Rattle.std.specs.Coded.{×_prop, Π_prop, →_prop, Unit-prop}
+use lib.Dec.{T_prop}
 use Rattle.lists.specs.Membership.{Mem}
 use Rattle.lists.specs.Order.{Ordered}
 use Rattle.lists.specs.Parts.{rows}
 use Rattle.model.specs.Ticket.{Access, Statement}
 use Rattle.model.specs.Machine.{same, element, accesses}
-use Rattle.model.specs.Directions.{Line, occurs, all_lines, kind_count}
+use Rattle.model.specs.Directions.{earlier, Line, occurs, all_lines, kind_count}
 use Rattle.model.specs.Inside.{Earlier}
 use Rattle.model.specs.Grammar.{most_points, most_loops, most_elements}
 use Rattle.dependence_vectors.specs.Numbers.{place, place_of, marks_for}
 use Rattle.dependence_vectors.specs.Candidates.{row}
 use Rattle.dependence_pair_search.specs.Search.{some, found, Clear}
-use Rattle.dependence_search.specs.declared.Sizes.{Sizes}
 
 -- ---- flat data
 
@@ -27,10 +28,6 @@ pub record Flat : Type 0 where
 
 abbrev pub flat : List ℤ → ℕ → ℕ → List ℕ → List ℕ → List Bool → ℕ → Flat
 flat p d n e s w b = record { points = p; depth = d; count = n; numbers = e; statements = s; writes = w; body = b }
-
--- the same with the sizes in a struct
-abbrev pub flat_in : List ℤ → Sizes → List ℕ → List ℕ → List Bool → Flat
-flat_in p z e s w = flat p z.depth z.count e s w z.body
 
 abbrev pub number_at : Flat → ℕ → ℕ → ℕ
 number_at F a x = get_or F.numbers (a * F.count + x) 0
@@ -81,6 +78,21 @@ pub record Describes (ss : List Statement) (F : Flat) : Type 0 where
 
 -- ---- what the search asks and gives
 
+-- the points are stored, and each access has a statement of the body and numbers
+pub record FlatIn (F : Flat) : Type 0 where
+  pub few : F.count ≤ most_points
+  pub shallow : F.depth ≤ most_loops
+  pub stored : F.count * F.depth ≤ length F.points
+  pub both : length F.writes ≡ length F.statements
+  pub in_body : (a : ℕ) → a < length F.statements → statement_of F a < F.body
+  pub table : length F.statements * F.count ≤ length F.numbers
+
+-- that points are in order has at most one proof
+pub rising-prop : (l : List (List ℤ)) → IsProp (Ordered Earlier l)
+rising-prop [] = Unit-prop
+rising-prop (p ∷ l) = ×_prop (Π_prop (λ q. →_prop (T_prop (earlier p q)))) (rising-prop l)
+
+-- the same, the points in order, and room for all marks
 pub record Ready (F : Flat) (marks : List Bool) : Type 0 where
   pub few : F.count ≤ most_points
   pub shallow : F.depth ≤ most_loops
@@ -95,10 +107,6 @@ pub record Ready (F : Flat) (marks : List Bool) : Type 0 where
 pub record NumbersBelow (m : ℕ) (F : Flat) : Type 0 where
   pub few : m ≤ most_elements
   pub below : (a x : ℕ) → a < length F.statements → x < F.count → number_at F a x < m
-
--- what is asked for the search of all accesses, whose numbers are below m
-abbrev pub SearchIn : Flat → ℕ → List Bool → Type 0
-SearchIn F m marks = Ready F marks × NumbersBelow m F
 
 -- the mark of every line that there could be is set if the model says that it occurs, and no other mark changes
 pub record Searched (F : Flat) (m m' : List Bool) : Type 0 where
@@ -131,21 +139,11 @@ set_from F a j = some (length F.statements) (λ b. set_by F a b j)
 
 -- ---- accesses that are searched once
 
-pub record Listed (n : ℕ) (numbers statements : List ℕ) (writes : List Bool) : Type 0 where
-  pub few : n ≤ most_points
-  pub both : length writes ≡ length statements
-  pub table : length statements * n ≤ length numbers
-
 -- two accesses of one statement that name the same elements in the same way
 pub record Alike (n : ℕ) (numbers statements : List ℕ) (writes : List Bool) (a b : ℕ) : Type 0 where
   pub statement : get_or statements a 0 ≡ get_or statements b 0
   pub way : get_or writes a false ≡ get_or writes b false
   pub elements : numbers_of n numbers a ≡ numbers_of n numbers b
-
--- access r is a, or an earlier one like it
-pub record FirstLike (n : ℕ) (numbers statements : List ℕ) (writes : List Bool) (a r : ℕ) : Type 0 where
-  pub earlier : r ≤ a
-  pub alike : r < a → Alike n numbers statements writes r a
 
 -- ---- what is lent for links
 

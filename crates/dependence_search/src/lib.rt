@@ -1,101 +1,61 @@
 // The search for dependences: from stored points and element numbers, the mark of every line that a listing has.
 #![tactic(auto)]
 
-ghost use Rattle.std.specs.Prelude.{◌≡◌, true, false, ◌+◌, ◌*◌, ◌-◌, ◌^◌, ◌≤◌, ◌<◌, length};
+ghost use Rattle.std.specs.Prelude.{◌≡◌, true, ℕ, ◌+◌, ◌≤◌, ◌<◌, ◌^◌, length, MatchOption};
+ghost use Rattle.model.specs.Grammar.{most_points};
 ghost use Rattle.model.specs.Directions.{kind_count, vector_count};
 ghost use Rattle.dependence_vectors.specs.Numbers.{place_of, marks_for};
 ghost use Rattle.dependence_pair_search.specs.Search.{Adds, Clear, Linked};
-ghost use Rattle.dependence_search.specs.Flat.{flat, flat_in, Ready, SearchIn, Searched, kind_of, numbers_of, set_by, set_from, NumbersBelow};
-ghost use Rattle.dependence_search.specs.Flat.{Lent, Listed, Alike, FirstLike};
+ghost use Rattle.dependence_search.specs.Flat.{Searched, kind_of, numbers_of, set_by, set_from, NumbersBelow, Lent, Alike};
+ghost use Rattle.dependence_search.specs.Nests.{flat_of};
+
+mod nests;
 
 use model::{ELEMENTS, KINDS, POINTS, VECTORS};
-
-// How much is searched: the nest's loops, its points, the elements that its accesses can name, its statements.
-#[derive(Clone, Copy)]
-pub struct Sizes {
-    pub depth: usize,
-    pub count: usize,
-    pub elements: usize,
-    pub body: usize,
-}
+pub use nests::NumberedNest;
 
 // ---- accesses that are searched once
 
-// Whether two lists of as many numbers are equal.
-fn same(p: &[u16], q: &[u16]) -> bool
-    requires { length p.now ≡ length q.now }
-    ensures { result ≡ true → p.now ≡ q.now }
-{
-    let mut i = 0;
-    while i < p.len() {
-        if p[i] != q[i] {
-            return false;
-        }
-        i += 1;
-    }
-    true
-}
-
 // Whether the accesses a and b belong to one statement and name the same elements in the same way.
-fn alike(
-    count: usize,
-    numbers: &[u16],
-    statements: &[usize],
-    writes: &[bool],
-    a: usize,
-    b: usize,
-) -> bool
-    requires { Listed count numbers.now statements.now writes.now × (a < length statements.now) × (b < length statements.now) }
-    ensures { result ≡ true → Alike count numbers.now statements.now writes.now a b }
+fn alike(nest: &NumberedNest, a: usize, b: usize) -> bool
+    requires { (a < length nest.now.statements.now) × (b < length nest.now.statements.now) }
+    ensures { result ≡ true → Alike nest.now.count nest.now.numbers.now nest.now.statements.now nest.now.writes.now a b }
 {
-    if statements[a] != statements[b] {
+    if nest.statements[a] != nest.statements[b] {
         return false;
     }
-    if writes[a] != writes[b] {
+    if nest.writes[a] != nest.writes[b] {
         return false;
     }
-    let i = a * count;
-    let j = b * count;
-    same(&numbers[i..i + count], &numbers[j..j + count])
+    nest.numbers_of(a) == nest.numbers_of(b)
 }
 
-// The first access that is like a.
-fn first_like(
-    count: usize,
-    numbers: &[u16],
-    statements: &[usize],
-    writes: &[bool],
-    a: usize,
-) -> usize
-    requires { Listed count numbers.now statements.now writes.now × (a < length statements.now) }
-    ensures { FirstLike count numbers.now statements.now writes.now a result }
+// Whether an earlier access is like a.
+fn repeats_earlier(nest: &NumberedNest, a: usize) -> bool
+    requires { a < length nest.now.statements.now }
+    ensures { result ≡ true → ((b : ℕ) × (b < a)
+        × Alike nest.now.count nest.now.numbers.now nest.now.statements.now nest.now.writes.now b a) }
 {
-    let mut b = 0;
-    while b < a {
-        if alike(count, numbers, statements, writes, b, a) {
-            return b;
+    for b in 0..a {
+        if alike(nest, b, a) {
+            return true;
         }
-        b += 1;
     }
-    a
+    false
 }
 
 // ---- all accesses
 
-// The kind of a source access and a sink access: 0 is flow, 1 is anti, 2 is output; KINDS says that there is none, of two reads.
-pub fn kind(source: bool, sink: bool) -> usize
-    ensures { result ≡ kind_of source sink }
+// The kind of a source access and a sink access: 0 is flow, 1 is anti, 2 is output; two reads have none. A number, since marks stand by it.
+pub fn kind(source: bool, sink: bool) -> Option<usize>
+    ensures { MatchOption result (kind_of source sink ≡ kind_count) (λ k. (k ≡ kind_of source sink) × (k < kind_count)) }
 {
-    if source {
-        if sink {
-            return 2;
-        }
-        return 0;
+    match (source, sink) {
+        (true, false) => Some(0),
+        (false, true) => Some(1),
+        (true, true) => Some(2),
+        (false, false) => None,
     }
-    if sink {
-        return 1;
-    }
-    KINDS
 }
 
 // Where the marks of a source statement, a sink statement and a kind begin.
@@ -108,13 +68,7 @@ pub fn block(body: usize, s: usize, t: usize, k: usize) -> usize
 
 // Marks the conflicts of access a, as the source, with access b. The links of a are lent.
 fn mark_pair(
-    points: &[i64],
-    depth: usize,
-    count: usize,
-    numbers: &[u16],
-    statements: &[usize],
-    writes: &[bool],
-    body: usize,
+    nest: &NumberedNest,
     a: usize,
     b: usize,
     next: &[u16],
@@ -122,25 +76,21 @@ fn mark_pair(
     start: &mut [u16],
     marks: &mut [bool],
 )
-    requires { Ready (flat points.now depth count numbers.now statements.now writes.now body) marks.old × (a < length statements.now)
-        × (b < length statements.now) × Linked (numbers_of count numbers.now a) next.now head.old start.old
-        × NumbersBelow (length head.old) (flat points.now depth count numbers.now statements.now writes.now body) }
-    ensures { Adds marks.old marks.new (set_by (flat points.now depth count numbers.now
-        statements.now writes.now body) a b) × Clear head.new }
+    requires { (marks_for nest.now.body ≤ length marks.old) × (a < length nest.now.statements.now) × (b < length nest.now.statements.now)
+        × Linked (numbers_of nest.now.count nest.now.numbers.now a) next.now head.old start.old
+        × NumbersBelow (length head.old) (flat_of nest.now) }
+    ensures { Adds marks.old marks.new (set_by (flat_of nest.now) a b) × Clear head.new }
 {
-    let k = kind(writes[a], writes[b]);
-    if k < KINDS {
-        let s = statements[a];
-        let t = statements[b];
-        let i = a * count;
-        let j = b * count;
+    if let Some(k) = kind(nest.writes[a], nest.writes[b]) {
+        let s = nest.statements[a];
+        let t = nest.statements[b];
         dependence_pair_search::search(
-            points,
-            depth,
-            &numbers[i..i + count],
-            &numbers[j..j + count],
+            nest.points,
+            nest.depth,
+            nest.numbers_of(a),
+            nest.numbers_of(b),
             s < t,
-            block(body, s, t, k),
+            block(nest.body, s, t, k),
             next,
             head,
             start,
@@ -149,187 +99,76 @@ fn mark_pair(
     }
 }
 
-// Marks the conflicts of access a, as the source, with every access.
+// Marks the conflicts of access a, as the source, with every access. A sink that an earlier one is like sets no more.
 fn mark_source(
-    points: &[i64],
-    depth: usize,
-    count: usize,
-    numbers: &[u16],
-    statements: &[usize],
-    writes: &[bool],
-    body: usize,
+    nest: &NumberedNest,
     a: usize,
     next: &mut [u16],
     head: &mut [u16],
     start: &mut [u16],
     marks: &mut [bool],
 )
-    requires { Ready (flat points.now depth count numbers.now statements.now writes.now body) marks.old × (a < length statements.now)
-        × Lent (flat points.now depth count numbers.now statements.now writes.now body) next.old head.old start.old }
-    ensures { Adds marks.old marks.new (set_from (flat points.now depth count numbers.now
-        statements.now writes.now body) a) × Clear head.new }
+    requires { (marks_for nest.now.body ≤ length marks.old) × (a < length nest.now.statements.now)
+        × Lent (flat_of nest.now) next.old head.old start.old }
+    ensures { Adds marks.old marks.new (set_from (flat_of nest.now) a) × Clear head.new }
 {
-    let i = a * count;
-    dependence_pair_search::link(
-        &numbers[i..i + count],
-        &numbers[i..i + count],
-        false,
-        head,
-        next,
-    );
-    let mut b = 0;
-    while b < statements.len() {
-        if first_like(count, numbers, statements, writes, b) == b {
-            mark_pair(
-                points, depth, count, numbers, statements, writes, body, a, b, next, head, start,
-                marks,
-            );
+    let numbers = nest.numbers_of(a);
+    dependence_pair_search::link(numbers, numbers, false, head, next);
+    for b in 0..nest.statements.len() {
+        if !repeats_earlier(nest, b) {
+            mark_pair(nest, a, b, next, head, start, marks);
         }
-        b += 1;
     }
 }
 
 // Marks the conflicts of every access, as the source, with every access. A source that an earlier one is like sets no more.
 fn mark_sources(
-    points: &[i64],
-    depth: usize,
-    count: usize,
-    numbers: &[u16],
-    statements: &[usize],
-    writes: &[bool],
-    body: usize,
+    nest: &NumberedNest,
     next: &mut [u16],
     head: &mut [u16],
     start: &mut [u16],
     marks: &mut [bool],
 )
-    requires { Ready (flat points.now depth count numbers.now statements.now writes.now body) marks.old
-        × Lent (flat points.now depth count numbers.now statements.now writes.now body) next.old head.old start.old }
-    ensures { Searched (flat points.now depth count numbers.now statements.now writes.now body)
-        marks.old marks.new }
+    requires { (marks_for nest.now.body ≤ length marks.old) × Lent (flat_of nest.now) next.old head.old start.old }
+    ensures { Searched (flat_of nest.now) marks.old marks.new }
 {
-    let mut a = 0;
-    while a < statements.len() {
-        if first_like(count, numbers, statements, writes, a) == a {
-            mark_source(
-                points, depth, count, numbers, statements, writes, body, a, next, head, start,
-                marks,
-            );
+    for a in 0..nest.statements.len() {
+        if !repeats_earlier(nest, a) {
+            mark_source(nest, a, next, head, start, marks);
         }
-        a += 1;
     }
 }
 
-// Whether links for so many points and heads for so many elements do.
-fn has_room(sizes: Sizes, links: usize, heads: usize) -> bool
-    ensures { result ≡ true → (sizes.count ≤ links) × (sizes.elements ≤ heads) }
-{
-    if links < sizes.count {
-        return false;
-    }
-    sizes.elements <= heads
-}
-
-// `dependences` of a large nest: of few points, or of any. Apart from it, so that a small nest does not pass through this room.
-fn dependences_in_large(
-    points: &[i64],
-    sizes: Sizes,
-    numbers: &[u16],
-    statements: &[usize],
-    writes: &[bool],
+// Marks every line with room for the links of LINKS points and for the heads of HEADS elements. In a frame of its own, so that a small nest does not
+// pass through the room of a large one.
+#[inline(never)]
+fn dependences_in_room<const LINKS: usize, const HEADS: usize>(
+    nest: &NumberedNest,
     marks: &mut [bool],
 )
-    requires { SearchIn (flat_in points.now sizes numbers.now statements.now writes.now) sizes.elements marks.old }
-    ensures { Searched (flat_in points.now sizes numbers.now statements.now writes.now)
-        marks.old marks.new }
+    requires { (marks_for nest.now.body ≤ length marks.old) × (nest.now.count ≤ LINKS) × (LINKS ≤ most_points)
+        × NumbersBelow HEADS (flat_of nest.now) }
+    ensures { Searched (flat_of nest.now) marks.old marks.new }
 {
-    if has_room(sizes, 256, 8192) {
-        let mut next = [0u16; 256];
-        let mut head = [0u16; 8192];
-        let mut start = [0u16; 256];
-        mark_sources(
-            points,
-            sizes.depth,
-            sizes.count,
-            numbers,
-            statements,
-            writes,
-            sizes.body,
-            &mut next,
-            &mut head,
-            &mut start,
-            marks,
-        );
-        return;
-    }
-    let mut next = [0u16; POINTS];
-    let mut head = [0u16; ELEMENTS];
-    let mut start = [0u16; POINTS];
-    mark_sources(
-        points,
-        sizes.depth,
-        sizes.count,
-        numbers,
-        statements,
-        writes,
-        sizes.body,
-        &mut next,
-        &mut head,
-        &mut start,
-        marks,
-    );
+    let mut next = [0u16; LINKS];
+    let mut head = [0u16; HEADS];
+    let mut start = [0u16; LINKS];
+    mark_sources(nest, &mut next, &mut head, &mut start, marks);
 }
 
 // Marks every line that the listing of the nest has. All numbers are below `elements`; fewer points and elements have fewer links and heads to clear.
-pub fn dependences(
-    points: &[i64],
-    sizes: Sizes,
-    numbers: &[u16],
-    statements: &[usize],
-    writes: &[bool],
-    marks: &mut [bool],
-)
-    requires { SearchIn (flat_in points.now sizes numbers.now statements.now writes.now) sizes.elements marks.old }
-    ensures { Searched (flat_in points.now sizes numbers.now statements.now writes.now)
-        marks.old marks.new }
+pub fn dependences(nest: &NumberedNest, elements: usize, marks: &mut [bool])
+    requires { (marks_for nest.now.body ≤ length marks.old) × NumbersBelow elements (flat_of nest.now) }
+    ensures { Searched (flat_of nest.now) marks.old marks.new }
 {
-    if has_room(sizes, 32, 128) {
-        let mut next = [0u16; 32];
-        let mut head = [0u16; 128];
-        let mut start = [0u16; 32];
-        mark_sources(
-            points,
-            sizes.depth,
-            sizes.count,
-            numbers,
-            statements,
-            writes,
-            sizes.body,
-            &mut next,
-            &mut head,
-            &mut start,
-            marks,
-        );
-        return;
+    let count = nest.count;
+    if count <= 32 && elements <= 128 {
+        dependences_in_room::<32, 128>(nest, marks);
+    } else if count <= 256 && elements <= 1024 {
+        dependences_in_room::<256, 1024>(nest, marks);
+    } else if count <= 256 && elements <= 8192 {
+        dependences_in_room::<256, 8192>(nest, marks);
+    } else {
+        dependences_in_room::<POINTS, ELEMENTS>(nest, marks);
     }
-    if has_room(sizes, 256, 1024) {
-        let mut next = [0u16; 256];
-        let mut head = [0u16; 1024];
-        let mut start = [0u16; 256];
-        mark_sources(
-            points,
-            sizes.depth,
-            sizes.count,
-            numbers,
-            statements,
-            writes,
-            sizes.body,
-            &mut next,
-            &mut head,
-            &mut start,
-            marks,
-        );
-        return;
-    }
-    dependences_in_large(points, sizes, numbers, statements, writes, marks);
 }

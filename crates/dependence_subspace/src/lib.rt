@@ -2,33 +2,20 @@
 // left.
 #![tactic(auto)]
 
-ghost use Rattle.std.specs.Prelude.{◌≡◌, ◌≤◌, ◌<◌};
+ghost use Rattle.std.specs.Prelude.{◌≤◌, ◌<◌};
 ghost use Rattle.integers.specs.Difference.{size};
 ghost use Rattle.nest_flat.specs.Flat.{NestOk};
 ghost use Rattle.nest_loop_ranges.specs.Ranges.{range_as, NearRange, RangesIn};
-ghost use Rattle.ticket_loops.specs.LoopReads.{LimitIn};
 ghost use Rattle.dependence_subspace.specs.Subspaces.{ShortenIn, Shortens, Narrower};
 
 use model::{LIMITS, LOOPS};
 use nest_loop_ranges::Range;
-use ticket_loops::Limit;
 
 // A part of a nest has few values of each loop: the least ones, or those round the middle.
 #[derive(Clone, Copy)]
 pub enum Part {
     Corner,
     Centre,
-}
-
-// index ≥ v among lower limits, index ≤ v among upper ones
-fn constant_limit_at(v: i32) -> Limit
-    ensures { (result.multiplier ≡ 1) × LimitIn result }
-{
-    Limit {
-        multiplier: 1,
-        constant: v,
-        coefficients: [0i32; LOOPS],
-    }
 }
 
 // Gives loop k the limit v more, on side 0 a lower one and on side 1 an upper one, where there is room and v is within ±32767.
@@ -38,8 +25,8 @@ fn add_limit(limits: &mut [i16], counts: &mut [usize], k: usize, side: usize, v:
 {
     let n = counts[k * 2 + side];
     if n < LIMITS {
-        let limit = constant_limit_at(v);
-        if step_limits::put_limit(limits, k * 32 + side * 16 + n, limit, k) {
+        let limit = step_loops::constant_limit(v);
+        if step_limits::put_limit(limits, k * 32 + side * 16 + n, limit, k).is_ok() {
             counts[k * 2 + side] = n + 1;
         }
     }
@@ -98,9 +85,7 @@ pub fn restrict_nest(
     requires { NestOk limits.old counts.old depth × RangesIn depth ranges }
     ensures { Narrower limits.old counts.old depth limits.new counts.new }
 {
-    let mut k = 0;
-    while k < depth {
+    for k in 0..depth {
         restrict_loop(limits, counts, k, ranges[k], value_count(depth), part);
-        k += 1;
     }
 }

@@ -7,12 +7,14 @@ use native.Mathlib.Omega.{arith}
 use lib.IntN.{ℤ, pos}
 use lib.ListN.{length, replicate, take, drop, get_or, length-take, length-drop}
 use lib.Seq.{drop-cons, drop-length}
+use mir.Syntax.{w64}
+use mir.Val.{SFits, of_z, to_z}
 use Rattle.integers.specs.Sign.{equal, sign}
 use Rattle.model.specs.Directions.{signs, vector_count}
 use Rattle.dependence_vectors.specs.Numbers.{digit, number_after, number, SignsIn, Left}
 use Rattle.dependence_vectors.specs.Candidates.{row, code, stride}
 use Rattle.dependence_vectors.proofs.HornerLaws.{number-after}
-use Rattle.dependence_vectors.proofs.NumberLaws.{after-ge, after-append, number_lt, number-splits, stride-half, signs-length, signs-short}
+use Rattle.dependence_vectors.proofs.NumberLaws.{after-ge, after-append, number_lt, number-splits, sign-back, stride-half, signs-length, signs-short}
 
 -- ---- rows
 
@@ -55,9 +57,14 @@ module _ (p q : List ℤ) (both : SignsIn p q) where
   unfolding Left
   left-first = refl
 
-  pub left-next : (k v : ℕ) → k < length p → Left p q k v → Left p q (k + 1) (v * 3 + digit (sign (get_or p k (pos 0)) (get_or q k (pos 0))))
+  left-next : (k v : ℕ) → k < length p → Left p q k v → Left p q (k + 1) (v * 3 + digit (sign (get_or p k (pos 0)) (get_or q k (pos 0))))
   unfolding Left number_after signs
   left-next k v h i = let g : k < length q = omega arith in rw (add-one k) (rw (drop-cons p k (pos 0) h, drop-cons q k (pos 0) g) at i)
+
+  -- d is the digit of two indices that were read from 64 bits
+  pub left-after : (k v : ℕ) {d : ℕ} → k < length p → SFits w64 (get_or p k (pos 0)) → SFits w64 (get_or q k (pos 0)) → Left p q k v
+      → d ≡ digit (sign (to_z w64 (of_z w64 (get_or p k (pos 0)))) (to_z w64 (of_z w64 (get_or q k (pos 0))))) → Left p q (k + 1) (v * 3 + d)
+  left-after k v h f g i e = rw (sign-back _ _ f g e) (left-next k v h i)
 
   pub left-small : (k v : ℕ) → Left p q k v → v < vector_count
   unfolding Left

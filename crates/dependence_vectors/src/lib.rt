@@ -21,72 +21,36 @@ pub fn sign(a: i64, b: i64) -> usize
     (integers::sign_of(a, b) + 1) as usize
 }
 
-// The number that the first k signs of two points make, and one sign more.
-fn add_sign(p: &[i64], q: &[i64], k: usize, v: usize) -> usize
-    requires { SignsIn p.now q.now × (k < length p.now) × Left p.now q.now k v }
-    ensures { Left p.now q.now (k + 1) result }
-{
-    v * 3 + sign(p[k], q[k])
-}
-
-// The first sign; below it the first two, three and four, then all.
-fn sign_digits_one(p: &[i64], q: &[i64]) -> usize
-    requires { SignsIn p.now q.now × (1 ≤ length p.now) }
-    ensures { Left p.now q.now 1 result }
-{
-    add_sign(p, q, 0, 0)
-}
-
-fn sign_digits_two(p: &[i64], q: &[i64]) -> usize
-    requires { SignsIn p.now q.now × (2 ≤ length p.now) }
-    ensures { Left p.now q.now 2 result }
-{
-    add_sign(p, q, 1, sign_digits_one(p, q))
-}
-
-fn sign_digits_three(p: &[i64], q: &[i64]) -> usize
-    requires { SignsIn p.now q.now × (3 ≤ length p.now) }
-    ensures { Left p.now q.now 3 result }
-{
-    add_sign(p, q, 2, sign_digits_two(p, q))
-}
-
-fn sign_digits_four(p: &[i64], q: &[i64]) -> usize
-    requires { SignsIn p.now q.now × (4 ≤ length p.now) }
-    ensures { Left p.now q.now 4 result }
-{
-    add_sign(p, q, 3, sign_digits_three(p, q))
-}
-
-fn sign_digits_loop(p: &[i64], q: &[i64]) -> usize
-    requires { SignsIn p.now q.now }
-    ensures { Left p.now q.now (length p.now) result }
+// The number that the first n signs of two points make, as base-three digits, the outermost most significant.
+#[inline(always)]
+fn first_signs(p: &[i64], q: &[i64], n: usize) -> usize
+    requires { SignsIn p.now q.now × (n ≤ length p.now) }
+    ensures { Left p.now q.now n result }
 {
     let mut v = 0;
-    let mut k = 0;
-    while k < p.len() {
-        v = add_sign(p, q, k, v);
-        k += 1;
+    for k in 0..n {
+        v = v * 3 + sign(p[k], q[k]);
     }
     v
 }
 
-// The signs of two points as base-three digits, the outermost most significant. Up to four are read with no loop, so that the compiler can lift
-// the choice out of a walk over points.
+// All signs of two points as base-three digits. Up to four are read with no loop, so that the compiler can lift the choice out of a walk over
+// points.
 fn sign_digits(p: &[i64], q: &[i64]) -> usize
     requires { SignsIn p.now q.now }
     ensures { result ≡ number_after 0 (signs p.now q.now) }
 {
     match p.len() {
-        1 => sign_digits_one(p, q),
-        2 => sign_digits_two(p, q),
-        3 => sign_digits_three(p, q),
-        4 => sign_digits_four(p, q),
-        _ => sign_digits_loop(p, q),
+        1 => first_signs(p, q, 1),
+        2 => first_signs(p, q, 2),
+        3 => first_signs(p, q, 3),
+        4 => first_signs(p, q, 4),
+        n => first_signs(p, q, n),
     }
 }
 
 // How far the numbers of vectors of so many loops are from one another: 3 for each missing loop.
+#[tactic(auto, unfolding(crate::specs::Candidates::stride))]
 pub fn stride(depth: usize) -> usize
     requires { depth ≤ most_loops }
     ensures { (result ≡ «stride-of» (6 - depth)) × (result ≤ vector_count) }
@@ -131,15 +95,11 @@ pub fn is_candidate(v: usize, varying: &[bool]) -> bool
     ensures { Candidate varying.now v result }
 {
     let mut w = v;
-    let mut k = 6;
-    while 0 < k {
-        k -= 1;
-        if !varying[k] {
-            if w % 3 != 1 {
-                return false;
-            }
+    for k in (0..6).rev() {
+        if !varying[k] && w % 3 != 1 {
+            return false;
         }
-        w = w / 3;
+        w /= 3;
     }
     true
 }

@@ -4,8 +4,4 @@
 use ticket_refusals::Refusal;
 
 // The answer of judge, write, list and run: a count of iterations or of bytes.
-#[derive(Clone, Copy)]
-pub enum Answer {
-    Accepted(usize),
-    Refused(Refusal),
-}
+pub type Answer = Result<usize, Refusal>;

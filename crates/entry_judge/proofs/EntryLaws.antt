@@ -1,7 +1,8 @@
 -- The verdict's answer is the model's `judge`.
-use mathlib.Core.Path.{◌≡◌, sym, ◌∙◌, ap}
+use mathlib.Core.Path.{◌≡◌, ◌∙◌, ap}
 use mathlib.Core.List.{List}
 use lib.IntN.{ℤ}
+use Rattle.std.specs.Prelude.{Result, Ok, Err}
 use lib.ListN.{length}
 use Rattle.model.specs.Answer.{accepted, ◌>>=◌}
 use Rattle.model.specs.Grammar.{decode}
@@ -10,27 +11,21 @@ use Rattle.model.specs.Judge.{Judged}
 use Rattle.model.specs.Entries.{judge, judge_of}
 use Prim.Native.Nat.{ℕ}
 use Rattle.ticket_refusals.specs.declared.Refusal.{Refusal}
-use Rattle.ticket_refusals.specs.declared.Status.{Status}
-use Rattle.ticket_refusals.specs.declared.Status.TheVariants.{Fine, Refused}
 use Rattle.ticket_refusals.specs.Refusals.{refusal}
-use Rattle.nest_flat.specs.FlatNests.{flat_nest, nest_of}
-use Rattle.step_judgement.specs.Judgement.{judged_as}
+use Rattle.step_judgement.specs.Judgement.{answer_with}
 use Rattle.ticket_judgement.specs.declared.Decided.{Decided}
-use Rattle.ticket_judgement.specs.Verdicts.{Decides}
+use Rattle.ticket_judgement.specs.Verdicts.{judged_with, Decides}
 
-module _ (b : List ℕ) (d : Decided) (l w : List ℤ) (h : Decides (decode b) d l w) where
-  whole : (judged_as d.status (record { ticket = h.ticket; new = nest_of (flat_nest d.header l w) }) >>=
+module _ (b : List ℕ) (l w : List ℤ) where
+  whole : (x : Result Decided Refusal) (h : Decides (decode b) x l w) → (answer_with (judged_with h.ticket l w) x >>=
       (λ (j : Judged). accepted (length (iterations j.ticket.nest.loops)))) ≡ judge b
   unfolding judge_of
-  whole = ap (◌>>= (λ (j : Judged). accepted (length (iterations j.ticket.nest.loops)))) h.same
+  whole x h = ap (◌>>= (λ (j : Judged). accepted (length (iterations j.ticket.nest.loops)))) h.same
 
-  pub judge-refused : (r : Refusal) → d.status ≡ Refused r → refusal r ≡ judge b
+  pub judge-refused : (r : Refusal) → Decides (decode b) (Err r) l w → refusal r ≡ judge b
   unfolding ◌>>=◌
-  judge-refused r s = sym (ap (λ (x : Status). judged_as x (record { ticket = h.ticket; new = nest_of (flat_nest d.header l w) }) >>=
-      (λ (j : Judged). accepted (length (iterations j.ticket.nest.loops)))) s) ∙ whole
+  judge-refused r h = whole (Err r) h
 
-  pub judge-accepted : d.status ≡ Fine → accepted d.count ≡ judge b
+  pub judge-accepted : (d : Decided) → Decides (decode b) (Ok d) l w → accepted d.count ≡ judge b
   unfolding ◌>>=◌
-  judge-accepted s = ap accepted (h.known s).count
-      ∙ sym (ap (λ (x : Status). judged_as x (record { ticket = h.ticket; new = nest_of (flat_nest d.header l w) }) >>=
-      (λ (j : Judged). accepted (length (iterations j.ticket.nest.loops)))) s) ∙ whole
+  judge-accepted d h = ap accepted h.known.count ∙ whole (Ok d) h

@@ -3,11 +3,11 @@
 
 ghost use Rattle.std.specs.Prelude.{◌≡◌, List, ℕ};
 ghost use Rattle.model.specs.Entries as Entries;
-ghost use Rattle.entry_answers.specs.Answers.{answer_of, Demand3};
+ghost use Rattle.ticket_refusals.specs.Refusals.{answer_of};
+ghost use Rattle.entry_answers.specs.Answers.{Demand3};
 
 use entry_answers::Answer;
 use model::{NEST_ROOM, WORDS};
-use ticket_refusals::Status;
 
 // Where it accepts, the new order runs each iteration of the old exactly once and every array ends equal, whatever the arrays hold and whatever
 // the rules (model, Demands: demand-3); a refusal has its reason (judge-refuses).
@@ -18,10 +18,6 @@ pub fn judge(ticket: &[u8]) -> Answer
     let mut limits = [0i16; NEST_ROOM];
     let mut words = [0i16; WORDS];
     let read = ticket_decoding::decode(ticket, &mut limits, &mut words);
-    let decided = ticket_judgement::decide(read, &mut limits, &mut words);
-    let status = decided.status;
-    match status {
-        Status::Fine => Answer::Accepted(decided.count),
-        Status::Refused(r) => Answer::Refused(r),
-    }
+    let decided = ticket_judgement::decide(read, &mut limits, &mut words)?;
+    Ok(decided.count)
 }

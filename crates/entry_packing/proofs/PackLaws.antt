@@ -4,12 +4,10 @@ use Prim.Native.Nat.{ℕ, ◌+◌, ◌*◌, ◌%◌}
 use Rattle.model.specs.Answer.{Answer, number_in, place_in, count_in}
 use Rattle.model.specs.Quick.{Independence}
 use Rattle.ticket_refusals.specs.declared.Refusal.{Refusal}
-use Rattle.ticket_refusals.specs.Refusals.{number_of, place_of}
-use Rattle.entry_answers.specs.declared.Answer as Counted
-use Rattle.entry_answers.specs.declared.Answer.TheVariants.{Accepted, Refused}
-use Rattle.entry_answers.specs.Answers as Counts
-use Rattle.entry_quick.specs.declared.Tested as Tested
-use Rattle.entry_quick.specs.declared.Tested.TheVariants as tested
+use Rattle.std.specs.Prelude.{Result, Ok, Err}
+use Rattle.ticket_refusals.specs.Refusals.{number_of, place_of, answer_of}
+use Rattle.entry_quick.specs.declared.Meeting.{Meeting}
+use Rattle.entry_quick.specs.declared.Meeting.TheVariants.{Apart, Perhaps}
 use Rattle.entry_quick.specs.Answers as Tests
 use Rattle.entry_packing.specs.Packed.{fields, packed, counted}
 
@@ -19,29 +17,30 @@ fields-is n p c = refl
 
 -- ---- an answer with a count
 
-pub accepted-packed : (q n : ℕ) (a : Counted.Answer) → q ≡ fields 0 0 n → a ≡ Accepted n → q ≡ packed (Counts.answer_of a)
+pub accepted-packed : (q n : ℕ) (a : Result ℕ Refusal) → q ≡ fields 0 0 n → a ≡ Ok n → q ≡ packed (answer_of a)
 unfolding packed number_in place_in count_in
-accepted-packed q n a e h = e ∙ sym (ap (λ (x : Counted.Answer). packed (Counts.answer_of x)) h)
+accepted-packed q n a e h = e ∙ sym (ap (λ (x : Result ℕ Refusal). packed (answer_of x)) h)
 
-pub refused-packed : (q : ℕ) (r : Refusal) (a : Counted.Answer) → q ≡ fields (number_of r) (place_of r) 0 → a ≡ Refused r
-    → q ≡ packed (Counts.answer_of a)
+pub refused-packed : (q : ℕ) (r : Refusal) (a : Result ℕ Refusal) → q ≡ fields (number_of r) (place_of r) 0 → a ≡ Err r → q ≡ packed (answer_of a)
 unfolding packed number_in place_in count_in
-refused-packed q r a e h = e ∙ sym (ap (λ (x : Counted.Answer). packed (Counts.answer_of x)) h)
+refused-packed q r a e h = e ∙ sym (ap (λ (x : Result ℕ Refusal). packed (answer_of x)) h)
 
 -- ---- the quick test's
 
-pub apart-packed : (q : ℕ) (a : Tested.Tested) → q ≡ fields 0 0 1 → a ≡ tested.Apart → q ≡ packed (counted (Tests.answer_of a))
-unfolding packed counted number_in place_in count_in
-apart-packed q a e h = e ∙ sym (ap (λ (x : Tested.Tested). packed (counted (Tests.answer_of x))) h)
-
-pub perhaps-packed : (q : ℕ) (a : Tested.Tested) → q ≡ fields 0 0 0 → a ≡ tested.Perhaps → q ≡ packed (counted (Tests.answer_of a))
-unfolding packed counted number_in place_in count_in
-perhaps-packed q a e h = e ∙ sym (ap (λ (x : Tested.Tested). packed (counted (Tests.answer_of x))) h)
-
-pub refused-test : (q : ℕ) (r : Refusal) (a : Tested.Tested) → q ≡ fields (number_of r) (place_of r) 0 → a ≡ tested.Refused r
+pub apart-packed : (q : ℕ) (a : Result Meeting Refusal) (m : Meeting) → q ≡ fields 0 0 1 → a ≡ Ok m → m ≡ Apart
     → q ≡ packed (counted (Tests.answer_of a))
 unfolding packed counted number_in place_in count_in
-refused-test q r a e h = e ∙ sym (ap (λ (x : Tested.Tested). packed (counted (Tests.answer_of x))) h)
+apart-packed q a m e h f = e ∙ sym (ap (λ (x : Result Meeting Refusal). packed (counted (Tests.answer_of x))) (h ∙ ap Ok f))
+
+pub perhaps-packed : (q : ℕ) (a : Result Meeting Refusal) (m : Meeting) → q ≡ fields 0 0 0 → a ≡ Ok m → m ≡ Perhaps
+    → q ≡ packed (counted (Tests.answer_of a))
+unfolding packed counted number_in place_in count_in
+perhaps-packed q a m e h f = e ∙ sym (ap (λ (x : Result Meeting Refusal). packed (counted (Tests.answer_of x))) (h ∙ ap Ok f))
+
+pub refused-test : (q : ℕ) (r : Refusal) (a : Result Meeting Refusal) → q ≡ fields (number_of r) (place_of r) 0 → a ≡ Err r
+    → q ≡ packed (counted (Tests.answer_of a))
+unfolding packed counted number_in place_in count_in
+refused-test q r a e h = e ∙ sym (ap (λ (x : Result Meeting Refusal). packed (counted (Tests.answer_of x))) h)
 
 -- ---- any answer
 

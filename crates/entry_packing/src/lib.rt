@@ -2,13 +2,12 @@
 #![tactic(auto)]
 
 ghost use Rattle.std.specs.Prelude.{◌≡◌};
-ghost use Rattle.ticket_refusals.specs.Refusals.{number_of, place_of};
-ghost use Rattle.entry_answers.specs.Answers as Answers;
+ghost use Rattle.ticket_refusals.specs.Refusals.{number_of, place_of, answer_of};
 ghost use Rattle.entry_quick.specs.Answers as Tests;
 ghost use Rattle.entry_packing.specs.Packed.{fields, packed, counted};
 
 use entry_answers::Answer;
-use entry_quick::Tested;
+use entry_quick::Meeting;
 use ticket_refusals::Refusal;
 
 pub fn pack(number: usize, place: usize, count: usize) -> u64
@@ -23,28 +22,24 @@ pub fn pack(number: usize, place: usize, count: usize) -> u64
 fn pack_refusal(r: Refusal) -> u64
     ensures { result ≡ fields (number_of r) (place_of r) 0 }
 {
-    pack(
-        ticket_refusals::number_of(r),
-        ticket_refusals::place_of(r),
-        0,
-    )
+    pack(r.number(), r.place(), 0)
 }
 
-pub fn pack_answer(a: Answer) -> u64
-    ensures { result ≡ packed (Answers.answer_of a) }
+pub fn pack_answer(answer: Answer) -> u64
+    ensures { result ≡ packed (answer_of answer) }
 {
-    match a {
-        Answer::Accepted(n) => pack(0, 0, n),
-        Answer::Refused(r) => pack_refusal(r),
+    match answer {
+        Ok(n) => pack(0, 0, n),
+        Err(r) => pack_refusal(r),
     }
 }
 
-pub fn pack_test(a: Tested) -> u64
-    ensures { result ≡ packed (counted (Tests.answer_of a)) }
+pub fn pack_test(test: Result<Meeting, Refusal>) -> u64
+    ensures { result ≡ packed (counted (Tests.answer_of test)) }
 {
-    match a {
-        Tested::Apart => pack(0, 0, 1),
-        Tested::Perhaps => pack(0, 0, 0),
-        Tested::Refused(r) => pack_refusal(r),
+    match test {
+        Ok(Meeting::Apart) => pack(0, 0, 1),
+        Ok(Meeting::Perhaps) => pack(0, 0, 0),
+        Err(r) => pack_refusal(r),
     }
 }

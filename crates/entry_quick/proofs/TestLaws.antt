@@ -2,15 +2,15 @@
 use mathlib.Core.Path.{◌≡◌, refl, sym, ◌∙◌, ap, subst}
 use mathlib.Core.Bool.{Bool, true, false, not, cond, ◌&&◌}
 use mathlib.Core.List.{List}
-use Prim.Native.Nat.{ℕ, zero, suc, ◌-◌, ◌≤◌, ◌<◌}
+use Prim.Native.Nat.{ℕ, ◌-◌, ◌≤◌, ◌<◌}
 use native.Mathlib.Omega.{arith}
-use lib.Dec.{T, leb, leb→le, leb-zero, leb-suc-suc}
+use lib.Dec.{T, leb, leb→le}
 use lib.IntN.{ℤ}
 use lib.ListN.{length, get_or}
 use Rattle.model.specs.Answer.{Answer, accepted, refused, require, ◌>>◌, ◌>>=◌}
 use Rattle.model.specs.Ticket.{Access, Ticket}
 use Rattle.model.specs.Bounds.{admitted}
-use Rattle.model.specs.Quick.{apart, perhaps, is_apart, quick_test}
+use Rattle.model.specs.Quick.{Independence, apart, perhaps, is_apart, quick_test}
 use Rattle.model.specs.Judge.{admit_of}
 use Rattle.model.specs.Entries.{all_accesses, access_number, quick_of}
 use Rattle.ticket_refusals.specs.declared.Refusal.{Refusal}
@@ -20,16 +20,20 @@ use Rattle.ticket_steps.specs.declared.Steps.{Steps}
 use Rattle.ticket_decoding.specs.declared.Decoded.{Decoded}
 use Rattle.ticket_decoding.specs.Ticket.{ticket_on, ticket_of, Decodes}
 use Rattle.nest_flat.specs.FlatNests.{FlatNest, flat_nest, nest_of, FlatNestIn, no_access, access_of}
-use Rattle.ticket_refusals.specs.declared.Status.{Status}
-use Rattle.ticket_refusals.specs.declared.Status.TheVariants.{Fine, Refused}
-use Rattle.nest_admission.specs.Admission.{passed, Admits}
-use Rattle.nest_admission.specs.declared.Counted.{Counted}
+use Rattle.std.specs.Prelude.{Result, Ok, Err}
+use Rattle.std.specs.Result.{IsErrAnd}
+use Rattle.ticket_admission.proofs.CountedTicketLaws.{handed-on}
+use Rattle.nest_admission.specs.Admission.{Admits}
 use Rattle.ticket_admission.specs.CountedTickets.{Counts}
-use Rattle.ticket_admission.proofs.AdmitLaws.{not-counted, ticket-there}
+use Rattle.ticket_admission.proofs.AdmitLaws.{not-counted}
 use Rattle.nest_quick_test.specs.Nests.{NestTestIn}
 use Rattle.nest_flat.proofs.FlatNestLaws.{access-count}
-use Rattle.entry_quick.specs.declared.Tested.{Tested}
+use Rattle.entry_quick.specs.declared.Meeting.{Meeting}
 use Rattle.entry_quick.specs.Answers.{answer_of, tested, test_nest}
+
+-- a refusal that a `?` hands on
+pub said : {m : Answer Independence} (x : Result Meeting Refusal) (r : Refusal) → IsErrAnd x (λ e. e ≡ r) → refusal r ≡ m → answer_of x ≡ m
+said {m} x r h p = handed-on (λ y. answer_of y ≡ m) x h p
 
 both : (a b : Bool) → (a && b) ≡ true → (a ≡ true) × (b ≡ true)
 both true b e = (refl, e)
@@ -44,14 +48,6 @@ not-false true e = refl
 not-false false e = absurd (subst T e tt)
 
 -- ---- an access number
-
-pub none : (n m : ℕ) → n < 1 → false ≡ (leb 1 n && leb n m)
-none zero m h = refl
-none (suc n) m h = absurd (omega arith)
-
-pub some : (n m : ℕ) → 1 ≤ n → leb n m ≡ (leb 1 n && leb n m)
-some zero m h = absurd (omega arith)
-some (suc n) m h = ap (◌&& leb (suc n) m) (sym (leb-suc-suc 0 n ∙ leb-zero n))
 
 number_is : (l : List Access) (n : ℕ) → access_number l n ≡ cond (leb 1 n && leb n (length l)) (accepted (get_or l (n - 1) no_access)) (refused 4 0)
 unfolding access_number require ◌>>◌ ◌>>=◌
@@ -116,14 +112,14 @@ module _ (P : FlatNest) (h : FlatNestIn P) (u : ℕ) (s : Bool) (e : s ≡ (leb 
 
 -- ---- a nest of which refusal 9 was found, or passed
 
-module _ (P : FlatNest) (s : Status) (h : Admits P s) (u v : ℕ) where
-  pub found-refused : (r : Refusal) → s ≡ Refused r → refusal r ≡ test_nest (nest_of P) u v
+module _ (P : FlatNest) (u v : ℕ) where
+  pub found-refused : (r : Refusal) → Admits P (Err r) → refusal r ≡ test_nest (nest_of P) u v
   unfolding test_nest ◌>>◌ ◌>>=◌
-  found-refused r e = ap (◌>> tested (nest_of P) u v) (sym (ap passed e) ∙ h)
+  found-refused r h = ap (◌>> tested (nest_of P) u v) h
 
-  pub found_passed : s ≡ Fine → (a : Tested) → answer_of a ≡ tested (nest_of P) u v → answer_of a ≡ test_nest (nest_of P) u v
+  pub found_passed : Admits P (Ok tt) → (a : Result Meeting Refusal) → answer_of a ≡ tested (nest_of P) u v → answer_of a ≡ test_nest (nest_of P) u v
   unfolding test_nest ◌>>◌ ◌>>=◌
-  found_passed e a g = g ∙ ap (◌>> tested (nest_of P) u v) (sym (ap passed e) ∙ h)
+  found_passed h a g = g ∙ ap (◌>> tested (nest_of P) u v) h
 
 -- ---- a decoded ticket
 
@@ -136,18 +132,22 @@ of-nest P S u v = go (admitted (nest_of P))
     go (accepted x) = refl
     go (refused n p) = refl
 
-module _ (d : Decoded) (l w : List ℤ) (c : Counted) (h : Counts d l w c) (u v : ℕ) where
-  pub not_tested : (r : Refusal) → c ≡ Counted.Refused r → refusal r ≡ quick_of (ticket_of d l w) u v
-  unfolding quick_of tested ◌>>=◌
-  not_tested r e = ap (◌>>= (λ T. tested T.nest u v)) (sym (not-counted d l w c h r e))
+module _ (read : Result Decoded Refusal) (l w : List ℤ) (u v : ℕ) where
+  pub not_read : (r : Refusal) → read ≡ Err r → refusal r ≡ quick_of (ticket_of read l w) u v
+  unfolding quick_of admit_of ◌>>=◌ ◌>>◌
+  not_read r e = sym (ap (λ (x : Result Decoded Refusal). quick_of (ticket_of x l w) u v) e)
 
-  pub tested-whole : (n : ℕ) → c ≡ Counted.Points n → (a : Tested)
-      → answer_of a ≡ test_nest (nest_of (flat_nest d.header l w)) u v → answer_of a ≡ quick_of (ticket_of d l w) u v
-  tested-whole n e a g = g
+  pub not_tested : (r : Refusal) → Counts read l w (Err r) → refusal r ≡ quick_of (ticket_of read l w) u v
+  unfolding quick_of tested ◌>>=◌
+  not_tested r h = ap (◌>>= (λ T. tested T.nest u v)) (sym (not-counted read l w r h))
+
+  pub tested-whole : (d : Decoded) → read ≡ Ok d → (a : Result Meeting Refusal)
+      → answer_of a ≡ test_nest (nest_of (flat_nest d.header l w)) u v → answer_of a ≡ quick_of (ticket_of read l w) u v
+  tested-whole d e a g = g
       ∙ of-nest (flat_nest d.header l w) d.steps u v
-      ∙ ap (λ (x : Answer Ticket). quick_of x u v) (sym (ticket-there d l w (h.fine n e)))
+      ∙ ap (λ (x : Result Decoded Refusal). quick_of (ticket_of x l w) u v) (sym e)
 
 -- of the bytes that were decoded
-pub of-bytes : (m : Answer Ticket) (d : Decoded) (l w : List ℤ) → Decodes m d l w → (u v : ℕ) (a : Tested)
+pub of-bytes : (m : Answer Ticket) (d : Result Decoded Refusal) (l w : List ℤ) → Decodes m d l w → (u v : ℕ) (a : Result Meeting Refusal)
     → answer_of a ≡ quick_of (ticket_of d l w) u v → answer_of a ≡ quick_of m u v
 of-bytes m d l w h u v a g = g ∙ ap (λ (x : Answer Ticket). quick_of x u v) h.same

@@ -5,8 +5,7 @@
 ghost use Rattle.std.specs.Prelude.{◌≡◌, ℕ, ◌-◌, ◌+◌, ◌≤◌, ◌<◌, min, pos, length};
 ghost use Rattle.model.specs.Entries.{judge};
 ghost use Rattle.model.specs.Pairs.{Record};
-ghost use Rattle.ticket_refusals.specs.Refusals.{refusal};
-ghost use Rattle.entry_answers.specs.Answers.{answer_of};
+ghost use Rattle.ticket_refusals.specs.Refusals.{refusal, answer_of};
 ghost use Rattle.entry_packing.specs.Packed.{packed};
 ghost use Rattle.pair_records.specs.Windows.{batch_room};
 ghost use Rattle.entry_reason.specs.Records.{pair_of, found_in};
@@ -14,7 +13,7 @@ ghost use Rattle.entry_reason.specs.Finders.{TenAt, SearchFrom, SearchedAt, Reco
 
 use entry_answers::Answer;
 use model::{NEST_ROOM, TICKET_LOOPS, WORDS};
-use nest_admission::Counted;
+use nest_flat::FlatNest;
 use pair_records::{BATCH_ROOM, RECORD_ROOM, Walked, Window};
 use ticket_refusals::Refusal;
 
@@ -61,15 +60,6 @@ fn no_pair() -> Pair
     }
 }
 
-fn least(a: usize, b: usize) -> usize
-    ensures { result ≡ min a b }
-{
-    if a <= b {
-        return a;
-    }
-    b
-}
-
 // ---- the search
 
 fn nothing_found() -> Walked {
@@ -88,14 +78,18 @@ fn search_ticket(ticket: &[u8], step: usize, from: usize, skip: usize, found: &m
     let mut limits = [0i16; NEST_ROOM];
     let mut words = [0i16; WORDS];
     let read = ticket_decoding::decode(ticket, &mut limits, &mut words);
-    let header = read.header;
-    let steps = read.steps;
-    match ticket_admission::count_ticket_points(read, &limits, &words) {
-        Counted::Points(n) => {
-            pair_search::search_pairs(header, &limits, &words, steps, n, step, from, skip, found)
-        }
-        Counted::Refused(_) => nothing_found(),
-    }
+    let Ok(decoded) = read else {
+        return nothing_found();
+    };
+    let Ok(count) = ticket_admission::count_ticket_points(read, &limits, &words) else {
+        return nothing_found();
+    };
+    let nest = FlatNest {
+        header: &decoded.header,
+        limits: &limits,
+        words: &words,
+    };
+    pair_search::search_pairs(&nest, decoded.steps, count, step, from, skip, found)
 }
 
 // ---- the finder
@@ -112,15 +106,15 @@ fn begin_search(ticket: &[u8], step: usize, lent: usize) -> Finder
     let pair = no_pair();
     Finder {
         answer: entry_packing::pack(0, step, count),
-        most: least(count, lent),
+        most: count.min(lent),
         given: 0,
-        pair: pair,
-        step: step,
+        pair,
+        step,
         source: 0,
         before: 0,
         first: 0,
         got: 0,
-        words: words,
+        words,
     }
 }
 
@@ -134,13 +128,13 @@ fn without_pairs(answer: Answer) -> Finder
         answer: entry_packing::pack_answer(answer),
         most: 0,
         given: 0,
-        pair: pair,
+        pair,
         step: 0,
         source: 0,
         before: 0,
         first: 0,
         got: 0,
-        words: words,
+        words,
     }
 }
 
@@ -149,20 +143,19 @@ fn begin_refused(ticket: &[u8], r: Refusal, lent: usize) -> Finder
     requires { judge ticket.now ≡ refusal r }
     ensures { Begun ticket.now lent result }
 {
-    if ticket_refusals::number_of(r) == 10 {
-        return begin_search(ticket, ticket_refusals::place_of(r), lent);
+    if r.number() == 10 {
+        return begin_search(ticket, r.place(), lent);
     }
-    without_pairs(Answer::Refused(r))
+    without_pairs(Err(r))
 }
 
 // Before the first record, for a list of so many.
 pub fn begin(ticket: &[u8], lent: usize) -> Finder
     ensures { Begun ticket.now lent result }
 {
-    let answer = entry_judge::judge(ticket);
-    match answer {
-        Answer::Accepted(n) => without_pairs(Answer::Accepted(n)),
-        Answer::Refused(r) => begin_refused(ticket, r, lent),
+    match entry_judge::judge(ticket) {
+        Ok(n) => without_pairs(Ok(n)),
+        Err(r) => begin_refused(ticket, r, lent),
     }
 }
 
@@ -174,18 +167,13 @@ fn find_more(ticket: &[u8], f: Finder) -> Finder
     let mut words = [0i16; BATCH_ROOM];
     let walked = search_ticket(ticket, f.step, f.source, f.given - f.before, &mut words);
     let window = walked.window;
-    let pair = f.pair;
     Finder {
-        answer: f.answer,
-        most: f.most,
-        given: f.given,
-        pair: pair,
-        step: f.step,
         source: walked.source,
         before: f.before + walked.before,
         first: f.given,
         got: window.got,
-        words: words,
+        words,
+        ..f
     }
 }
 
@@ -205,8 +193,8 @@ fn pair_at(words: &[i16], k: usize) -> Pair
     let source = [words[at], words[at + 1], words[at + 2], words[at + 3]];
     let sink = [words[at + 4], words[at + 5], words[at + 6], words[at + 7]];
     Pair {
-        source: source,
-        sink: sink,
+        source,
+        sink,
         source_statement: unsigned(words[at + 8]),
         sink_statement: unsigned(words[at + 9]),
         kind: unsigned(words[at + 10]),
@@ -221,16 +209,9 @@ fn give(f: Finder) -> Finder
     let words = f.words;
     let pair = pair_at(&words, f.given - f.first);
     Finder {
-        answer: f.answer,
-        most: f.most,
         given: f.given + 1,
-        pair: pair,
-        step: f.step,
-        source: f.source,
-        before: f.before,
-        first: f.first,
-        got: f.got,
-        words: words,
+        pair,
+        ..f
     }
 }
 

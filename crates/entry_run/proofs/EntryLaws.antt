@@ -4,10 +4,11 @@ use mathlib.Core.List.{List}
 use Prim.Native.Nat.{ℕ}
 use lib.Dec.{eqb}
 use lib.IntN.{ℤ}
+use Rattle.std.specs.Prelude.{Option, Result, Ok, Err}
 use lib.ListN.{length}
 use Rattle.model.specs.Answer as Model
 use Rattle.model.specs.Answer.{accepted, refused, require, ◌>>◌, ◌>>=◌}
-use Rattle.model.specs.Ticket.{Nest, Ticket}
+use Rattle.model.specs.Ticket.{Ticket}
 use Rattle.model.specs.Grammar.{decode, total}
 use Rattle.model.specs.Ranges.{TicketRanges}
 use Rattle.model.specs.Shape.{WellFormed}
@@ -20,16 +21,12 @@ use Rattle.model.proofs.Answers.PassLaws.{bind-pass, bind-stop}
 use Rattle.model.proofs.Grammar.GrammarLaws.{decode-ranges, decode-formed}
 use Rattle.model.proofs.Verdict.VerdictLaws.{admit-accepted, judge_ticket-accepted, judged-accepted}
 use Rattle.ticket_refusals.specs.declared.Refusal.{Refusal}
-use Rattle.ticket_refusals.specs.declared.Status.{Status}
 use Rattle.ticket_refusals.specs.Refusals.{refusal}
 use Rattle.nest_flat.specs.FlatNests.{flat_nest, nest_of}
 use Rattle.nest_elements.specs.Nests.{opaque_at}
-use Rattle.entry_answers.specs.declared.Answer.{Answer}
-use Rattle.entry_answers.specs.declared.Answer.TheVariants.{Refused}
 use Rattle.entry_answers.specs.Answers.{OutcomeIs}
-use Rattle.step_judgement.specs.Judgement.{judged_as}
 use Rattle.ticket_judgement.specs.declared.Decided.{Decided}
-use Rattle.ticket_judgement.specs.Verdicts.{Known, Decides}
+use Rattle.ticket_judgement.specs.Verdicts.{judged_with, Known, Decides}
 use Rattle.run_nest.proofs.AcceptedLaws.{new-count, new-arrays, new-executable}
 use Rattle.run_ticket.specs.Outcomes.{tested, outcome, RunIn}
 
@@ -39,13 +36,13 @@ module _ (m : Model.Answer Ticket) (w : List ℕ) where
   abbrev checked : Judged → Model.Answer Judged
   checked j = transparent 1 j.ticket.nest.statements >> require (eqb (length w) (total j.ticket.nest.arrays)) 16 0 >> accepted j
 
-  judgement-refused : (r : Refusal) → judged_of m ≡ refusal r → OutcomeIs (run_of m w) (Refused r) w
+  judgement-refused : (r : Refusal) → judged_of m ≡ refusal r → OutcomeIs (run_of m w) (Err r) w
   unfolding run_of runnable run_outcome
-  judgement-refused r e = subst (λ (a : Model.Answer Judged). OutcomeIs (run_outcome a w) (Refused r) w)
+  judgement-refused r e = subst (λ (a : Model.Answer Judged). OutcomeIs (run_outcome a w) (Err r) w)
       (sym (bind-stop checked e)) (record { answer = refl; memory = refl })
 
   -- by what was found on the ticket's own nest
-  judgement-passes : (j : Judged) → judged_of m ≡ accepted j → (k t c : ℕ)
+  judgement-passes : (j : Judged) → judged_of m ≡ accepted j → (k : Option ℕ) (t c : ℕ)
       → opaque_at k ≡ transparent 1 j.ticket.nest.statements → t ≡ total j.ticket.nest.arrays
       → c ≡ length (iterations j.ticket.nest.loops)
       → run_of m w ≡ outcome (tested k t w) c j.new w
@@ -81,25 +78,22 @@ taken b j e =
 
 -- ---- the entry
 
-module _ (b w : List ℕ) (d : Decided) (l m : List ℤ) (h : Decides (decode b) d l m) where
-  abbrev new : Nest
-  new = nest_of (flat_nest d.header l m)
+module _ (b w : List ℕ) (l m : List ℤ) where
+  pub run-refused : (r : Refusal) → Decides (decode b) (Err r) l m → OutcomeIs (run_entry b w) (Err r) w
+  run-refused r h = judgement-refused (decode b) w r (sym h.same)
 
-  abbrev whole : Judged
-  whole = record { ticket = h.ticket; new = new }
+  module _ (d : Decided) (h : Decides (decode b) (Ok d) l m) where
+    abbrev whole : Judged
+    whole = judged_with h.ticket l m d
 
-  judged-as : (s : Status) → d.status ≡ s → judged_of (decode b) ≡ judged_as s whole
-  judged-as s e = sym h.same ∙ ap (λ (x : Status). judged_as x whole) e
+    judged-so : judged_of (decode b) ≡ accepted whole
+    judged-so = sym h.same
 
-  pub run-refused : (r : Refusal) → d.status ≡ Status.Refused r → OutcomeIs (run_entry b w) (Refused r) w
-  run-refused r e = judgement-refused (decode b) w r (judged-as (Status.Refused r) e)
-
-  module _ (e : d.status ≡ Status.Fine) where
     known : Known h.ticket (flat_nest d.header l m) d
-    known = h.known e
+    known = h.known
 
     t : Taken whole
-    t = taken b whole (judged-as Status.Fine e)
+    t = taken b whole judged-so
 
     pub run_in : RunIn d.elements (flat_nest d.header l m) d.count
     run_in = record {
@@ -109,8 +103,7 @@ module _ (b w : List ℕ) (d : Decided) (l m : List ℤ) (h : Decides (decode b)
       counted = known.count ∙ sym (new-count h.ticket t.ranges t.formed t.admits whole t.judges);
     }
 
-    pub ran_out : (a : Answer) (v : List ℕ) → OutcomeIs (outcome (tested d.opaque d.elements w) d.count new w) a v
-        → OutcomeIs (run_entry b w) a v
+    pub ran_out : (a : Result ℕ Refusal) (v : List ℕ)
+        → OutcomeIs (outcome (tested d.opaque d.elements w) d.count (nest_of (flat_nest d.header l m)) w) a v → OutcomeIs (run_entry b w) a v
     ran_out a v = subst (λ (x : Outcome). OutcomeIs x a v)
-        (sym (judgement-passes (decode b) w whole (judged-as Status.Fine e)
-        d.opaque d.elements d.count known.opaque known.elements known.count))
+        (sym (judgement-passes (decode b) w whole judged-so d.opaque d.elements d.count known.opaque known.elements known.count))

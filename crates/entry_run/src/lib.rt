@@ -7,7 +7,7 @@ ghost use Rattle.entry_answers.specs.Answers.{OutcomeIs, Demand3};
 
 use entry_answers::Answer;
 use model::{NEST_ROOM, WORDS};
-use ticket_refusals::Status;
+use nest_flat::FlatNest;
 
 // Judges 1 to 13, then 15 and 16. An accepted run leaves the store that the old order leaves (model, Demands: demand-3, run-store).
 pub fn run(ticket: &[u8], store: &mut [u32]) -> Answer
@@ -17,14 +17,11 @@ pub fn run(ticket: &[u8], store: &mut [u32]) -> Answer
     let mut limits = [0i16; NEST_ROOM];
     let mut words = [0i16; WORDS];
     let read = ticket_decoding::decode(ticket, &mut limits, &mut words);
-    let decided = ticket_judgement::decide(read, &mut limits, &mut words);
-    let status = decided.status;
-    match status {
-        Status::Fine => {}
-        Status::Refused(r) => return Answer::Refused(r),
-    }
-    let new = decided.header;
-    let opaque = decided.opaque;
-    let elements = decided.elements;
-    run_ticket::run_judged(opaque, elements, new, &limits, &words, decided.count, store)
+    let decided = ticket_judgement::decide(read, &mut limits, &mut words)?;
+    let new = FlatNest {
+        header: &decided.header,
+        limits: &limits,
+        words: &words,
+    };
+    run_ticket::run_judged(decided.opaque, decided.elements, &new, decided.count, store)
 }

@@ -3,8 +3,10 @@ use mathlib.Core.Path.{◌≡◌, refl, sym, ◌∙◌, ap, subst}
 use mathlib.Core.List.{List}
 use Prim.Native.Nat.{ℕ}
 use lib.IntN.{ℤ}
+use Rattle.std.specs.Prelude.{Result, Ok, Err}
 use Rattle.lists.proofs.PartLaws.{put_all}
 use Rattle.model.specs.Answer.{Answer, accepted, ◌>>=◌}
+use Rattle.model.specs.Ticket as Model
 use Rattle.model.specs.Ticket.{Nest}
 use Rattle.model.specs.Judge.{Judged}
 use Rattle.model.specs.Grammar.{decode}
@@ -12,54 +14,50 @@ use Rattle.model.specs.Encode.{encode}
 use Rattle.model.specs.Entries.{Outcome, hand_out, write, write_of}
 use Rattle.ticket_refusals.specs.declared.Refusal.{Refusal}
 use Rattle.ticket_refusals.specs.declared.Refusal.TheVariants.{BufferTooShort}
-use Rattle.ticket_refusals.specs.declared.Status.{Status}
 use Rattle.ticket_refusals.specs.Refusals.{refusal}
 use Rattle.nest_flat.specs.FlatNests.{flat_nest, nest_of}
 use Rattle.ticket_encoding.specs.Encodable.{FlatNestEncodable}
 use Rattle.ticket_encoding.specs.Encoding.{Encodes}
-use Rattle.ticket_encoding.specs.declared.Encoded.{Encoded}
-use Rattle.ticket_encoding.specs.declared.Encoded.TheVariants.{Complete, TooShort}
-use Rattle.step_judgement.specs.Judgement.{judged_as}
-use Rattle.entry_answers.specs.declared.Answer.TheVariants.{Accepted, Refused}
+use Rattle.ticket_encoding.specs.declared.TooShort.{TooShort}
+use Rattle.step_judgement.specs.Judgement.{answer_with}
 use Rattle.entry_answers.specs.Answers.{OutcomeIs}
 use Rattle.entry_answers.proofs.AnswerLaws.{refused-before, too_short, written}
 use Rattle.ticket_judgement.specs.declared.Decided.{Decided}
-use Rattle.ticket_judgement.specs.Verdicts.{Decides}
+use Rattle.ticket_judgement.specs.Verdicts.{judged_with, Decides}
 
-module _ (b : List ℕ) (d : Decided) (l w : List ℤ) (h : Decides (decode b) d l w) (o : List ℕ) where
-  abbrev new : Nest
-  new = nest_of (flat_nest d.header l w)
+module _ (b : List ℕ) (l w : List ℤ) (o : List ℕ) where
+  abbrev bytes : Model.Ticket → Result Decided Refusal → Answer (List ℕ)
+  bytes t x = answer_with (judged_with t l w) x >>= (λ (j : Judged). accepted (encode j.new))
 
-  abbrev bytes : Status → Answer (List ℕ)
-  bytes s = judged_as s (record { ticket = h.ticket; new = new }) >>= (λ (j : Judged). accepted (encode j.new))
-
-  whole : hand_out (bytes d.status) o ≡ write b o
+  whole : (x : Result Decided Refusal) (h : Decides (decode b) x l w) → hand_out (bytes h.ticket x) o ≡ write b o
   unfolding write_of
-  whole = ap (λ x. hand_out (x >>= (λ (j : Judged). accepted (encode j.new))) o) h.same
+  whole x h = ap (λ y. hand_out (y >>= (λ (j : Judged). accepted (encode j.new))) o) h.same
 
-  pub write-refused : (r : Refusal) → d.status ≡ Status.Refused r → OutcomeIs (write b o) (Refused r) o
+  pub write-refused : (r : Refusal) → Decides (decode b) (Err r) l w → OutcomeIs (write b o) (Err r) o
   unfolding ◌>>=◌
-  write-refused r s = subst (λ (x : Outcome). OutcomeIs x (Refused r) o) (sym (ap (λ (x : Status). hand_out (bytes x) o) s) ∙ whole)
-      (refused-before (refusal r) o r refl)
+  write-refused r h = subst (λ (x : Outcome). OutcomeIs x (Err r) o) (whole (Err r) h) (refused-before (refusal r) o r refl)
 
-  module _ (s : d.status ≡ Status.Fine) where
+  module _ (d : Decided) (h : Decides (decode b) (Ok d) l w) where
+    abbrev new : Nest
+    new = nest_of (flat_nest d.header l w)
+
     pub encodable : FlatNestEncodable (flat_nest d.header l w)
-    encodable = let n = (h.known s).new in record { flat-nest = n.flat-nest; ranges = n.ranges; formed = n.formed }
+    encodable = let n = h.known.new in record { flat-nest = n.flat-nest; ranges = n.ranges; formed = n.formed }
 
     accepted-out : hand_out (accepted (encode new)) o ≡ write b o
     unfolding ◌>>=◌
-    accepted-out = sym (ap (λ (x : Status). hand_out (bytes x) o) s) ∙ whole
+    accepted-out = whole (Ok d) h
 
-    module _ (e : List ℕ) (r : Encoded) (g : Encodes new o e r) where
-      pub write-complete : (n : ℕ) → r ≡ Complete n → OutcomeIs (write b o) (Accepted n) e
-      write-complete n q = subst (λ (x : Outcome). OutcomeIs x (Accepted n) e) accepted-out (fits (subst (Encodes new o e) q g))
+    module _ (e : List ℕ) (r : Result ℕ TooShort) (g : Encodes new o e r) where
+      pub write-complete : (n : ℕ) → r ≡ Ok n → OutcomeIs (write b o) (Ok n) e
+      write-complete n q = subst (λ (x : Outcome). OutcomeIs x (Ok n) e) accepted-out (fits (subst (Encodes new o e) q g))
         where
-          fits : Encodes new o e (Complete n) → OutcomeIs (hand_out (accepted (encode new)) o) (Accepted n) e
-          fits f = subst (λ (k : ℕ). OutcomeIs (hand_out (accepted (encode new)) o) (Accepted k) e) (sym f.1)
+          fits : Encodes new o e (Ok n) → OutcomeIs (hand_out (accepted (encode new)) o) (Ok n) e
+          fits f = subst (λ (k : ℕ). OutcomeIs (hand_out (accepted (encode new)) o) (Ok k) e) (sym f.1)
               (written (encode new) o f.2 e (f.0 ∙ sym (put_all o (encode new))))
 
-      pub write-short : (n : ℕ) → r ≡ TooShort n → OutcomeIs (write b o) (Refused BufferTooShort) e
-      write-short n q = subst (λ (x : Outcome). OutcomeIs x (Refused BufferTooShort) e) accepted-out (short (subst (Encodes new o e) q g))
+      pub write-short : (t : TooShort) → r ≡ Err t → OutcomeIs (write b o) (Err BufferTooShort) e
+      write-short t q = subst (λ (x : Outcome). OutcomeIs x (Err BufferTooShort) e) accepted-out (short (subst (Encodes new o e) q g))
         where
-          short : Encodes new o e (TooShort n) → OutcomeIs (hand_out (accepted (encode new)) o) (Refused BufferTooShort) e
-          short f = subst (OutcomeIs (hand_out (accepted (encode new)) o) (Refused BufferTooShort)) (sym f.0) (too_short (encode new) o f.2)
+          short : Encodes new o e (Err t) → OutcomeIs (hand_out (accepted (encode new)) o) (Err BufferTooShort) e
+          short f = subst (OutcomeIs (hand_out (accepted (encode new)) o) (Err BufferTooShort)) (sym f.0) (too_short (encode new) o f.2)

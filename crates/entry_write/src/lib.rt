@@ -7,8 +7,8 @@ ghost use Rattle.entry_answers.specs.Answers.{OutcomeIs, Demand3};
 
 use entry_answers::Answer;
 use model::{NEST_ROOM, WORDS};
-use ticket_encoding::Encoded;
-use ticket_refusals::{Refusal, Status};
+use nest_flat::FlatNest;
+use ticket_refusals::Refusal;
 
 // Judges 1 to 13, then 14. What is written is the new nest of demand 3 (model, Demands: demand-3, written-nest).
 pub fn write(ticket: &[u8], out: &mut [u8]) -> Answer
@@ -18,15 +18,14 @@ pub fn write(ticket: &[u8], out: &mut [u8]) -> Answer
     let mut limits = [0i16; NEST_ROOM];
     let mut words = [0i16; WORDS];
     let read = ticket_decoding::decode(ticket, &mut limits, &mut words);
-    let decided = ticket_judgement::decide(read, &mut limits, &mut words);
-    let status = decided.status;
-    match status {
-        Status::Fine => {}
-        Status::Refused(r) => return Answer::Refused(r),
-    }
-    let new = decided.header;
-    match ticket_encoding::encode_flat_nest(new, &limits, &words, out) {
-        Encoded::Complete(n) => Answer::Accepted(n),
-        Encoded::TooShort(_) => Answer::Refused(Refusal::BufferTooShort),
+    let decided = ticket_judgement::decide(read, &mut limits, &mut words)?;
+    let new = FlatNest {
+        header: &decided.header,
+        limits: &limits,
+        words: &words,
+    };
+    match ticket_encoding::encode_flat_nest(&new, out) {
+        Ok(n) => Ok(n),
+        Err(_) => Err(Refusal::BufferTooShort),
     }
 }

@@ -58,11 +58,9 @@ pub extern "C" fn hurkeztor_reason(ticket: &[u8], list: &mut [Pair]) -> u64
 {
     let mut f = entry_reason::begin(ticket, list.len());
     let n = f.most;
-    let mut k = 0;
-    while k < n {
+    for k in 0..n {
         f = entry_reason::next(ticket, f);
         list[k] = f.pair;
-        k += 1;
     }
     f.answer
 }

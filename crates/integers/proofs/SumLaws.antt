@@ -9,10 +9,10 @@ use lib.ListN.{length, get_or, take, drop, length-take}
 use lib.Seq.{get_or-take, get_or-drop}
 use lib.IntN.{ℤ, pos, ◌+ℤ◌, ◌*ℤ◌, +ℤ_assoc, +ℤ_idr}
 use mir.Syntax.{w64}
-use mir.Val.{to_z, of_z}
+use mir.Val.{SFits, to_z, of_z}
 use Rattle.integers.specs.Difference.{size}
 use Rattle.integers.specs.Affine.{dot, affine, affine_at, AffineIn, AffineAt, SumTo}
-use Rattle.integers.proofs.RangeLaws.{back, sfits}
+use Rattle.integers.proofs.RangeLaws.{back, sfits, size-add, size-mul}
 use Rattle.integers.proofs.AffineLaws.{dot-snoc, dot-all, affine-size, within-at, within-take}
 
 module _ (e : ℤ) (cs xs : List ℤ) (h : AffineIn e cs xs) where
@@ -52,6 +52,9 @@ module _ (e : ℤ) (cs xs : List ℤ) (h : AffineIn e cs xs) where
       let b = sum-size i in
       ap (λ t. to_z w64 (of_z w64 t)) f ∙ back (sfits (omega arith)) ∙ ap (λ n. affine e (take n cs) (take n xs)) k ∙ every-product
 
+plus-fits : (s k x : ℤ) → (size s ≤ 36028797018963968) × (size k ≤ 2147483648) × (size x ≤ 1048576) → SFits w64 (k *ℤ x) × SFits w64 (s +ℤ k *ℤ x)
+plus-fits s k x h = let p = size-mul k x h.1 h.2 in (sfits (omega arith), sfits (omega (arith, size-add s (k *ℤ x))))
+
 module _ {e : ℤ} {cs xs : List ℤ} {i : ℕ} {s : ℤ} (g : SumTo e cs xs i s) where
   coefficient-size : size (get_or cs i (pos 0)) ≤ 2147483648
   coefficient-size = within-at 2147483648 cs g.lent.coefficients i
@@ -66,9 +69,14 @@ module _ {e : ℤ} {cs xs : List ℤ} {i : ℕ} {s : ℤ} (g : SumTo e cs xs i s
   read-index : to_z w64 (of_z w64 (get_or xs i (pos 0))) ≡ get_or xs i (pos 0)
   read-index = let s = index-size in back (sfits (omega arith))
 
-  pub plus-in : (size s ≤ 36028797018963968) × (size (to_z w64 (of_z w64 (get_or cs i (pos 0)))) ≤ 2147483648)
+  plus-in : (size s ≤ 36028797018963968) × (size (to_z w64 (of_z w64 (get_or cs i (pos 0)))) ≤ 2147483648)
       × (size (to_z w64 (of_z w64 (get_or xs i (pos 0)))) ≤ 1048576)
   plus-in = (rw g.total (sum-size e cs xs g.lent i), rw read-coefficient coefficient-size, rw read-index index-size)
+
+  -- the product fits 64 bits, and so does the sum with it
+  pub term-fits : SFits w64 (to_z w64 (of_z w64 (get_or cs i (pos 0))) *ℤ to_z w64 (of_z w64 (get_or xs i (pos 0))))
+      × SFits w64 (s +ℤ to_z w64 (of_z w64 (get_or cs i (pos 0))) *ℤ to_z w64 (of_z w64 (get_or xs i (pos 0))))
+  term-fits = plus-fits s (to_z w64 (of_z w64 (get_or cs i (pos 0)))) (to_z w64 (of_z w64 (get_or xs i (pos 0)))) plus-in
 
   pub sum_more : {r : ℤ} → i < length cs → r ≡ s +ℤ to_z w64 (of_z w64 (get_or cs i (pos 0))) *ℤ to_z w64 (of_z w64 (get_or xs i (pos 0)))
       → SumTo e cs xs (i + 1) r
@@ -88,8 +96,9 @@ module _ {w : List ℤ} {at : ℕ} {xs : List ℤ} (h : AffineAt w at xs) where
     same : c ≡ get_or (take (length xs) (drop (at + 1) w)) i (pos 0)
     same = e ∙ sym (get_or-take (length xs) (drop (at + 1) w) i (pos 0) k ∙ get_or-drop (at + 1) w i (pos 0))
 
-    pub plus-at : (size s ≤ 36028797018963968) × (size (to_z w64 (of_z w64 c)) ≤ 2147483648) × (size (to_z w64 (of_z w64 (get_or xs i (pos 0)))) ≤ 1048576)
-    plus-at = rw same (plus-in g)
+    pub at-fits : SFits w64 (to_z w64 (of_z w64 c) *ℤ to_z w64 (of_z w64 (get_or xs i (pos 0))))
+        × SFits w64 (s +ℤ to_z w64 (of_z w64 c) *ℤ to_z w64 (of_z w64 (get_or xs i (pos 0))))
+    at-fits = rw same (term-fits g)
 
     pub at_more : {r : ℤ} → r ≡ s +ℤ to_z w64 (of_z w64 c) *ℤ to_z w64 (of_z w64 (get_or xs i (pos 0))) → SumAt w at xs (i + 1) r
     at_more t = let m = h.lent.matched in sum_more g (omega arith) (t ∙ rw same)

@@ -35,7 +35,7 @@ pub fn ceil_div(a: i64, b: i64) -> i64
     if r > 0 { q + 1 } else { q }
 }
 
-// The greatest common divisor; gcd(0, 0) is 0.
+// The greatest common divisor; gcd(0, 0) is 0. Its loop counts nothing.
 pub fn gcd(x: u64, y: u64) -> u64
     ensures { result ≡ Rattle.integers.specs.Gcd.gcd x y }
 {
@@ -49,77 +49,15 @@ pub fn gcd(x: u64, y: u64) -> u64
     a
 }
 
-// A number under way: in a struct, so that a loop's invariant sees the integer and not its bits.
-#[derive(Clone, Copy)]
-struct PartialSum {
-    value: i64,
-}
-
-// The sum and one coefficient times one index more.
-fn add_product(sum: PartialSum, c: i64, x: i64) -> PartialSum
-    requires { (size sum.value ≤ 36028797018963968) × (size c ≤ 2147483648) × (size x ≤ 1048576) }
-    ensures { result.value ≡ sum.value +ℤ c *ℤ x }
+// The constant and the first n products.
+#[inline(always)]
+fn affine_first(constant: i64, coefficients: &[i64], indices: &[i64], n: usize) -> i64
+    requires { AffineIn constant coefficients.now indices.now × (n ≤ length coefficients.now) }
+    ensures { SumTo constant coefficients.now indices.now n result }
 {
-    PartialSum {
-        value: sum.value + c * x,
-    }
-}
-
-// The sum of the first i products, and one product more.
-fn add_term(
-    start: PartialSum,
-    coefficients: &[i64],
-    indices: &[i64],
-    i: usize,
-    sum: PartialSum,
-) -> PartialSum
-    requires { SumTo start.value coefficients.now indices.now i sum.value × (i < length coefficients.now) }
-    ensures { SumTo start.value coefficients.now indices.now (i + 1) result.value }
-{
-    add_product(sum, coefficients[i], indices[i])
-}
-
-// The constant and the first product; below it the first two, three and four, then all.
-fn affine_one(start: PartialSum, coefficients: &[i64], indices: &[i64]) -> PartialSum
-    requires { AffineIn start.value coefficients.now indices.now × (1 ≤ length coefficients.now) }
-    ensures { SumTo start.value coefficients.now indices.now 1 result.value }
-{
-    add_term(start, coefficients, indices, 0, start)
-}
-
-fn affine_two(start: PartialSum, coefficients: &[i64], indices: &[i64]) -> PartialSum
-    requires { AffineIn start.value coefficients.now indices.now × (2 ≤ length coefficients.now) }
-    ensures { SumTo start.value coefficients.now indices.now 2 result.value }
-{
-    let sum = affine_one(start, coefficients, indices);
-    add_term(start, coefficients, indices, 1, sum)
-}
-
-fn affine_three(start: PartialSum, coefficients: &[i64], indices: &[i64]) -> PartialSum
-    requires { AffineIn start.value coefficients.now indices.now × (3 ≤ length coefficients.now) }
-    ensures { SumTo start.value coefficients.now indices.now 3 result.value }
-{
-    let sum = affine_two(start, coefficients, indices);
-    add_term(start, coefficients, indices, 2, sum)
-}
-
-fn affine_four(start: PartialSum, coefficients: &[i64], indices: &[i64]) -> PartialSum
-    requires { AffineIn start.value coefficients.now indices.now × (4 ≤ length coefficients.now) }
-    ensures { SumTo start.value coefficients.now indices.now 4 result.value }
-{
-    let sum = affine_three(start, coefficients, indices);
-    add_term(start, coefficients, indices, 3, sum)
-}
-
-fn affine_loop(start: PartialSum, coefficients: &[i64], indices: &[i64]) -> PartialSum
-    requires { AffineIn start.value coefficients.now indices.now }
-    ensures { SumTo start.value coefficients.now indices.now (length coefficients.now) result.value }
-{
-    let mut sum = start;
-    let mut i = 0;
-    while i < coefficients.len() {
-        sum = add_term(start, coefficients, indices, i, sum);
-        i += 1;
+    let mut sum = constant;
+    for i in 0..n {
+        sum += coefficients[i] * indices[i];
     }
     sum
 }
@@ -130,20 +68,13 @@ pub fn affine(constant: i64, coefficients: &[i64], indices: &[i64]) -> i64
     requires { AffineIn constant coefficients.now indices.now }
     ensures { result ≡ Rattle.integers.specs.Affine.affine constant coefficients.now indices.now }
 {
-    let start = PartialSum { value: constant };
     match coefficients.len() {
-        1 => affine_one(start, coefficients, indices).value,
-        2 => affine_two(start, coefficients, indices).value,
-        3 => affine_three(start, coefficients, indices).value,
-        4 => affine_four(start, coefficients, indices).value,
-        _ => affine_loop(start, coefficients, indices).value,
+        1 => affine_first(constant, coefficients, indices, 1),
+        2 => affine_first(constant, coefficients, indices, 2),
+        3 => affine_first(constant, coefficients, indices, 3),
+        4 => affine_first(constant, coefficients, indices, 4),
+        n => affine_first(constant, coefficients, indices, n),
     }
-}
-
-fn sign_extend(x: i16) -> i64
-    ensures { result ≡ x }
-{
-    x as i64
 }
 
 // One of the words in which limits and subscripts are kept, to reckon with.
@@ -151,7 +82,7 @@ pub fn word(words: &[i16], i: usize) -> i64
     requires { i < length words.now }
     ensures { result ≡ get_or words.now i (pos 0) }
 {
-    sign_extend(words[i])
+    i64::from(words[i])
 }
 
 // The affine value whose constant is word `at`, and whose coefficients are the words after it.
@@ -159,18 +90,15 @@ pub fn affine_at(words: &[i16], at: usize, indices: &[i64]) -> i64
     requires { AffineAt words.now at indices.now }
     ensures { result ≡ affine_at words.now at indices.now }
 {
-    let mut sum = PartialSum {
-        value: word(words, at),
-    };
-    let mut i = 0;
-    while i < indices.len() {
-        sum = add_product(sum, word(words, at + 1 + i), indices[i]);
-        i += 1;
+    let mut sum = word(words, at);
+    for (i, x) in indices.iter().enumerate() {
+        sum += word(words, at + 1 + i) * *x;
     }
-    sum.value
+    sum
 }
 
-// −1, 0 or 1 as a is below, equal to or above b: a difference of two yes/no numbers, with no branch. a - b need not fit.
+// −1, 0 or 1 as a is below, equal to or above b: a difference of two yes/no numbers, with no branch and, as `rust/tests/sign.rs` asks, with no call.
+// a - b need not fit.
 pub fn sign_of(a: i64, b: i64) -> i64
     ensures { result ≡ sign_value (sign a b) }
 {

@@ -1,7 +1,6 @@
 // Reads a ticket from standard input and prints its listing, or `refused` with number and place.
 #![tactic(auto)]
 
-use entry_answers::Answer;
 use ticket_refusals::Refusal;
 
 const STDIN: i32 = 0;
@@ -15,18 +14,18 @@ fn print_number(n: usize) {
 
 fn print_refusal(r: Refusal) {
     io::write_all(STDOUT, b"refused");
-    print_number(ticket_refusals::number_of(r));
-    print_number(ticket_refusals::place_of(r));
+    print_number(r.number());
+    print_number(r.place());
     io::write_all(STDOUT, b"\n");
 }
 
 fn print_listing(ticket: &[u8]) {
     let mut out = io::large_buffer();
     match entry_list::list(ticket, &mut out) {
-        Answer::Accepted(n) => {
+        Ok(n) => {
             io::write_all(STDOUT, &out[..n]);
         }
-        Answer::Refused(r) => print_refusal(r),
+        Err(r) => print_refusal(r),
     }
 }
 

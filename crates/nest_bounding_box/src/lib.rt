@@ -6,13 +6,13 @@ ghost use Rattle.std.specs.Prelude.{◌≡◌, true, ◌*◌, ◌≤◌, ◌<◌
 ghost use Rattle.model.specs.Grammar.{array_room};
 ghost use Rattle.nest_flat.specs.Layout.{form_at};
 ghost use Rattle.nest_loop_ranges.specs.Ranges.{range_as, ranges_of, NearRange, RangesIn};
-ghost use Rattle.nest_flat.specs.FlatNests.{flat_nest, FlatNestIn};
+ghost use Rattle.nest_flat.specs.FlatNests.{flat, FlatNestIn};
 ghost use Rattle.nest_bounding_box.specs.Subscripts.{Enclosed, FirstEnclosed, AllEnclosed, SubscriptIn, AccessesIn};
 ghost use Rattle.nest_bounding_box.specs.Boxes.{Unclamped, Compact};
 ghost use Rattle.nest_bounding_box.specs.Promises.{StaysInside, StaysCompact};
 
-use model::{ACCESS_ROOM, ARRAY_ROOM, LOOPS};
-use nest_flat::Header;
+use model::{ACCESS_ROOM, ARRAY_ROOM, DIMENSIONS, LOOPS, ROW_ROOM};
+use nest_flat::FlatNest;
 use nest_index_range::Ends;
 use nest_loop_ranges::Range;
 
@@ -21,12 +21,12 @@ fn subscript_fits(words: &[i16], j: usize, n: usize, extent: usize, ranges: [Ran
     requires { SubscriptIn words.now j n extent ranges }
     ensures { result ≡ true → Enclosed (ranges_of n ranges) extent (form_at words.now n j) }
 {
-    let constant = integers::word(words, j * 8);
-    let least = nest_loop_ranges::least_sum(words, j * 8 + 1, n, ranges);
+    let constant = integers::word(words, j * ROW_ROOM);
+    let least = nest_loop_ranges::least_sum(words, j * ROW_ROOM + 1, n, ranges);
     if constant + least.value < 0 {
         return false;
     }
-    let greatest = nest_loop_ranges::greatest_sum(words, j * 8 + 1, n, ranges);
+    let greatest = nest_loop_ranges::greatest_sum(words, j * ROW_ROOM + 1, n, ranges);
     constant + greatest.value < extent as i64
 }
 
@@ -45,12 +45,10 @@ fn access_fits(
 {
     let at = accessed[k] * ARRAY_ROOM;
     let dimensions = arrays[at];
-    let mut d = 0;
-    while d < dimensions {
-        if !subscript_fits(words, k * 3 + d, n, arrays[at + 1 + d], ranges) {
+    for d in 0..dimensions {
+        if !subscript_fits(words, k * DIMENSIONS + d, n, arrays[at + 1 + d], ranges) {
             return false;
         }
-        d += 1;
     }
     true
 }
@@ -67,31 +65,29 @@ fn all_fit(
     ensures { result ≡ true → AllEnclosed (ranges_of n ranges) words.now accessed.now arrays.now n
         (length accessed.now) }
 {
-    let mut k = 0;
-    while k < accessed.len() {
+    for k in 0..accessed.len() {
         if !access_fits(words, accessed, arrays, k, n, ranges) {
             return false;
         }
-        k += 1;
     }
     true
 }
 
 // Whether the ranges show that no subscript leaves its extent.
-pub fn stays_inside(header: Header, limits: &[i16], words: &[i16]) -> bool
-    requires { FlatNestIn (flat_nest header limits.now words.now) }
-    ensures { StaysInside (flat_nest header limits.now words.now) result }
+pub fn stays_inside(nest: &FlatNest) -> bool
+    requires { FlatNestIn (flat nest.now) }
+    ensures { StaysInside (flat nest.now) result }
 {
-    let counts = header.counts;
-    let accessed = header.accessed;
-    let extents = header.extents;
-    let depth = header.depth;
-    let accesses = header.accesses;
-    let ranges = nest_loop_ranges::ranges_in_turn(limits, &counts, depth);
+    let counts = &nest.header.counts;
+    let accessed = &nest.header.accessed;
+    let extents = &nest.header.extents;
+    let depth = nest.header.depth;
+    let accesses = nest.header.accesses;
+    let ranges = nest_loop_ranges::ranges_in_turn(nest.limits, counts, depth);
     all_fit(
-        &words[..accesses * ACCESS_ROOM],
+        &nest.words[..accesses * ACCESS_ROOM],
         &accessed[..accesses],
-        &extents[..header.arrays * ARRAY_ROOM],
+        &extents[..nest.header.arrays * ARRAY_ROOM],
         depth,
         ranges,
     )
@@ -102,10 +98,7 @@ fn is_unclamped(r: Range) -> bool
     requires { NearRange (range_as r) }
     ensures { result ≡ true → Unclamped (range_as r) }
 {
-    if r.least <= -32767 {
-        return false;
-    }
-    r.greatest < 32767
+    -32767 < r.least && r.greatest < 32767
 }
 
 // The number of indices in a range.
@@ -125,27 +118,25 @@ fn is_compact(ranges: [Range; LOOPS], n: usize) -> bool
     ensures { result ≡ true → Compact (ranges_of n ranges) }
 {
     let mut volume = 1;
-    let mut i = 0;
-    while i < n {
-        if !is_unclamped(ranges[i]) {
+    for &range in &ranges[..n] {
+        if !is_unclamped(range) {
             return false;
         }
-        volume *= width(ranges[i]);
+        volume *= width(range);
         if 65536 < volume {
             return false;
         }
-        i += 1;
     }
     true
 }
 
 // Whether the ranges show that the nest passes refusal 13.
-pub fn stays_compact(header: Header, limits: &[i16], words: &[i16]) -> bool
-    requires { FlatNestIn (flat_nest header limits.now words.now) }
-    ensures { StaysCompact (flat_nest header limits.now words.now) result }
+pub fn stays_compact(nest: &FlatNest) -> bool
+    requires { FlatNestIn (flat nest.now) }
+    ensures { StaysCompact (flat nest.now) result }
 {
-    let counts = header.counts;
-    let depth = header.depth;
-    let ranges = nest_loop_ranges::ranges_in_turn(limits, &counts, depth);
+    let counts = &nest.header.counts;
+    let depth = nest.header.depth;
+    let ranges = nest_loop_ranges::ranges_in_turn(nest.limits, counts, depth);
     is_compact(ranges, depth)
 }

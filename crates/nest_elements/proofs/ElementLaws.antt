@@ -4,7 +4,7 @@ use mathlib.Core.List.Memᴰ
 use mathlib.Core.List.{List, [], ◌∷◌}
 use Prim.Native.Nat.{ℕ, zero, suc, ◌+◌, ◌*◌, ◌-◌, ◌/◌, ◌≤◌, ◌<◌}
 use native.Mathlib.Omega.{arith}
-use native.Mathlib.Nat.{mul-le-mul, mul-one}
+use native.Mathlib.Nat.{mul-le-mul, mul-one, mul_comm}
 use native.Mathlib.Numerals.{add-one}
 use lib.ListN.{length, get_or, drop, length-drop}
 use lib.Seq.{drop-cons, drop-length}
@@ -45,14 +45,14 @@ module _ (a : List ℕ) (i : ℕ) (p : ArrayIn a i) where
   no-extent d e = sym (ap elements (ap (λ (k : ℕ). drop k (extents_at a i)) (e ∙ sym (extents-length a i p)) ∙ drop-length (extents_at a i)))
 
   module _ (d r : ℕ) (h : 1 ≤ d) (g : d ≤ get_or a (i * 4) 0) (e : r ≡ elements (drop d (extents_at a i))) where
-    pub one-extent : get_or a (i * 4 + 1 + (d - 1)) 0 * r ≡ elements (drop (d - 1) (extents_at a i))
+    pub one-extent : r * get_or a (i * 4 + 1 + (d - 1)) 0 ≡ elements (drop (d - 1) (extents_at a i))
     unfolding elements
     one-extent =
         let l = extents-length a i p in let k : suc (d - 1) ≡ d = omega arith in
-        sym (ap elements (drop-cons (extents_at a i) (d - 1) 0 (omega arith))
+        mul_comm r (get_or a (i * 4 + 1 + (d - 1)) 0) ∙ sym (ap elements (drop-cons (extents_at a i) (d - 1) 0 (omega arith))
         ∙ ap₂ ◌*◌ (extent-read a i p (d - 1) (omega arith)) (ap (λ (j : ℕ). elements (drop j (extents_at a i))) k ∙ sym e))
 
-    pub one-small : get_or a (i * 4 + 1 + (d - 1)) 0 * r ≤ 68719476736
+    pub one-small : r * get_or a (i * 4 + 1 + (d - 1)) 0 ≤ 68719476736
     one-small = subst (λ (k : ℕ). k ≤ 68719476736) (sym one-extent)
         (three-small (drop (d - 1) (extents_at a i)) (let l = length-drop (d - 1) (extents_at a i) in let m = extents-length a i p
         in let f = p.dimensions i p.there in omega arith) (all_drop (λ (n : ℕ). n ≤ 4096) (d - 1) (extents_at a i) extents-small))

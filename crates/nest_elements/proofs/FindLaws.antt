@@ -13,18 +13,13 @@ use Rattle.model.specs.Store.{sum}
 use Rattle.model.specs.Grammar.{most_statements, most_accesses, most_extents}
 use Rattle.nest_flat.specs.Layout.{extents_at, arrays_of, accesses_from, bodies_from, ArrayIn, AccessesOk}
 use Rattle.nest_points.specs.Stored.{RowsIn}
-use Rattle.nest_elements.specs.Search.{violates_at, ViolationIn, answer_of}
+use Rattle.std.specs.Prelude.{Option, Some, None}
+use Rattle.nest_elements.specs.Search.{violates_at, ViolationIn, AccessIn, access_violates, answer_of}
 use Rattle.nest_elements.proofs.LayoutLaws.{array-in, array-ends, extents-length, extent-read, bodies-drop, sum_drop}
-use Rattle.nest_elements.proofs.ViolationLaws.{grows, dimensions_violation, no-dimension, one-dimension, access_violates, all-dimensions}
+use Rattle.nest_elements.proofs.ViolationLaws.{grows, dimensions_violation, no-dimension, one-dimension, all-dimensions}
 use Rattle.nest_elements.proofs.ViolationLaws.{accesses_violation, one-access, in_bodies, body-clear, body-violates, no_body}
 
 -- ---- the dimensions of one access
-
--- access k of all, and stored points
-pub record AccessIn (w : List ℤ) (o a : List ℕ) (k : ℕ) (points : List ℤ) (depth count : ℕ) : Type 0 where
-  pub accesses : AccessesOk w o a depth
-  pub there : k < length o
-  pub stored : RowsIn points depth count
 
 -- its first d dimensions
 abbrev pub violates_to : List ℤ → List ℕ → List ℕ → ℕ → List (List ℤ) → ℕ → ℕ → Bool
@@ -107,7 +102,7 @@ pub record Reached (w : List ℤ) (o a sizes : List ℕ) (points : List ℤ) (de
   pub clear : in_bodies (arrays_of a) (rows depth count points) 1 (bodies_from w o a depth 0 sizes) ≡ in_bodies (arrays_of a) (rows depth count points)
       (suc s) (bodies_from w o a depth first (drop s sizes))
 
-abbrev pub Searched : List ℤ → List ℕ → List ℕ → List ℕ → List ℤ → ℕ → ℕ → ℕ → Type 0
+abbrev pub Searched : List ℤ → List ℕ → List ℕ → List ℕ → List ℤ → ℕ → ℕ → Option ℕ → Type 0
 Searched w o a sizes points depth count r = answer_of r ≡ in_bodies (arrays_of a) (rows depth count points) 1 (bodies_from w o a depth 0 sizes)
 
 module _ {w : List ℤ} {o a sizes : List ℕ} {points : List ℤ} {depth count : ℕ} (p : SearchIn w o a sizes points depth count) where
@@ -115,7 +110,7 @@ module _ {w : List ℤ} {o a sizes : List ℕ} {points : List ℤ} {depth count 
   start = let e = p.each in record { inside = omega arith; room = omega arith; clear = refl }
 
   module _ {first s : ℕ} (g : Reached w o a sizes points depth count first s) where
-    pub finished : length sizes ≤ s → Searched w o a sizes points depth count 0
+    pub finished : length sizes ≤ s → Searched w o a sizes points depth count None
     unfolding bodies_from
     finished h = let e : s ≡ length sizes = (let i = g.inside in omega arith) in
         sym (g.clear ∙ ap (λ (l : List ℕ). in_bodies (arrays_of a) (rows depth count points) (suc s) (bodies_from w o a depth first l))
@@ -152,8 +147,8 @@ module _ {w : List ℤ} {o a sizes : List ℕ} {points : List ℤ} {depth count 
               → accesses_violation w o a depth (rows depth count points) first (i + 1) ≡ false
           next-access q = rw (add-one i) (one-access w o a depth (rows depth count points) p.accesses first i ∙ rw (e, ← q))
 
-          pub found : true ≡ access_violates w o a depth (rows depth count points) (first + i) → Searched w o a sizes points depth count (s + 1)
-          found q = subst (Searched w o a sizes points depth count) (sym (add-one s)) (sym (to-body
+          pub found : true ≡ access_violates w o a depth (rows depth count points) (first + i) → Searched w o a sizes points depth count (Some (s + 1))
+          found q = subst (λ (k : ℕ). Searched w o a sizes points depth count (Some k)) (sym (add-one s)) (sym (to-body
               ∙ body-violates (arrays_of a) (rows depth count points) (suc s) (accesses_from w o a depth first (get_or sizes s 0))
               (bodies_from w o a depth (first + get_or sizes s 0) (drop (s + 1) sizes))
               (grows (accesses_violation w o a depth (rows depth count points) first)

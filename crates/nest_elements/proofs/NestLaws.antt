@@ -7,6 +7,7 @@ use native.Mathlib.Omega.{arith}
 use lib.Dec.{T}
 use lib.IntN.{ℤ}
 use lib.ListN.{length, get_or}
+use Rattle.std.specs.Prelude.{Option}
 use Rattle.lists.specs.Parts.{rows}
 use Rattle.lists.proofs.PartLaws.{get_d_map, length-rows}
 use Rattle.lists.proofs.MembershipLaws.{get_d-mem}
@@ -35,7 +36,7 @@ module _ (P : FlatNest) where
       let s = h.flat-nest in let l = accessed-count P s in let k = sizes-count P s in let f = s.few-statements in let e = s.all-accesses in
       record { accesses = s.accesses-ok; statements = omega arith; each = omega arith; stored = h.points-are.stored }
 
-  pub search-out : (points : List ℤ) (n r : ℕ) → NestViolationIn P points n
+  pub search-out : (points : List ℤ) (n : ℕ) (r : Option ℕ) → NestViolationIn P points n
       → Searched (words_in P) (accessed_in P) (extents_in P) (sizes_in P) points P.depth n r → NestSearched P r
   unfolding nest_of
   search-out points n r h g = g ∙ ap (in_bodies (nest_of P).arrays (rows P.depth n points) 1) (sym (bodies-are P h.flat-nest))

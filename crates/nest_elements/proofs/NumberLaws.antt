@@ -14,25 +14,28 @@ use Rattle.lists.proofs.PartLaws.{length-rows, length-put, set-put, put-nil, get
 use Rattle.model.specs.Bounds.{violates}
 use Rattle.model.specs.Store.{base}
 use Rattle.model.specs.Grammar.{most_accesses, most_points, most_numbers}
-use Rattle.nest_flat.specs.Layout.{arrays_of, access_at}
+use Rattle.nest_flat.specs.Layout.{arrays_of, access_at, ArrayIn}
 use Rattle.nest_elements.specs.Forms.{form_of, value_at, FormIn, PlacedIn}
 use Rattle.nest_elements.specs.Places.{BaseIn, NumberIn, place_at, places_of}
 use Rattle.nest_elements.proofs.LayoutLaws.{array-in}
-use Rattle.nest_elements.proofs.ElementLaws.{array-fits}
+use Rattle.nest_elements.proofs.ElementLaws.{array-fits, earlier-array}
 use Rattle.nest_elements.proofs.PlaceLaws.{PlaceIn, value-is-place, value_in}
 use Rattle.nest_elements.proofs.RowLaws.{lent, row_is, row-length, row-mem, row_near, next-rows}
 
 module _ {w : List ℤ} {o a : List ℕ} {points : List ℤ} {depth count room : ℕ} (p : NumberIn w o a points depth count room) {k : ℕ}
     (h : k < length o) where
+  its-array : ArrayIn a (get_or o k 0)
+  its-array = array-in w o a depth (get_or o k 0) p.accesses (p.accesses.there k h)
+
   pub base-in : BaseIn a (get_or o k 0)
-  base-in = record { array = array-in w o a depth (get_or o k 0) p.accesses (p.accesses.there k h); fits = p.fits }
+  base-in = record { before = earlier-array a (get_or o k 0) its-array; fits = p.fits }
 
   pub form_in : {b : ℕ} → b ≡ base (arrays_of a) (get_or o k 0) → FormIn w o a k b
   form_in {b} q = record {
     loops = depth;
     accesses = p.accesses;
     there = h;
-    begins = let f = array-fits a (get_or o k 0) base-in.array
+    begins = let f = array-fits a (get_or o k 0) its-array
         in let t = p.fits in omega arith;
   }
 

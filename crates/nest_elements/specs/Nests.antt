@@ -1,7 +1,7 @@
 -- What is found of the subscripts, elements and rules of a flat nest, in terms of the nest that it stands for.
-use Rattle.std.specs.Prelude.{◌≡◌, not, List, [], ℕ, zero, suc, ◌+◌, ◌*◌, ◌≤◌, ◌<◌, eqb, ℤ, length, get_or}
+use Rattle.std.specs.Prelude.{◌≡◌, List, [], ℕ, ◌+◌, ◌*◌, ◌≤◌, ◌<◌, ℤ, length, get_or, Option, Some, None}
 use Rattle.lists.specs.Parts.{rows}
-use Rattle.model.specs.Answer.{Answer, accepted, refused, require, ◌>>◌}
+use Rattle.model.specs.Answer.{Answer, accepted, refused}
 use Rattle.model.specs.Grammar.{total}
 use Rattle.model.specs.Points.{iterations}
 use Rattle.model.specs.Bounds.{in_arrays}
@@ -18,18 +18,13 @@ pub record NestViolationIn (P : FlatNest) (points : List ℤ) (n : ℕ) : Type 0
   pub points-are : PointsAre P points n
 
 -- 9
-abbrev pub NestSearched : FlatNest → ℕ → Type 0
+abbrev pub NestSearched : FlatNest → Option ℕ → Type 0
 NestSearched P r = Elements.answer_of r ≡ in_arrays (nest_of P).arrays (iterations (nest_of P).loops) 1 (nest_of P).statements
 
--- 15: the number of the first opaque statement, 0 for none
-abbrev pub opaque_at : ℕ → Answer (Unit {0})
-opaque_at zero = accepted tt
-opaque_at (suc n) = refused 15 (suc n)
-
--- n statements with these rules, from statement i on, counted from 0
-unfoldable pub clear_from : List ℕ → ℕ → ℕ → Answer (Unit {0})
-clear_from rules i zero = accepted tt
-clear_from rules i (suc n) = require (not (eqb (get_or rules i 0) 0)) 15 (suc i) >> clear_from rules (suc i) n
+-- 15: the number of the first opaque statement, if there is one
+abbrev pub opaque_at : Option ℕ → Answer (Unit {0})
+opaque_at None = accepted tt
+opaque_at (Some n) = refused 15 n
 
 -- any n points, all of the nest's or a part of them, at which no access leaves its array
 pub record NestNumberIn (P : FlatNest) (points : List ℤ) (n room : ℕ) : Type 0 where

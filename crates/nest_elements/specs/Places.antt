@@ -9,8 +9,9 @@ use Rattle.model.specs.Store.{place_of}
 use Rattle.nest_flat.specs.Layout.{arrays_of, access_at, ArrayIn, AccessesOk}
 use Rattle.nest_points.specs.Stored.{RowsIn}
 
+-- the arrays before array i of a slice, which may be all
 pub record BaseIn (a : List ℕ) (i : ℕ) : Type 0 where
-  pub array : ArrayIn a i
+  pub before : (j : ℕ) → j < i → ArrayIn a j
   pub fits : total (arrays_of a) ≤ most_elements
 
 -- all n arrays of a slice

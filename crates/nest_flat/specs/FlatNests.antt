@@ -9,6 +9,7 @@ use Rattle.model.specs.Entries.{all_accesses}
 use Rattle.nest_flat.specs.Flat.{loops_from, NestOk}
 use Rattle.nest_flat.specs.Layout.{arrays_of, access_at, accesses_from, AccessesOk}
 use Rattle.nest_flat.specs.declared.Header.{Header}
+use Rattle.nest_flat.specs.declared.FlatNest as Lent
 
 -- a header with the two large slices that are lent beside it
 pub record FlatNest : Type 0 where
@@ -40,6 +41,10 @@ flat_nest O s w = record {
   accessed = O.accessed;
   words = w;
 }
+
+-- that of a header and slices that stand together
+abbrev pub flat : Lent.FlatNest → FlatNest
+flat P = flat_nest P.header.now P.limits.now P.words.now
 
 -- P with these loops and subscripts
 abbrev pub moved : FlatNest → ℕ → List ℤ → List ℕ → List ℤ → FlatNest

@@ -3,8 +3,7 @@
 
 use model::{ACCESSES, EXTENTS, SIDES, STATEMENTS};
 
-// All of a flat nest but its two large slices, the words of all limits and of all accesses. As many arrays, statements and accesses are in use as the
-// fields of these names say. A function whose contract speaks of the flat nest is lent both slices, also where it reads one alone.
+// All of a flat nest but its two large slices. As many arrays, statements and accesses are in use as the fields of these names say.
 #[derive(Clone, Copy)]
 pub struct Header {
     pub depth: usize,
@@ -17,4 +16,12 @@ pub struct Header {
     pub constants: [usize; STATEMENTS],
     pub accesses: usize,
     pub accessed: [usize; ACCESSES],
+}
+
+// A flat nest: its header, the words of all limits, and the words of all accesses.
+#[derive(Clone, Copy)]
+pub struct FlatNest<'a> {
+    pub header: &'a Header,
+    pub limits: &'a [i16],
+    pub words: &'a [i16],
 }

@@ -17,7 +17,9 @@ use Rattle.integers.proofs.AffineLaws.{within-at, within-take, affine-size, nest
 use Rattle.model.specs.Points.{value}
 use Rattle.nest_flat.specs.Flat.{limit_at}
 use Rattle.nest_index_range.specs.Ranges.{Narrow, LimitIn, DivisorIn}
-use Rattle.nest_index_range.proofs.Sides.{Side, rounded, rounded-size}
+use Rattle.nest_index_range.specs.declared.Side.{Side}
+use Rattle.nest_index_range.specs.Sides.{rounded}
+use Rattle.nest_index_range.proofs.Sides.{rounded-size}
 
 pub within-drop : (n : ℕ) (l : List ℤ) (i : ℕ) → Within n l → Within n (drop i l)
 within-drop n l zero w = w

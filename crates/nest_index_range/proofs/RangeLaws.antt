@@ -8,7 +8,7 @@ use native.Mathlib.Numerals.{add-one}
 use lib.Dec.{T}
 use lib.IntN.{ℤ, pos, negsuc, nat_abs, ◌-ℤ◌}
 use lib.Signed.{lt_z, non_neg, ◌≤ℤ◌, ◌<ℤ◌}
-use lib.ListN.{length, get_or}
+use lib.ListN.{length}
 use mir.Syntax.{w64}
 use mir.Val.{SFits, Fits, to_z, of_z}
 use Rattle.integers.specs.Difference.{size}
@@ -18,7 +18,9 @@ use Rattle.integers.proofs.RingLaws.{zarith}
 use Rattle.integers.proofs.RangeLaws.{back, size_fits, size-sub, size-nat_abs, cast_ok, test-lt, test-lt-no}
 use Rattle.model.specs.Points.{span, first_index, last_index}
 use Rattle.nest_flat.specs.Flat.{NestOk, loop_at}
-use Rattle.nest_index_range.specs.Ranges.{Narrow, ceil_at, floor_at, first_from, last_from, Outside, RangeIn, Ranged}
+use Rattle.nest_index_range.specs.declared.Side.{Side}
+use Rattle.nest_index_range.specs.declared.Side.TheVariants.{Lower, Upper}
+use Rattle.nest_index_range.specs.Ranges.{Narrow, allowed, end, Outside, EndIn, RangeIn, Ranged}
 use Rattle.nest_index_range.proofs.LimitLaws.{copied}
 
 pub range-in : (s : List ℤ) (c : List ℕ) (depth : ℕ) (outer : List ℤ) → NestOk s c depth → length outer < depth → Within 100000 outer
@@ -48,14 +50,28 @@ range-in s c depth outer p h w =
       };
     }
 
+-- one side of it
+pub end-in : (d : Side) {s : List ℤ} {c : List ℕ} {outer : List ℤ} → RangeIn s c outer → EndIn d s c outer
+end-in Lower {s} {c} {outer} p = record {
+  counts = p.counts;
+  deep = p.deep;
+  side = let e : length outer * 32 ≡ length outer * 2 * 16 = omega arith in rw e at p.lower;
+}
+end-in Upper {s} {c} {outer} p = record {
+  counts = p.counts;
+  deep = p.deep;
+  side = let e : length outer * 32 + 16 ≡ (length outer * 2 + 1) * 16 = omega arith in rw e at p.upper;
+}
+
 -- the model's ends
-pub ranged : (s : List ℤ) (c : List ℕ) (outer : List ℤ) (lo hi : ℤ)
-    → (lo ≡ first_from s (length outer * 32) (get_or c (length outer * 2) 0) outer) × Narrow lo
-    → (hi ≡ last_from s (length outer * 32 + 16) (get_or c (length outer * 2 + 1) 0) outer) × Narrow hi
+pub ranged : (s : List ℤ) (c : List ℕ) (outer : List ℤ) {lo hi : ℤ} → (lo ≡ end Lower s c outer) × Narrow lo → (hi ≡ end Upper s c outer) × Narrow hi
     → Ranged (loop_at s c (length outer)) outer (to_z w64 (of_z w64 lo)) (to_z w64 (of_z w64 hi))
-unfolding loop_at first_from last_from first_index last_index ceil_at floor_at
-ranged s c outer lo hi p q = let a = copied lo p.1 in let b = copied hi q.1 in
-    record { first = a ∙ p.0; last = b ∙ q.0; low-size = rw a p.1; high-size = rw b q.1 }
+unfolding loop_at end first_index last_index allowed
+ranged s c outer {lo} {hi} p q =
+    let e : length outer * 2 * 16 ≡ length outer * 32 = omega arith in
+    let f : (length outer * 2 + 1) * 16 ≡ length outer * 32 + 16 = omega arith in
+    let a = copied lo p.1 in let b = copied hi q.1 in
+    record { first = a ∙ rw e at p.0; last = b ∙ rw f at q.0; low-size = rw a p.1; high-size = rw b q.1 }
 
 -- ---- how many indices
 

@@ -15,14 +15,17 @@ use Rattle.model.specs.Ticket.{Limit}
 use Rattle.model.specs.Quick as Model
 use Rattle.model.specs.Quick.{least_term, greatest_term, cut, range_of, ranges_from, ranges}
 use Rattle.nest_flat.specs.Flat.{NestOk, limit_at, limits_at, loop_at, loops_from}
-use Rattle.nest_index_range.proofs.Sides.{Side, lower, upper, rounded, tightest}
+use Rattle.nest_index_range.specs.declared.Side.{Side}
+use Rattle.nest_index_range.specs.declared.Side.TheVariants.{Lower, Upper}
+use Rattle.nest_index_range.specs.Sides.{place, rounded, tightest}
 use Rattle.nest_loop_ranges.specs.declared.Range.{Range}
 use Rattle.nest_loop_ranges.specs.Ranges.{range_as, ranges_of, NearRange, NearRanges}
-use Rattle.nest_loop_ranges.specs.Values.{least_of, greatest_of, largest_from, smallest_from, range_at, Free, LoopIn}
+use Rattle.nest_loop_ranges.specs.Extremes.{end_of, extreme_term, extreme_sum}
+use Rattle.nest_loop_ranges.specs.Values.{extreme_of, extreme_from, range_at, Free, LoopIn}
 use Rattle.nest_loop_ranges.proofs.TermLaws.{copy}
 use Rattle.nest_loop_ranges.proofs.SumLaws.{no_range, ranges-length, ranges-at}
-use Rattle.nest_loop_ranges.proofs.ExtremeLaws.{extreme_term, extreme_sum, extreme_of, sum-none, sum-cons}
-use Rattle.nest_loop_ranges.proofs.RangeLaws.{least-cut, greatest-cut, ranges_more, range-made}
+use Rattle.nest_loop_ranges.proofs.ExtremeLaws.{sum-none, sum-cons}
+use Rattle.nest_loop_ranges.proofs.RangeLaws.{extreme-cut, ranges_more, range-made}
 
 pub free_more : (s : List ℤ) (j l i : ℕ) → Free s j l i → get_or s ((j + l) * 8 + 2 + i) (pos 0) ≡ pos 0 → Free s j (l + 1) i
 free_more s j l i f e m h = ⊎_elim (λ g. ap (λ (z : ℕ). get_or s ((j + z) * 8 + 2 + i) (pos 0)) g ∙ e) (f m)
@@ -32,8 +35,8 @@ free_more s j l i f e m h = ⊎_elim (λ g. ap (λ (z : ℕ). get_or s ((j + z) 
 
 term-none : (d : Side) (r : Model.Range) → extreme_term d (pos 0) r ≡ pos 0
 unfolding least_term greatest_term
-term-none lower r = zero-*ℤ r.greatest
-term-none upper r = zero-*ℤ r.least
+term-none Lower r = zero-*ℤ r.greatest
+term-none Upper r = zero-*ℤ r.least
 
 -- the ranges are the same, but at coefficients of 0
 abbrev Alike : List ℤ → List Model.Range → List Model.Range → Type 0
@@ -178,16 +181,10 @@ module _ (s : List ℤ) (c : List ℕ) (k i : ℕ) (b : List Range) (q : NestOk 
   abbrev full : List Model.Range
   full = ranges (loops_from s c 0 k)
 
-  pub needed-least : NeededAre s c (k * 32) (get_or c (k * 2) 0) i b → r ≡ (range_of (ranges_of k b) (loop_at s c k)).least → r ≡ (range_at s c k).least
-  unfolding range_at largest_from least_of
-  needed-least p e = let m = get_or c (k * 2) 0 in
-      e ∙ sym (least-cut s c k (ranges_of k b) _ _ refl refl)
-      ∙ ap cut (side-alike s k (k * 32) m (ranges_of k b) full (alike-but s c (k * 32) m k i b q p h) lower) ∙ least-cut s c k full _ _ refl refl
-
-  pub needed-greatest : NeededAre s c (k * 32 + 16) (get_or c (k * 2 + 1) 0) i b → r ≡ (range_of (ranges_of k b) (loop_at s c k)).greatest
-      → r ≡ (range_at s c k).greatest
-  unfolding range_at smallest_from greatest_of
-  needed-greatest p e = let m = get_or c (k * 2 + 1) 0 in
-      e ∙ sym (greatest-cut s c k (ranges_of k b) _ _ refl refl)
-      ∙ ap cut (side-alike s k (k * 32 + 16) m (ranges_of k b) full (alike-but s c (k * 32 + 16) m k i b q p h) upper)
-      ∙ greatest-cut s c k full _ _ refl refl
+  pub needed-extreme : (d : Side) {p : ℕ} → p ≡ place d k → NeededAre s c (p * 16) (get_or c p 0) i b
+      → r ≡ end_of d (range_of (ranges_of k b) (loop_at s c k)) → r ≡ end_of d (range_at s c k)
+  unfolding range_at extreme_from
+  needed-extreme d {p} f m e = let n = get_or c p 0 in let g : NeededAre s c (place d k * 16) (get_or c (place d k) 0) i b = rw f at m in
+      e ∙ sym (extreme-cut s c k (ranges_of k b) d refl refl refl)
+      ∙ ap cut (side-alike s k (place d k * 16) (get_or c (place d k) 0) (ranges_of k b) full
+      (alike-but s c (place d k * 16) (get_or c (place d k) 0) k i b q g h) d) ∙ extreme-cut s c k full d refl refl refl

@@ -12,17 +12,27 @@ use Rattle.model.specs.Ticket.{Loop}
 use Rattle.model.specs.Quick as Model
 use Rattle.model.specs.Quick.{cut, range_of, ranges_from, ranges}
 use Rattle.nest_flat.specs.Flat.{NestOk, loop_at, loops_from}
+use Rattle.nest_index_range.specs.declared.Side.{Side}
+use Rattle.nest_index_range.specs.declared.Side.TheVariants.{Lower, Upper}
+use Rattle.nest_index_range.specs.Sides.{place}
 use Rattle.nest_index_range.proofs.LimitLaws.{copied}
 use Rattle.nest_points.proofs.DepthLaws.{nest-part}
 use Rattle.nest_loop_ranges.specs.declared.Range.{Range}
 use Rattle.nest_loop_ranges.specs.Ranges.{range_as, ranges_of, NearRange, NearRanges}
-use Rattle.nest_loop_ranges.specs.Values.{least_of, greatest_of, largest_from, smallest_from, range_at, SideIn, LoopIn, RangesAre}
+use Rattle.nest_loop_ranges.specs.Extremes.{end_of}
+use Rattle.nest_loop_ranges.specs.Values.{extreme_from, range_at, SideIn, LoopIn, RangesAre}
 use Rattle.nest_loop_ranges.proofs.TermLaws.{copy}
 
 -- ---- one loop
 
+lower-place : (k : ℕ) → k * 2 * 16 ≡ k * 32
+lower-place k = omega arith
+
+upper-place : (k : ℕ) → (k * 2 + 1) * 16 ≡ k * 32 + 16
+upper-place k = omega arith
+
 module _ (s : List ℤ) (c : List ℕ) (k : ℕ) (b : List Range) (p : LoopIn s c k b) where
-  pub lower_in : SideIn s (k * 32) (get_or c (k * 2) 0) k b
+  lower_in : SideIn s (k * 32) (get_or c (k * 2) 0) k b
   lower_in = let q = p.nest.lower-count k (omega arith) in let f = p.nest.shallow in
       record {
         words = p.nest.words;
@@ -34,7 +44,7 @@ module _ (s : List ℤ) (c : List ℕ) (k : ℕ) (b : List Range) (p : LoopIn s 
         outside = p.outside;
       }
 
-  pub upper_in : SideIn s (k * 32 + 16) (get_or c (k * 2 + 1) 0) k b
+  upper_in : SideIn s (k * 32 + 16) (get_or c (k * 2 + 1) 0) k b
   upper_in = let q = p.nest.upper-count k (omega arith) in let f = p.nest.shallow in
       record {
         words = p.nest.words;
@@ -46,14 +56,23 @@ module _ (s : List ℤ) (c : List ℕ) (k : ℕ) (b : List Range) (p : LoopIn s 
         outside = p.outside;
       }
 
-module _ (s : List ℤ) (c : List ℕ) (k : ℕ) (rs : List Model.Range) (x r : ℤ) where
-  pub least-cut : x ≡ largest_from s k (k * 32) (get_or c (k * 2) 0) rs → r ≡ cut x → r ≡ (range_of rs (loop_at s c k)).least
-  unfolding range_of loop_at largest_from least_of
-  least-cut e f = f ∙ ap cut e
+  side_at : (d : Side) → SideIn s (place d k * 16) (get_or c (place d k) 0) k b
+  side_at Lower = let e = sym (lower-place k) in rw e at lower_in
+  side_at Upper = let e = sym (upper-place k) in rw e at upper_in
 
-  pub greatest-cut : x ≡ smallest_from s k (k * 32 + 16) (get_or c (k * 2 + 1) 0) rs → r ≡ cut x → r ≡ (range_of rs (loop_at s c k)).greatest
-  unfolding range_of loop_at smallest_from greatest_of
-  greatest-cut e f = f ∙ ap cut e
+  -- where the code finds a side
+  pub side-in : (d : Side) {p : ℕ} → p ≡ place d k → SideIn s (p * 16) (get_or c p 0) k b
+  side-in d e = rw e (side_at d)
+
+module _ (s : List ℤ) (c : List ℕ) (k : ℕ) (rs : List Model.Range) where
+  cut-is : (d : Side) {x r : ℤ} → x ≡ extreme_from d s k (place d k * 16) (get_or c (place d k) 0) rs → r ≡ cut x → r ≡ end_of d (range_of rs (loop_at s c k))
+  unfolding range_of loop_at extreme_from
+  cut-is Lower e f = let g = lower-place k in f ∙ ap cut (rw g at e)
+  cut-is Upper e f = let g = upper-place k in f ∙ ap cut (rw g at e)
+
+  pub extreme-cut : (d : Side) {p : ℕ} {x r : ℤ} → p ≡ place d k → x ≡ extreme_from d s k (p * 16) (get_or c p 0) rs → r ≡ cut x
+      → r ≡ end_of d (range_of rs (loop_at s c k))
+  extreme-cut d g e f = cut-is d (rw g at e) f
 
 -- ---- one loop more
 
@@ -122,13 +141,9 @@ module _ (s : List ℤ) (c : List ℕ) (k i : ℕ) (b : List Range) (q : NestOk 
   pub loop-in : LoopIn s c k b
   loop-in = record { nest = q; outside = all_held.held }
 
-  pub least_at : (r : ℤ) → r ≡ (range_of (ranges_of k b) (loop_at s c k)).least → r ≡ (range_at s c k).least
+  pub extreme-at : (d : Side) {r : ℤ} → r ≡ end_of d (range_of (ranges_of k b) (loop_at s c k)) → r ≡ end_of d (range_at s c k)
   unfolding range_at
-  least_at r e = e ∙ rw all_held.are
-
-  pub greatest-at : (r : ℤ) → r ≡ (range_of (ranges_of k b) (loop_at s c k)).greatest → r ≡ (range_at s c k).greatest
-  unfolding range_at
-  greatest-at r e = e ∙ rw all_held.are
+  extreme-at d e = e ∙ rw all_held.are
 
 pub loops-before : (s : List ℤ) (c : List ℕ) (n i : ℕ) → NestOk s c n → i < n → NestOk s c (suc i)
 loops-before s c n i p h = nest-part s c n (suc i) p (omega arith)

@@ -13,11 +13,13 @@ use Rattle.integers.proofs.RangeLaws.{size-add}
 use Rattle.integers.proofs.AffineLaws.{within-at, within-take}
 use Rattle.model.specs.Quick as Model
 use Rattle.nest_index_range.proofs.LimitLaws.{within-drop, copied}
-use Rattle.nest_index_range.proofs.Sides.{Side}
+use Rattle.nest_index_range.specs.declared.Side.{Side}
+use Rattle.nest_index_range.specs.Sides.{other}
 use Rattle.nest_loop_ranges.specs.declared.Range.{Range}
 use Rattle.nest_loop_ranges.specs.Ranges.{range_as, ranges_of, NearRange, NearRanges, RangesIn, term_by, TermIn, SumIn}
+use Rattle.nest_loop_ranges.specs.Extremes.{end_of, extreme_term, extreme_sum}
 use Rattle.nest_loop_ranges.proofs.TermLaws.{copy}
-use Rattle.nest_loop_ranges.proofs.ExtremeLaws.{extreme_term, extreme_sum, end_of, other, term_is, sum-none, sum-short, sum-cons, end-size}
+use Rattle.nest_loop_ranges.proofs.ExtremeLaws.{term_is, sum-none, sum-short, sum-cons, end-size}
 use Rattle.nest_loop_ranges.proofs.ExtremeLaws.{term-size}
 
 -- ---- the ranges in the array

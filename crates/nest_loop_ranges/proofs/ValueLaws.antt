@@ -14,12 +14,13 @@ use Rattle.integers.proofs.RangeLaws.{back, size_fits, size-add, to-nat}
 use Rattle.integers.proofs.AffineLaws.{within-at}
 use Rattle.nest_flat.specs.Flat.{limit_at}
 use Rattle.nest_index_range.proofs.LimitLaws.{copied, rounded-is}
-use Rattle.nest_index_range.proofs.Sides.{Side, rounded}
+use Rattle.nest_index_range.specs.declared.Side.{Side}
+use Rattle.nest_index_range.specs.Sides.{rounded}
 use Rattle.nest_loop_ranges.specs.declared.Range.{Range}
 use Rattle.nest_loop_ranges.specs.Ranges.{ranges_of}
-use Rattle.nest_loop_ranges.specs.Values.{LimitIn, SideIn}
+use Rattle.nest_loop_ranges.specs.Extremes.{extreme_sum}
+use Rattle.nest_loop_ranges.specs.Values.{extreme_of, LimitIn, SideIn}
 use Rattle.nest_loop_ranges.proofs.TermLaws.{copy}
-use Rattle.nest_loop_ranges.proofs.ExtremeLaws.{extreme_sum, extreme_of}
 
 -- ---- one limit
 

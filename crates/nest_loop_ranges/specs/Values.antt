@@ -1,29 +1,24 @@
 -- The least and the greatest value of a loop: what a limit says of them, and what the functions that find them ask.
 use Rattle.std.specs.Prelude.{◌≡◌, List, map, ℕ, suc, ◌+◌, ◌*◌, ◌≤◌, ◌<◌, ℤ, pos, ◌+ℤ◌, ◌<ℤ◌, length, get_or}
-use Rattle.integers.specs.Division.{floor_div, ceil_div}
 use Rattle.integers.specs.Affine.{Within}
 use Rattle.model.specs.Ticket.{Limit}
-use Rattle.model.specs.Points.{largest, smallest}
 use Rattle.model.specs.Quick as Model
-use Rattle.model.specs.Quick.{least_sum, greatest_sum, range_of, ranges}
+use Rattle.model.specs.Quick.{range_of, ranges}
 use Rattle.model.specs.Grammar.{nest_limits, nest_room}
 use Rattle.nest_flat.specs.Flat.{limits_at, loop_at, loops_from, Positive, NestOk}
+use Rattle.nest_index_range.specs.declared.Side.{Side}
+use Rattle.nest_index_range.specs.Sides.{rounded, tightest}
 use Rattle.nest_loop_ranges.specs.declared.Range.{Range}
 use Rattle.nest_loop_ranges.specs.Ranges.{ranges_of, RangesIn}
+use Rattle.nest_loop_ranges.specs.Extremes.{extreme_sum}
 
--- the least index that a lower limit allows over the ranges outside, and the greatest that an upper one does
-unfoldable pub least_of : List Model.Range → Limit → ℤ
-least_of rs l = ceil_div (l.constant +ℤ least_sum l.coefficients rs) (pos l.multiplier)
-
-unfoldable pub greatest_of : List Model.Range → Limit → ℤ
-greatest_of rs l = floor_div (l.constant +ℤ greatest_sum l.coefficients rs) (pos l.multiplier)
+-- the extreme index that a limit of a side allows over the ranges outside
+abbrev pub extreme_of : Side → List Model.Range → Limit → ℤ
+extreme_of d rs l = rounded d (l.constant +ℤ extreme_sum d l.coefficients rs) (pos l.multiplier)
 
 -- of n limits from limit j on, of a loop with k loops outside
-unfoldable pub largest_from : List ℤ → ℕ → ℕ → ℕ → List Model.Range → ℤ
-largest_from s k j n rs = largest (map (least_of rs) (limits_at s k j n))
-
-unfoldable pub smallest_from : List ℤ → ℕ → ℕ → ℕ → List Model.Range → ℤ
-smallest_from s k j n rs = smallest (map (greatest_of rs) (limits_at s k j n))
+unfoldable pub extreme_from : Side → List ℤ → ℕ → ℕ → ℕ → List Model.Range → ℤ
+extreme_from d s k j n rs = tightest d (map (extreme_of d rs) (limits_at s k j n))
 
 -- the range of loop k
 unfoldable pub range_at : List ℤ → List ℕ → ℕ → Model.Range

@@ -19,8 +19,8 @@ use Rattle.nest_points.specs.declared.Tally.{Tally}
 use Rattle.nest_flat.specs.Flat.{NestOk, loops_from}
 use Rattle.nest_flat.specs.FlatNests.{FlatNest, nest_of, FlatNestIn}
 use Rattle.nest_points.specs.Tallies.{capped, seen, Bounded, TallyIn, Tallied}
-use Rattle.nest_points.specs.declared.SpaceCheck.{SpaceCheck}
-use Rattle.nest_points.specs.declared.SpaceCheck.TheVariants.{Admitted, IndexTooLarge, CountTooLarge}
+use Rattle.std.specs.Prelude.{Ok, Err}
+use Rattle.nest_points.specs.declared.SpaceError.TheVariants.{IndexTooLarge, CountTooLarge}
 use Rattle.nest_points.specs.Nests.{NestSurveyed}
 use Rattle.nest_points.proofs.ThroughLaws.{loops-length, loops-take, partial-are}
 use Rattle.nest_points.proofs.TallyLaws.{capped-test}
@@ -37,17 +37,6 @@ nest-part s c depth d p h = let e = p.shallow in record {
   lower-positive = λ k g. p.lower-positive k (omega arith);
   upper-positive = λ k g. p.upper-positive k (omega arith);
 }
-
--- only what is admitted is counted
-refuses : SpaceCheck → Type 0
-refuses (Admitted n) = ⊥
-refuses (IndexTooLarge k) = Unit {0}
-refuses (CountTooLarge k) = Unit {0}
-
-counted-in : SpaceCheck → ℕ
-counted-in (Admitted n) = n
-counted-in (IndexTooLarge k) = 0
-counted-in (CountTooLarge k) = 0
 
 abbrev pub blank : Tally
 blank = record { far = false; count = 0 }
@@ -145,13 +134,13 @@ module _ {P : FlatNest} {bound most : ℕ} (p : FlatNestIn P × Bounded bound mo
         many-answer e f = sym (skipped ∙ survey-many far many bound most N level (P.depth - level) (sym far-is ∙ e)
             (ltb-true most (length (partial_points level N)) (sym test-is ∙ lt-ltb most r.count f)))
 
-      pub far-out : r.far ≡ true → NestSurveyed P bound most (IndexTooLarge level)
-      unfolding refuses nest_of
-      far-out e = record { same = λ far many. far-answer far many e; count = λ n z. absurd (subst refuses z tt) }
+      pub far-out : r.far ≡ true → NestSurveyed P bound most (Err (IndexTooLarge level))
+      unfolding nest_of
+      far-out e = record { same = λ far many. far-answer far many e; count = λ n z. absurd cc }
 
-      pub many-out : r.far ≡ false → most < r.count → NestSurveyed P bound most (CountTooLarge level)
-      unfolding refuses nest_of
-      many-out e f = record { same = λ far many. many-answer far many e f; count = λ n z. absurd (subst refuses z tt) }
+      pub many-out : r.far ≡ false → most < r.count → NestSurveyed P bound most (Err (CountTooLarge level))
+      unfolding nest_of
+      many-out e f = record { same = λ far many. many-answer far many e f; count = λ n z. absurd cc }
 
   module _ (e : level ≡ P.depth + 1) where
     admitted-answer : (far many : ℕ) → accepted tt ≡ survey far many bound most N 1 (length N)
@@ -162,14 +151,15 @@ module _ {P : FlatNest} {bound most : ℕ} (p : FlatNestIn P × Bounded bound mo
         ∙ survey-done far many bound most N (1 + length N))
 
     -- `n` points of the depth before the level, which is the last
-    pub admitted-out : (n : ℕ) → (1 < level → n ≡ length (partial_points (level - 1) N)) → NestSurveyed P bound most (Admitted n)
-    unfolding partial_points iterations counted-in nest_of
+    pub admitted-out : (n : ℕ) → (1 < level → n ≡ length (partial_points (level - 1) N)) → NestSurveyed P bound most (Ok n)
+    unfolding partial_points iterations nest_of
     admitted-out n h = record {
       same = admitted-answer;
       count = λ m z.
           let s = p.0.some in
           let d = depth_is in
           let k : level - 1 ≡ length N = omega arith in
-          sym (ap counted-in z) ∙ h (omega arith) ∙ ap (λ (j : ℕ). length (points (take j N) [])) k
+          let q : m ≡ n = cc in
+          q ∙ h (omega arith) ∙ ap (λ (j : ℕ). length (points (take j N) [])) k
           ∙ ap (λ (M : List Loop). length (points M [])) (take-length N);
     }

@@ -2,7 +2,7 @@
 use mathlib.Core.Path.{◌≡◌, refl, sym, ◌∙◌, ap, ap₂, subst}
 use mathlib.Core.Bool.{Bool, true, false, ◌||◌, or_assoc, or-false}
 use mathlib.Core.List.{List, [], ◌∷◌, ◌++◌, map}
-use Prim.Native.Nat.{ℕ, suc, ◌+◌, ◌≤◌, ◌<◌}
+use Prim.Native.Nat.{ℕ, suc, ◌+◌, ◌≤◌, ◌<◌, min}
 use native.Mathlib.Omega.{arith}
 use native.Mathlib.Nat.{add_assoc, add-zero}
 use borrow.Author.Tests.{lt-ltb, le-ltb, ltb-true, ltb-false}
@@ -34,6 +34,11 @@ capped-above most n h = rw (lt-ltb most n h)
 pub capped-below : (most n : ℕ) → n ≤ most → capped most n ≡ n
 unfolding capped
 capped-below most n h = rw (le-ltb most n h)
+
+pub min-capped : (most n : ℕ) → min n (most + 1) ≡ capped most n
+unfolding capped
+min-capped most n = cond_cases (λ (k : ℕ). min n (most + 1) ≡ k) (ltb most n) (suc most) n (λ e. let h = ltb-true most n e in omega arith)
+    (λ e. let h = ltb-false most n e in omega arith)
 
 pub capped_le : (most n : ℕ) → capped most n ≤ suc most
 unfolding capped

@@ -5,13 +5,14 @@
 ghost use Rattle.std.specs.Prelude.{◌≡◌, [], ◌∷◌, ◌++◌, suc, ◌+◌, ◌≤◌, ◌<◌, pos, ◌+ℤ◌, length, take};
 ghost use Rattle.lists.specs.Parts.{put};
 ghost use Rattle.nest_flat.specs.Flat.{loop_at};
-ghost use Rattle.nest_flat.specs.FlatNests.{flat_nest, FlatNestIn};
+ghost use Rattle.nest_flat.specs.FlatNests.{flat, FlatNestIn};
 ghost use Rattle.nest_index_range.specs.Ranges.{Narrow};
 ghost use Rattle.nest_points.specs.Tallies.{through, capped, outside, seen, Bounded, IncludeIn, TallyIn, Tallied};
 ghost use Rattle.nest_points.specs.Stored.{CollectIn, Collected};
 ghost use Rattle.nest_points.specs.Nests.{NestSurveyed, ListIn, PointsAre};
 
-use nest_flat::Header;
+use model::LOOPS;
+use nest_flat::FlatNest;
 use nest_index_range::Ends;
 
 // What a survey of one depth has seen: a far index, and how many points, or one more than are allowed.
@@ -25,7 +26,7 @@ fn capped(n: usize, most: usize) -> usize
     requires { most ≤ 65536 }
     ensures { result ≡ Rattle.nest_points.specs.Tallies.capped most n }
 {
-    if most < n { most + 1 } else { n }
+    n.min(most + 1)
 }
 
 // Whether an end lies beyond the bound.
@@ -34,10 +35,7 @@ fn outside(e: Ends, bound: usize) -> bool
     ensures { result ≡ Rattle.nest_points.specs.Tallies.outside bound e.lo e.hi }
 {
     let b = bound as i64;
-    if e.lo < 0 - b {
-        return true;
-    }
-    b < e.hi
+    e.lo < -b || b < e.hi
 }
 
 // The tally with the points that go on from the indices outer by one loop: the ends of its range decide.
@@ -87,60 +85,48 @@ pub fn tally_points(
     let e = nest_index_range::range(nest, counts, &point[..k]);
     let n = nest_index_range::index_count(e);
     let mut b = a;
-    let mut t = 0;
-    while t < n {
+    for t in 0..n {
         point[k] = e.lo + (t as i64);
         b = tally_points(nest, counts, k + 1, left - 1, point, bound, most, b);
-        t += 1;
     }
     b
 }
 
-// Whether every depth of a nest keeps its bounds, or the first that does not.
+// The first depth of a nest that does not keep its bounds.
 #[derive(Clone, Copy)]
-pub enum SpaceCheck {
-    // so many points
-    Admitted(usize),
+pub enum SpaceError {
     // document 01: far index
     IndexTooLarge(usize),
     // document 01: crowded
     CountTooLarge(usize),
 }
 
-// Depth by depth, a partial point whose last index is beyond ±bound, then more than `most` of them.
-pub fn survey(
-    header: Header,
-    limits: &[i16],
-    words: &[i16],
-    bound: usize,
-    most: usize,
-) -> SpaceCheck
-    requires { FlatNestIn (flat_nest header limits.now words.now) × Bounded bound most }
-    ensures { NestSurveyed (flat_nest header limits.now words.now) bound most result }
+// Depth by depth, a partial point whose last index is beyond ±bound, then more than `most` of them; returns the number of points.
+pub fn survey(nest: &FlatNest, bound: usize, most: usize) -> Result<usize, SpaceError>
+    requires { FlatNestIn (flat nest.now) × Bounded bound most }
+    ensures { NestSurveyed (flat nest.now) bound most result }
 {
-    let counts = header.counts;
-    let depth = header.depth;
+    let counts = &nest.header.counts;
+    let depth = nest.header.depth;
     let mut count = 0;
-    let mut level = 1;
-    while level <= depth {
+    for level in 1..=depth {
         let none = Tally {
             far: false,
             count: 0,
         };
-        let mut point = [0; 6];
-        let seen = tally_points(limits, &counts, 0, level, &mut point, bound, most, none);
+        let mut point = [0; LOOPS];
+        let seen = tally_points(nest.limits, counts, 0, level, &mut point, bound, most, none);
         count = seen.count;
         let far = seen.far;
         let many = most < count;
         if far {
-            return SpaceCheck::IndexTooLarge(level);
+            return Err(SpaceError::IndexTooLarge(level));
         }
         if many {
-            return SpaceCheck::CountTooLarge(level);
+            return Err(SpaceError::CountTooLarge(level));
         }
-        level += 1;
     }
-    SpaceCheck::Admitted(count)
+    Ok(count)
 }
 
 // Writes a row into out from place at on.
@@ -148,10 +134,9 @@ pub fn store(out: &mut [i64], at: usize, row: &[i64])
     requires { at + length row.now ≤ length out.old }
     ensures { out.new ≡ put out.old at row.now }
 {
-    let mut j = 0;
-    while j < row.len() {
-        out[at + j] = row[j];
-        j += 1;
+    // not `copy_from_slice`: the points of a nest are listed a quarter slower with it, since a row is short
+    for (j, &index) in row.iter().enumerate() {
+        out[at + j] = index;
     }
 }
 
@@ -174,11 +159,9 @@ fn collect_last(nest: &[i16], counts: &[usize], outer: &[i64], out: &mut [i64], 
     let n = nest_index_range::index_count(e);
     let width = outer.len() + 1;
     let mut p = at;
-    let mut t = 0;
-    while t < n {
+    for t in 0..n {
         store_point(out, p, outer, e, t);
         p += width;
-        t += 1;
     }
     p
 }
@@ -204,24 +187,22 @@ fn collect(
     let e = nest_index_range::range(nest, counts, &point[..k]);
     let n = nest_index_range::index_count(e);
     let mut p = at;
-    let mut t = 0;
-    while t < n {
+    for t in 0..n {
         point[k] = e.lo + (t as i64);
         p = collect(nest, counts, k + 1, left - 1, point, out, p);
-        t += 1;
     }
     p
 }
 
 // All points, row by row in order; returns how many.
-pub fn list_points(header: Header, limits: &[i16], words: &[i16], points: &mut [i64]) -> usize
-    requires { ListIn (flat_nest header limits.now words.now) (length points.old) }
-    ensures { PointsAre (flat_nest header limits.now words.now) points.new result
+pub fn list_points(nest: &FlatNest, points: &mut [i64]) -> usize
+    requires { ListIn (flat nest.now) (length points.old) }
+    ensures { PointsAre (flat nest.now) points.new result
         × (length points.new ≡ length points.old) }
 {
-    let counts = header.counts;
-    let depth = header.depth;
-    let mut point = [0; 6];
-    let end = collect(limits, &counts, 0, depth, &mut point, points, 0);
+    let counts = &nest.header.counts;
+    let depth = nest.header.depth;
+    let mut point = [0; LOOPS];
+    let end = collect(nest.limits, counts, 0, depth, &mut point, points, 0);
     end / depth
 }

@@ -21,13 +21,16 @@ use Rattle.model.specs.Quick as Model
 use Rattle.model.specs.Quick.{least_term, greatest_term, difference, divides, never_zero}
 use Rattle.model.specs.Ticket.{Subscript}
 use Rattle.nest_index_range.proofs.LimitLaws.{copied}
-use Rattle.nest_index_range.proofs.Sides.{Side, lower, upper}
+use Rattle.nest_index_range.specs.declared.Side.{Side}
+use Rattle.nest_index_range.specs.declared.Side.TheVariants.{Lower, Upper}
+use Rattle.nest_index_range.specs.Sides.{other}
 use Rattle.nest_flat.specs.Layout.{form_at}
 use Rattle.nest_loop_ranges.specs.declared.Range.{Range}
 use Rattle.nest_loop_ranges.specs.Ranges.{ranges_of, term_by}
-use Rattle.nest_quick_test.specs.Differences.{difference_at, least_difference, greatest_difference, PairIn, DifferenceIn}
+use Rattle.nest_quick_test.specs.Differences.{difference_at, extreme_difference, PairIn, DifferenceIn}
+use Rattle.nest_loop_ranges.specs.Extremes.{extreme_term, extreme_sum}
 use Rattle.nest_loop_ranges.proofs.TermLaws.{copy}
-use Rattle.nest_loop_ranges.proofs.ExtremeLaws.{extreme_term, extreme_sum, other, sum-none, sum-short, sum-cons}
+use Rattle.nest_loop_ranges.proofs.ExtremeLaws.{sum-none, sum-short, sum-cons}
 use Rattle.nest_loop_ranges.proofs.SumLaws.{count_of}
 
 -- ---- sums of two lists, and of negatives
@@ -58,8 +61,8 @@ by-neg (negsuc n) x y = rw (above n) (neg-times (negsuc n) x)
 
 term-neg : (d : Side) (c : ℤ) (r : Model.Range) → extreme_term d (neg_ℤ c) r ≡ neg_ℤ (extreme_term (other d) c r)
 unfolding least_term greatest_term term_by
-term-neg lower c r = by-neg c r.least r.greatest
-term-neg upper c r = by-neg c r.greatest r.least
+term-neg Lower c r = by-neg c r.least r.greatest
+term-neg Upper c r = by-neg c r.greatest r.least
 
 neg-sum : (a b : ℤ) → neg_ℤ a +ℤ neg_ℤ b ≡ neg_ℤ (a +ℤ b)
 neg-sum a b = lin (a ∷ b ∷ []) (λ a b. ⊝ a ⊕ ⊝ b ≐ ⊝ (a ⊕ b)) tt
@@ -132,21 +135,12 @@ module _ (w : List ℤ) (u v n : ℕ) (b : List Range) (p : DifferenceIn w u v n
   as_many = let c = count_of n b p.ranges in let i = p.pair.first.inside in let f = p.ranges.few in
       let l = length-take n (drop (u * 8 + 1) w) in let d = length-drop (u * 8 + 1) w in omega arith
 
-  pub difference-is : (d : Side) (c x y r : ℤ) → c ≡ (difference_at w n u v).constant → x ≡ extreme_sum d (take n (drop (u * 8 + 1) w)) (ranges_of n b)
+  pub difference-is : (d : Side) {c x y r : ℤ} → c ≡ (difference_at w n u v).constant → x ≡ extreme_sum d (take n (drop (u * 8 + 1) w)) (ranges_of n b)
       → y ≡ extreme_sum (other d) (take n (drop (v * 8 + 1) w)) (ranges_of n b) → r ≡ c +ℤ (x -ℤ y)
-      → r ≡ (difference_at w n u v).constant +ℤ extreme_sum d (difference_at w n u v).coefficients (ranges_of n b ++ ranges_of n b)
-  unfolding difference_at form_at
-  difference-is d c x y r hc hx hy e = e ∙ rw (hc, hx, hy)
+      → r ≡ extreme_difference d w u v n (ranges_of n b)
+  unfolding extreme_difference difference_at form_at
+  difference-is d hc hx hy e = e ∙ rw (hc, hx, hy)
       (ap ((difference_at w n u v).constant +ℤ◌) (sym (of-difference d (form_at w n u) (form_at w n v) (ranges_of n b) as_many)))
-
--- ---- zero outside
-
-module _ (x y : ℤ) (h : (size x ≤ 34359738368) × (size y ≤ 34359738368)) where
-  pub zero-below : lt_z (pos 0) (copy x) ≡ true → true ≡ (lt_z (pos 0) x || lt_z y (pos 0))
-  zero-below e = let f : lt_z (pos 0) x ≡ true = rw (copied x h.0) at e in rw f
-
-  pub zero-above : lt_z (pos 0) (copy x) ≡ false → lt_z (copy y) (pos 0) ≡ (lt_z (pos 0) x || lt_z y (pos 0))
-  zero-above e = let f : lt_z (pos 0) x ≡ false = rw (copied x h.0) at e in rw (f, copied y h.1)
 
 -- ---- one dimension
 
@@ -162,7 +156,7 @@ module _ (w : List ℤ) (n u v : ℕ) (rs : List Model.Range) (g : ℕ) (c : ℤ
   unfolding never_zero
   never-divided e = rw (ap not decides ∙ e)
 
-  pub never-reached : not t ≡ false → (x y : ℤ) (r : Bool) → x ≡ least_difference w u v n rs → y ≡ greatest_difference w u v n rs
+  pub never-reached : not t ≡ false → (x y : ℤ) (r : Bool) → x ≡ extreme_difference Lower w u v n rs → y ≡ extreme_difference Upper w u v n rs
       → r ≡ (lt_z (pos 0) x || lt_z y (pos 0)) → r ≡ never_zero (rs ++ rs) (difference_at w n u v)
-  unfolding never_zero least_difference greatest_difference
+  unfolding never_zero extreme_difference
   never-reached e x y r ex ey er = er ∙ rw (ex, ey) (sym (rw (ap not decides ∙ e)))

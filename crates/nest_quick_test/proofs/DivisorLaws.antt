@@ -1,24 +1,16 @@
 -- Absolute values and the greatest common divisor of all coefficients of two subscripts: the sign of a coefficient does not count.
 use mathlib.Core.Path.{◌≡◌, refl, sym, ◌∙◌, ap}
-use mathlib.Core.Bool.{true, false}
 use mathlib.Core.List.{List, [], ◌∷◌, ◌++◌, map}
 use Prim.Native.Nat.{ℕ, zero, suc, ◌+◌, ◌*◌, ◌-◌, ◌%◌, ◌≤◌, ◌<◌}
 use native.Mathlib.Omega.{arith}
 use native.Mathlib.Nat.{mod-zero}
-use lib.Dec.{T, eqb}
-use lib.IntN.{ℤ, pos, negsuc, neg_ℤ, nat_abs, ◌-ℤ◌}
-use lib.Signed.{lt_z, non_neg, ◌≤ℤ◌, ◌<ℤ◌}
+use lib.Dec.{eqb}
+use lib.IntN.{ℤ, pos, negsuc, neg_ℤ, nat_abs}
 use lib.ListN.{length, get_or, take, drop}
 use lib.Seq.{drop-cons}
-use mir.Syntax.{w64}
-use mir.Val.{SFits, Fits}
 use Rattle.integers.specs.Difference.{size}
 use Rattle.integers.specs.Gcd.{gcd, gcd_of}
-use Rattle.integers.proofs.RingLaws.{zarith}
-use Rattle.integers.proofs.RangeLaws.{back, size_fits, size-neg, cast_ok, test-lt, test-lt-no}
 use Rattle.integers.proofs.AffineLaws.{within-at}
-use Rattle.integers.proofs.Polynomial.{◌⊖◌, ⊝, #}
-use Rattle.integers.proofs.Linear.{lin, ◌≐◌}
 use Rattle.model.specs.Quick.{divides, difference}
 use Rattle.nest_index_range.proofs.LimitLaws.{copied}
 use Rattle.nest_flat.specs.Layout.{form_at}
@@ -31,34 +23,6 @@ abs_neg : (a : ℤ) → nat_abs (neg_ℤ a) ≡ nat_abs a
 abs_neg (pos zero) = refl
 abs_neg (pos (suc n)) = refl
 abs_neg (negsuc n) = refl
-
-neg-positive : (a : ℤ) → a <ℤ pos 0 → pos 0 ≤ℤ neg_ℤ a
-neg-positive (pos n) h = omega zarith
-neg-positive (negsuc n) h = omega zarith
-
-module _ (a : ℤ) (h : size a ≤ 34359738368) where
-  negated : pos 0 -ℤ copy a ≡ neg_ℤ a
-  negated = ap (pos 0 -ℤ◌) (copied a h) ∙ lin (a ∷ []) (λ a. # 0 ⊖ a ≐ ⊝ a) tt
-
-  neg-size : SFits w64 (neg_ℤ a)
-  neg-size = size_fits {z = neg_ℤ a} {n = 34359738368} (omega (arith, size-neg a)) (omega arith)
-
-  pub neg-fits : SFits w64 (pos 0 -ℤ copy a)
-  neg-fits = rw negated neg-size
-
-  pub neg-copy : copy (pos 0 -ℤ copy a) ≡ neg_ℤ a
-  neg-copy = back neg-fits ∙ negated
-
-  pub neg-cast : lt_z (copy a) (pos 0) ≡ true → T (non_neg (copy (pos 0 -ℤ copy a))) × Fits w64 (nat_abs (copy (pos 0 -ℤ copy a)))
-  neg-cast t = let u : lt_z a (pos 0) ≡ true = rw (copied a h) at t in rw neg-copy
-      (cast_ok (neg_ℤ a) (neg-positive a (test-lt {a = a} {b = pos 0} u)) neg-size)
-
-  pub pos-cast : lt_z (copy a) (pos 0) ≡ false → T (non_neg (copy a)) × Fits w64 (nat_abs (copy a))
-  pos-cast t = let u : lt_z a (pos 0) ≡ false = rw (copied a h) at t in rw (copied a h)
-      (cast_ok a (test-lt-no {a = a} {b = pos 0} u) (size_fits h (omega arith)))
-
-  pub neg-abs : nat_abs (copy (pos 0 -ℤ copy a)) ≡ nat_abs a
-  neg-abs = ap nat_abs neg-copy ∙ abs_neg a
 
 -- ---- divisibility
 
@@ -92,9 +56,6 @@ module _ (w : List ℤ) (at n : ℕ) (p : WordsIn w at n) (g : ℕ) where
 
     word-is : copy c ≡ get_or w (at + (i - 1)) (pos 0)
     word-is = let s = word_small in ap copy d ∙ copied (get_or w (at + (i - 1)) (pos 0)) (omega arith)
-
-    pub magnitude-in : size (copy c) ≤ 34359738368
-    magnitude-in = let s = word_small in rw word-is (omega arith)
 
     pub gcd-more : (r m : ℕ) → r ≡ gcd_onto (take (n - i) (drop (at + i) w)) g → m ≡ nat_abs (copy c)
         → gcd m r ≡ gcd_onto (take (n - (i - 1)) (drop (at + (i - 1)) w)) g

@@ -4,11 +4,13 @@ use Rattle.integers.specs.Gcd.{gcd}
 use Rattle.integers.specs.Affine.{Within}
 use Rattle.model.specs.Ticket.{Subscript}
 use Rattle.model.specs.Quick as Model
-use Rattle.model.specs.Quick.{least_sum, greatest_sum, difference}
+use Rattle.model.specs.Quick.{difference}
 use Rattle.model.specs.Grammar.{most_loops}
 use Rattle.nest_flat.specs.Layout.{form_at}
+use Rattle.nest_index_range.specs.declared.Side.{Side}
 use Rattle.nest_loop_ranges.specs.declared.Range.{Range}
 use Rattle.nest_loop_ranges.specs.Ranges.{RangesIn}
+use Rattle.nest_loop_ranges.specs.Extremes.{extreme_sum}
 
 -- the greatest common divisor of g and the absolute values of a list
 unfoldable pub gcd_onto : List ℤ → ℕ → ℕ
@@ -20,11 +22,8 @@ unfoldable pub difference_at : List ℤ → ℕ → ℕ → ℕ → Subscript
 difference_at w n u v = difference (form_at w n u) (form_at w n v)
 
 -- the least and the greatest that it can be, over two free iterations
-unfoldable pub least_difference : List ℤ → ℕ → ℕ → ℕ → List Model.Range → ℤ
-least_difference w u v n rs = (difference_at w n u v).constant +ℤ least_sum (difference_at w n u v).coefficients (rs ++ rs)
-
-unfoldable pub greatest_difference : List ℤ → ℕ → ℕ → ℕ → List Model.Range → ℤ
-greatest_difference w u v n rs = (difference_at w n u v).constant +ℤ greatest_sum (difference_at w n u v).coefficients (rs ++ rs)
+unfoldable pub extreme_difference : Side → List ℤ → ℕ → ℕ → ℕ → List Model.Range → ℤ
+extreme_difference d w u v n rs = (difference_at w n u v).constant +ℤ extreme_sum d (difference_at w n u v).coefficients (rs ++ rs)
 
 -- n words from place at on
 pub record WordsIn (w : List ℤ) (at n : ℕ) : Type 0 where

@@ -2,22 +2,22 @@
 // difference. A nest and its accesses are lent as flat slices (crate flat nest).
 #![tactic(auto)]
 
-ghost use Rattle.std.specs.Prelude.{◌≡◌, ◌||◌, ◌++◌, ◌+◌, ◌*◌, ◌≤◌, pos, nat_abs, ◌+ℤ◌, ◌-ℤ◌, take, drop};
+ghost use Rattle.std.specs.Prelude.{◌≡◌, ◌||◌, ◌++◌, ◌+◌, ◌*◌, ◌≤◌, pos, ◌+ℤ◌, ◌-ℤ◌, take, drop};
 ghost use Rattle.std.specs.Int.Signed.{lt_z};
 ghost use Rattle.integers.specs.Difference.{size};
 ghost use Rattle.integers.specs.Gcd.{gcd_of};
 ghost use Rattle.lists.specs.Tests.{any};
 ghost use Rattle.nest_flat.specs.Layout.{forms_from};
-ghost use Rattle.nest_flat.specs.FlatNests.{flat_nest, nest_of, access_of};
+ghost use Rattle.nest_flat.specs.FlatNests.{flat, nest_of, access_of};
 ghost use Rattle.nest_loop_ranges.specs.Ranges.{range_as, ranges_of, is_empty, NearRange, RangesIn};
-ghost use Rattle.nest_quick_test.specs.Differences.{gcd_onto, difference_at, WordsIn, PairIn, DifferenceIn, least_difference, greatest_difference};
+ghost use Rattle.nest_quick_test.specs.Differences.{gcd_onto, difference_at, WordsIn, PairIn, DifferenceIn, extreme_difference};
 ghost use Rattle.nest_quick_test.specs.Differences.{FormsIn};
 ghost use Rattle.nest_quick_test.specs.Nests.{NestTestIn};
 ghost use Rattle.model.specs.Quick.{never_zero, some_apart, is_apart};
 
 use model::{ACCESS_ROOM, ARRAY_ROOM, LOOPS};
-use nest_flat::Header;
-use nest_index_range::Whole;
+use nest_flat::FlatNest;
+use nest_index_range::{Side, Whole};
 use nest_loop_ranges::Range;
 
 // Whether the least exceeds the greatest.
@@ -33,22 +33,12 @@ fn some_empty(ranges: [Range; LOOPS], n: usize) -> bool
     requires { RangesIn n ranges }
     ensures { result ≡ any is_empty (ranges_of n ranges) }
 {
-    let mut i = 0;
-    while i < n {
+    for i in 0..n {
         if range_is_empty(ranges[i]) {
             return true;
         }
-        i += 1;
     }
     false
-}
-
-// The absolute value.
-fn magnitude(a: i64) -> u64
-    requires { size a ≤ 34359738368 }
-    ensures { result ≡ nat_abs a }
-{
-    if a < 0 { (0 - a) as u64 } else { a as u64 }
 }
 
 // The greatest common divisor of n words from place at on and g, the last word first.
@@ -57,10 +47,8 @@ fn gcd_of_words(words: &[i16], at: usize, n: usize, g: u64) -> u64
     ensures { result ≡ gcd_onto (take n (drop at words.now)) g }
 {
     let mut r = g;
-    let mut i = n;
-    while 0 < i {
-        i -= 1;
-        r = integers::gcd(magnitude(integers::word(words, at + i)), r);
+    for i in (0..n).rev() {
+        r = integers::gcd(integers::word(words, at + i).unsigned_abs(), r);
     }
     r
 }
@@ -70,11 +58,8 @@ fn divides(g: u64, c: i64) -> bool
     requires { size c ≤ 34359738368 }
     ensures { result ≡ Rattle.model.specs.Quick.divides g c }
 {
-    let m = magnitude(c);
-    if g == 0 {
-        return m == 0;
-    }
-    m % g == 0
+    let m = c.unsigned_abs();
+    if g == 0 { m == 0 } else { m % g == 0 }
 }
 
 // The greatest common divisor of all coefficients of subscripts u and v.
@@ -96,6 +81,7 @@ fn constant_difference(words: &[i16], u: usize, v: usize, n: usize) -> Whole
     Whole { value: one - other }
 }
 
+// The constant and the difference of the two sums.
 fn plus_difference(c: Whole, e: Whole, f: Whole) -> Whole
     requires { (size c.value ≤ 65534) × (size e.value ≤ 6442057734) × (size f.value ≤ 6442057734) }
     ensures { (result.value ≡ c.value +ℤ (e.value -ℤ f.value)) × (size result.value ≤ 34359738368) }
@@ -105,25 +91,21 @@ fn plus_difference(c: Whole, e: Whole, f: Whole) -> Whole
     }
 }
 
-// The least that subscript u less subscript v can be, over two free iterations.
-fn least_difference(words: &[i16], u: usize, v: usize, n: usize, ranges: [Range; LOOPS]) -> Whole
+// The least that subscript u less subscript v can be, over two free iterations, as lower limits ask; or the greatest, as upper ones do.
+fn extreme_difference(
+    side: Side,
+    words: &[i16],
+    u: usize,
+    v: usize,
+    n: usize,
+    ranges: [Range; LOOPS],
+) -> Whole
     requires { DifferenceIn words.now u v n ranges }
-    ensures { (result.value ≡ least_difference words.now u v n (ranges_of n ranges)) × (size result.value ≤ 34359738368) }
+    ensures { (result.value ≡ extreme_difference side words.now u v n (ranges_of n ranges)) × (size result.value ≤ 34359738368) }
 {
     let c = constant_difference(words, u, v, n);
-    let e = nest_loop_ranges::least_sum(words, u * 8 + 1, n, ranges);
-    let f = nest_loop_ranges::greatest_sum(words, v * 8 + 1, n, ranges);
-    plus_difference(c, e, f)
-}
-
-// The greatest that it can be.
-fn greatest_difference(words: &[i16], u: usize, v: usize, n: usize, ranges: [Range; LOOPS]) -> Whole
-    requires { DifferenceIn words.now u v n ranges }
-    ensures { (result.value ≡ greatest_difference words.now u v n (ranges_of n ranges)) × (size result.value ≤ 34359738368) }
-{
-    let c = constant_difference(words, u, v, n);
-    let e = nest_loop_ranges::greatest_sum(words, u * 8 + 1, n, ranges);
-    let f = nest_loop_ranges::least_sum(words, v * 8 + 1, n, ranges);
+    let e = nest_loop_ranges::extreme_sum(side, words, u * 8 + 1, n, ranges);
+    let f = nest_loop_ranges::extreme_sum(side.other(), words, v * 8 + 1, n, ranges);
     plus_difference(c, e, f)
 }
 
@@ -132,10 +114,7 @@ fn excludes_zero(least: Whole, greatest: Whole) -> bool
     requires { (size least.value ≤ 34359738368) × (size greatest.value ≤ 34359738368) }
     ensures { result ≡ (lt_z (pos 0) least.value || lt_z greatest.value (pos 0)) }
 {
-    if 0 < least.value {
-        return true;
-    }
-    greatest.value < 0
+    0 < least.value || greatest.value < 0
 }
 
 // Whether subscript u less subscript v is never 0, over two free iterations.
@@ -148,8 +127,8 @@ fn never_zero(words: &[i16], u: usize, v: usize, n: usize, ranges: [Range; LOOPS
     if !divides(g, c.value) {
         return true;
     }
-    let least = least_difference(words, u, v, n, ranges);
-    let greatest = greatest_difference(words, u, v, n, ranges);
+    let least = extreme_difference(Side::Lower, words, u, v, n, ranges);
+    let greatest = extreme_difference(Side::Upper, words, u, v, n, ranges);
     excludes_zero(least, greatest)
 }
 
@@ -158,36 +137,34 @@ fn some_apart(words: &[i16], u: usize, v: usize, d: usize, n: usize, ranges: [Ra
     requires { FormsIn words.now u v d n ranges }
     ensures { result ≡ some_apart (ranges_of n ranges) (forms_from words.now n u d) (forms_from words.now n v d) }
 {
-    let mut i = 0;
-    while i < d {
+    for i in 0..d {
         if never_zero(words, u + i, v + i, n, ranges) {
             return true;
         }
-        i += 1;
     }
     false
 }
 
 // Whether two accesses, counted from 0, never meet by the quick test: 'apart', or else 'perhaps'.
-pub fn is_apart(header: Header, limits: &[i16], words: &[i16], first: usize, second: usize) -> bool
-    requires { NestTestIn (flat_nest header limits.now words.now) first second }
-    ensures { result ≡ is_apart (nest_of (flat_nest header limits.now words.now)).loops
-        (access_of (nest_of (flat_nest header limits.now words.now)) first)
-        (access_of (nest_of (flat_nest header limits.now words.now)) second) }
+pub fn is_apart(nest: &FlatNest, first: usize, second: usize) -> bool
+    requires { NestTestIn (flat nest.now) first second }
+    ensures { result ≡ is_apart (nest_of (flat nest.now)).loops
+        (access_of (nest_of (flat nest.now)) first)
+        (access_of (nest_of (flat nest.now)) second) }
 {
-    let accessed = header.accessed;
+    let accessed = &nest.header.accessed;
     let array = accessed[first];
     if array != accessed[second] {
         return true;
     }
-    let counts = header.counts;
-    let depth = header.depth;
-    let r = nest_loop_ranges::ranges(limits, &counts, depth);
+    let counts = &nest.header.counts;
+    let depth = nest.header.depth;
+    let r = nest_loop_ranges::ranges(nest.limits, counts, depth);
     if some_empty(r, depth) {
         return true;
     }
-    let extents = header.extents;
+    let extents = &nest.header.extents;
     let d = extents[array * ARRAY_ROOM];
-    let used = header.accesses * ACCESS_ROOM;
-    some_apart(&words[..used], first * 3, second * 3, d, depth, r)
+    let used = nest.header.accesses * ACCESS_ROOM;
+    some_apart(&nest.words[..used], first * 3, second * 3, d, depth, r)
 }

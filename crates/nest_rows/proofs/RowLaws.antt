@@ -2,12 +2,16 @@
 use mathlib.Core.Path.{◌≡◌, refl, sym, ap, ap₂, ◌∙◌}
 use mathlib.Core.Bool.{Bool, true, false}
 use mathlib.Core.List.{List, [], ◌∷◌, ◌++◌}
-use Prim.Native.Nat.{ℕ, suc, ◌+◌, ◌≤◌, ◌<◌}
+use Prim.Native.Nat.{ℕ, suc, ◌+◌, ◌-◌, ◌≤◌, ◌<◌}
 use native.Mathlib.Omega.{arith}
 use native.Mathlib.Numerals.{add-one}
 use lib.IntN.{ℤ, pos}
 use lib.ListN.{length, get_or, take, drop, set, length-drop}
-use lib.Seq.{take-suc, take-suc-set, take-take, length-take-le, drop-cons, get_or-drop}
+use lib.Seq.{take-suc, take-suc-set, take-take, length-take-le, drop-cons, get_or-drop, take-set-lt, get_or-take, paste}
+use Rattle.std.proofs.lemmas.List.{drop-take}
+use Rattle.std.proofs.lemmas.List.Edits.{take-paste}
+use Rattle.lists.specs.Place.{under, swapped}
+use Rattle.lists.proofs.PlaceLaws.{under-swapped}
 use mir.Syntax.{w16, w32}
 use mir.Val.{SFits, to_z, of_z}
 use mir.Facts.{to_z-of_z}
@@ -71,6 +75,32 @@ row-part w at n r h g e = let d = length-drop at w in record {
   room = ap length e
       ∙ length-take-le 6 (drop at w) (omega arith);
 }
+
+-- ---- places of a row, as std's methods leave them
+
+module _ {A : Type 0} (n a : ℕ) where
+  exchanged-at : (d : A) (l : List A) → n ≤ length l → a + 1 < n
+      → take n (set (set l a (get_or l (a + 1) d)) (a + 1) (get_or l a d)) ≡ under a swapped (take n l)
+  exchanged-at d l g h =
+      let k : length (take n l) ≡ n = length-take-le n l g in
+      take-set-lt n (set l a (get_or l (a + 1) d)) (a + 1) (get_or l a d) h
+      ∙ ap (λ w. set w (a + 1) (get_or l a d)) (take-set-lt n l a (get_or l (a + 1) d) (omega arith))
+      ∙ rw (← (get_or-take n l a d (omega arith)), ← (get_or-take n l (a + 1) d h), add-one) (sym (under-swapped a (take n l) d (omega arith)))
+
+  pub exchanged : (l m : List A) → n ≤ length l → a + 1 < n → ((d : A) → m ≡ set (set l a (get_or l (a + 1) d)) (a + 1) (get_or l a d))
+      → take n m ≡ under a swapped (take n l)
+  exchanged [] m g h e = absurd (omega arith)
+  exchanged (x ∷ l) m g h e = ap (take n) (e x) ∙ exchanged-at x (x ∷ l) g h
+
+  pub doubled : (l m : List A) → n < length l → a < n → m ≡ paste l (a + 1) (drop a l) (n - a)
+      → take (n + 1) m ≡ take (a + 1) l ++ drop a (take n l)
+  doubled l m g h e =
+      let d = length-drop a l in
+      let at : a + 1 + (n - a) ≡ n + 1 = omega arith in
+      let back : a + (n - a) ≡ n = omega arith in
+      ap (take (n + 1)) e ∙ ap (λ i. take i (paste l (a + 1) (drop a l) (n - a))) (sym at)
+      ∙ take-paste l (a + 1) (drop a l) (n - a) (omega arith) (omega arith)
+      ∙ ap (take (a + 1) l ++◌) (sym (drop-take a (n - a) l) ∙ ap (λ i. drop a (take i l)) back)
 
 -- ---- a row that is written
 

@@ -1,6 +1,6 @@
 -- Numbers within ±32767: what the model's test says of numbers, and the test as loops of the code make it.
-use mathlib.Core.Path.{◌≡◌, refl, ◌∙◌, subst}
-use mathlib.Core.Bool.{Bool, true, false}
+use mathlib.Core.Path.{◌≡◌, refl, ap, ◌∙◌, subst}
+use mathlib.Core.Bool.{Bool, true, false, ◌&&◌}
 use mathlib.Core.List.{List, [], ◌∷◌}
 use Prim.Native.Nat.{ℕ, ◌<◌, ◌≤◌, ◌+◌}
 use native.Mathlib.Omega.{arith}
@@ -18,6 +18,7 @@ use Rattle.lists.specs.Tests.{all}
 use Rattle.lists.proofs.MembershipLaws.{get_d-mem}
 use Rattle.lists.proofs.TestLaws.{T_true, not-T-false, false-not-T, and_both, all-holds, all-take-suc}
 use Rattle.model.specs.Judge.{small}
+use Rattle.std.specs.List.{list_all}
 
 -- ---- what the test says
 
@@ -47,6 +48,12 @@ unfolding small
 between-passes x h g = T_true (leb (nat_abs x) 32767) (le→leb (nat_abs x) 32767 (let s = size_of x 32767 h g in let q = size-nat_abs x in omega arith))
 
 -- ---- a list, element by element
+
+-- as std's `all` over an iterator says it
+pub list_all-all : {A : Type 0} (t : A → Bool) (l : List A) → list_all t l ≡ all t l
+unfolding all
+list_all-all t [] = refl
+list_all-all t (x ∷ l) = ap (t x &&◌) (list_all-all t l)
 
 module _ {A : Type 0} (t : A → Bool) (l : List A) where
   pub all_none : all t (take 0 l) ≡ true

@@ -3,7 +3,7 @@ use Rattle.std.specs.Prelude.{◌≡◌, Bool, true, false, List, ℕ, ℤ, leng
 use Rattle.lists.specs.Parts.{put}
 use Rattle.model.specs.Grammar.{most_loops}
 
-pub record RowIs (n : ℕ) (r : List ℤ) (row : List ℤ) : Type 0 where
+pub record RowIs {A : Type 0} (n : ℕ) (r : List A) (row : List A) : Type 0 where
   pub is : take n r ≡ row
   pub room : length r ≡ most_loops
 

@@ -1,59 +1,44 @@
 // Numbers of flat slices as wide rows, to reckon with, and back with the test of refusal 12: every number is within ±32767.
 #![tactic(auto)]
 
-ghost use Rattle.std.specs.Prelude.{◌≡◌, ◌+◌, ◌<◌, ◌≤◌, pos, length, get_or, take, drop};
+ghost use Rattle.std.specs.Prelude.{◌≡◌, ◌++◌, ◌+◌, ◌<◌, ◌≤◌, pos, length, get_or, take, drop, is_ok};
 ghost use Rattle.lists.specs.Parts.{put};
+ghost use Rattle.lists.specs.Place.{under, swapped};
 ghost use Rattle.lists.specs.Tests.{all};
 ghost use Rattle.integers.specs.Affine.{Within};
 ghost use Rattle.integers.specs.Difference.{size};
 ghost use Rattle.model.specs.Grammar.{most_loops};
 ghost use Rattle.model.specs.Judge.{small};
-ghost use Rattle.nest_rows.specs.Rows.{Tried};
+ghost use Rattle.nest_rows.specs.Rows.{RowIs, Tried};
 
 use model::LOOPS;
 
 // ---- the test
 
+// A number is beyond ±32767.
+#[derive(Clone, Copy)]
+pub struct NumberOutOfRange;
+
 pub fn small_number(x: i32) -> bool
     ensures { result ≡ small x }
 {
-    if 32767 < x {
-        return false;
-    }
-    if x < -32767 {
-        return false;
-    }
-    true
+    x.unsigned_abs() <= 32767
 }
 
 pub fn small_row(cs: [i32; LOOPS], n: usize) -> bool
     requires { n ≤ most_loops }
     ensures { result ≡ all small (take n cs) }
 {
-    let mut k = 0;
-    while k < n {
-        let x = cs[k];
-        if !small_number(x) {
-            return false;
-        }
-        k += 1;
-    }
-    true
+    cs[..n].iter().all(|&x| small_number(x))
 }
 
 // ---- read
-
-fn extend_word(x: i16) -> i32
-    ensures { result ≡ x }
-{
-    x as i32
-}
 
 pub fn word_at(words: &[i16], at: usize) -> i32
     requires { at < length words.now }
     ensures { result ≡ get_or words.now at (pos 0) }
 {
-    extend_word(words[at])
+    i32::from(words[at])
 }
 
 // Six words, whether or not all of them count: with no loop.
@@ -71,6 +56,28 @@ pub fn row_at(words: &[i16], at: usize) -> [i32; LOOPS]
     ]
 }
 
+// ---- the places of a row, of which the first n count
+
+// Places a and a + 1 trade what they hold.
+pub fn exchange_places<T: Copy>(row: [T; LOOPS], n: usize, a: usize) -> [T; LOOPS]
+    requires { (a + 1 < n) × (n ≤ most_loops) }
+    ensures { RowIs n result (under a swapped (take n row)) }
+{
+    let mut r = row;
+    r.swap(a, a + 1);
+    r
+}
+
+// What stands from place a on moves by one, and place a keeps what it held.
+pub fn double_place<T: Copy>(row: [T; LOOPS], n: usize, a: usize) -> [T; LOOPS]
+    requires { (a < n) × (n < most_loops) }
+    ensures { RowIs (n + 1) result (take (a + 1) row ++ drop a (take n row)) }
+{
+    let mut r = row;
+    r.copy_within(a..n, a + 1);
+    r
+}
+
 // ---- put back
 
 pub fn narrow(x: i32) -> i16
@@ -84,21 +91,24 @@ pub fn lay_row(words: &mut [i16], at: usize, row: &[i32])
     requires { (at + length row.now ≤ length words.old) × Within 32767 row.now }
     ensures { words.new ≡ put words.old at row.now }
 {
-    let mut j = 0;
-    while j < row.len() {
-        words[at + j] = narrow(row[j]);
-        j += 1;
+    for (j, &x) in row.iter().enumerate() {
+        words[at + j] = narrow(x);
     }
 }
 
 // The words stay as they are if a number is too large for them.
-pub fn put_row(words: &mut [i16], at: usize, n: usize, row: [i32; LOOPS]) -> bool
+pub fn put_row(
+    words: &mut [i16],
+    at: usize,
+    n: usize,
+    row: [i32; LOOPS],
+) -> Result<(), NumberOutOfRange>
     requires { (at + n ≤ length words.old) × (n ≤ most_loops) }
-    ensures { Tried (all small (take n row)) words.old at (take n row) result words.new }
+    ensures { Tried (all small (take n row)) words.old at (take n row) (is_ok result) words.new }
 {
     if !small_row(row, n) {
-        return false;
+        return Err(NumberOutOfRange);
     }
     lay_row(words, at, &row[..n]);
-    true
+    Ok(())
 }

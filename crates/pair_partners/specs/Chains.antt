@@ -18,6 +18,13 @@ pub record First (p : ℕ → Bool) (x n r : ℕ) : Type 0 where
   pub passed : (y : ℕ) → x ≤ y → y < r → p y ≡ false
   pub there : r < n → p r ≡ true
 
+-- a number of an element for each access at each point, and whether each access writes
+pub record TableIn (ids : List ℕ) (ws : List Bool) (n m : ℕ) : Type 0 where
+  pub few-points : n ≤ most_points
+  pub few-accesses : m ≤ most_accesses
+  pub numbers : m * n ≤ length ids
+  pub writes : m ≤ length ws
+
 -- numbers of elements for which there is a head each
 pub record Numbered (ids : List ℕ) (n m elements : ℕ) : Type 0 where
   pub few-points : n ≤ most_points

@@ -8,3 +8,4 @@ pub mod PassLaws
 pub mod BlockLaws
 pub mod WalkLaws
 pub mod WitnessLaws
+pub mod NestLaws

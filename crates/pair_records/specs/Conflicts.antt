@@ -1,6 +1,7 @@
 -- The conflicts of two points, and their records. Of a source statement s, a sink statement t and a kind k of n statements, the block is
 -- (s * n + t) * kind_count + k.
 use Rattle.std.specs.Prelude.{◌≡◌, Bool, false, ◌&&◌, List, [], ◌∷◌, ◌++◌, map, ℕ, suc, ◌+◌, ◌*◌, ◌/◌, ◌%◌, ◌≤◌, eqb, ltb, ℤ, pos, length, get_or}
+use Rattle.std.specs.Coded.{×_prop, Unit-prop, le_prop}
 use Rattle.lists.specs.Membership.{All}
 use Rattle.lists.specs.Tests.{select}
 use Rattle.lists.specs.Parts.{rows}
@@ -62,6 +63,11 @@ pub record AccessesIn (n : ℕ) (ids sizes : List ℕ) (m : ℕ) : Type 0 where
   pub statements : length sizes ≡ m
   pub each : All (λ k. 1 ≤ k) sizes
   pub table : sum sizes * n ≤ length ids
+
+-- that a point is near has at most one proof
+pub within-prop : (m : ℕ) (p : List ℤ) → IsProp (Within m p)
+within-prop m [] = Unit-prop
+within-prop m (x ∷ p) = ×_prop le_prop (within-prop m p)
 
 -- points of at most four indices, each of which a record can hold
 pub record PointsIn (s : List ℤ) (d n : ℕ) : Type 0 where

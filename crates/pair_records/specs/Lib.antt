@@ -3,3 +3,4 @@ pub mod Conflicts
 pub mod Statements
 pub mod Windows
 pub mod Walks
+pub mod Nests

@@ -6,31 +6,22 @@ ghost use mathlib.Core.List.{◌∷◌, [], flat_map};
 ghost use Rattle.lists.specs.Membership.{All};
 ghost use Rattle.lists.specs.Parts.{put};
 ghost use Rattle.integers.specs.Difference.{size};
-ghost use Rattle.model.specs.Grammar.{most_statements, ticket_loops};
+ghost use Rattle.model.specs.Grammar.{ticket_loops};
 ghost use Rattle.model.specs.Directions.{kinds, kind_count, flow};
 ghost use Rattle.model.specs.Listing.{letter};
 ghost use Rattle.model.specs.Pairs.{indices_in};
 ghost use Rattle.dependence_vectors.specs.Candidates.{row};
-ghost use Rattle.pair_records.specs.Conflicts.{
-  block_count,
-  record_room,
-  record_words,
-  records_between,
-  PointsIn,
-  sized,
-  Ready,
-};
-ghost use Rattle.pair_records.specs.Statements.{
-  named_in,
-  StatementAt,
-  SpanIn,
-  statement_records,
-  block_records,
-};
+ghost use Rattle.pair_records.specs.Conflicts.{block_count, record_room, records_between};
+ghost use Rattle.pair_records.specs.Statements.{named_in, StatementAt, SpanIn, block_records};
 ghost use Rattle.pair_records.specs.Windows.{batch_room, Passes};
-ghost use Rattle.pair_records.specs.Walks.{records_from, Walkable, Walks};
+ghost use Rattle.pair_records.specs.Walks.{records_from, Walks};
+ghost use Rattle.pair_records.specs.Nests.{flat_of, ConflictIn, words_of, InstanceIn, records_at};
+
+mod nests;
 
 use model::{KINDS, TICKET_LOOPS};
+pub use nests::LinkedNest;
+use pair_partners::{LinkedAccesses, Rows};
 
 // The records that a window keeps.
 pub const BATCH: usize = 32;
@@ -53,6 +44,23 @@ pub struct Walked {
     pub window: Window,
     pub source: usize,
     pub before: usize,
+}
+
+// A source point and a sink point, and the block of two statements and a kind.
+#[derive(Clone, Copy)]
+pub struct Conflict {
+    pub source: usize,
+    pub sink: usize,
+    pub block: usize,
+}
+
+// A statement at a point. Its accesses are those from `first` up to `end`, and the first of them is written.
+#[derive(Clone, Copy)]
+pub struct Instance {
+    pub point: usize,
+    pub statement: usize,
+    pub first: usize,
+    pub end: usize,
 }
 
 // ---- a record's words
@@ -80,64 +88,41 @@ fn letter_word(kind: usize) -> i16
 }
 
 // Writes the indices of point x, with 0 for loops that are not there.
-fn write_indices(points: &[i64], depth: usize, count: usize, x: usize, found: &mut [i16], at: usize)
-    requires { PointsIn points.now depth count × (x < count) × (at + ticket_loops ≤ batch_room) × (length found.old ≡ batch_room) }
-    ensures { found.new ≡ put found.old at (indices_in (row depth points.now x)) }
+fn write_indices(nest: &LinkedNest, x: usize, found: &mut [i16], at: usize)
+    requires { (x < nest.now.count) × (at + ticket_loops ≤ batch_room) × (length found.old ≡ batch_room) }
+    ensures { found.new ≡ put found.old at (indices_in (row nest.now.depth nest.now.points.now x)) }
 {
-    let first = x * depth;
-    let mut l = 0;
-    while l < TICKET_LOOPS {
-        if l < depth {
-            found[at + l] = to_word(points[first + l]);
+    let first = x * nest.depth;
+    for l in 0..TICKET_LOOPS {
+        if l < nest.depth {
+            found[at + l] = to_word(nest.points[first + l]);
         } else {
             found[at + l] = 0;
         }
-        l += 1;
     }
 }
 
-// Writes the record of block j of the points x and y.
-fn write_record(
-    points: &[i64],
-    depth: usize,
-    count: usize,
-    body: usize,
-    x: usize,
-    y: usize,
-    j: usize,
-    found: &mut [i16],
-    at: usize,
-)
-    requires { PointsIn points.now depth count × (x < count) × (y < count) × (j < block_count body) × (body ≤ most_statements)
-        × (at + record_room ≤ batch_room) × (length found.old ≡ batch_room) }
-    ensures { found.new ≡ put found.old at (record_words points.now depth body x y j) }
+// Writes the record of a conflict.
+fn write_record(nest: &LinkedNest, conflict: Conflict, found: &mut [i16], at: usize)
+    requires { ConflictIn nest.now conflict × (at + record_room ≤ batch_room) × (length found.old ≡ batch_room) }
+    ensures { found.new ≡ put found.old at (words_of nest.now conflict) }
 {
-    let block = j / KINDS;
-    write_indices(points, depth, count, x, found, at);
-    write_indices(points, depth, count, y, found, at + TICKET_LOOPS);
+    let body = nest.sizes.len();
+    let block = conflict.block / KINDS;
+    write_indices(nest, conflict.source, found, at);
+    write_indices(nest, conflict.sink, found, at + TICKET_LOOPS);
     let last = at + 2 * TICKET_LOOPS;
     found[last] = number_word(block / body + 1);
     found[last + 1] = number_word(block % body + 1);
-    found[last + 2] = letter_word(j % KINDS);
+    found[last + 2] = letter_word(conflict.block % KINDS);
 }
 
 // ---- the window
 
-// One record more has come by: block j of the points x and y.
-fn pass_record(
-    points: &[i64],
-    depth: usize,
-    count: usize,
-    body: usize,
-    x: usize,
-    y: usize,
-    j: usize,
-    window: Window,
-    found: &mut [i16],
-) -> Window
-    requires { PointsIn points.now depth count × (x < count) × (y < count) × (j < block_count body) × (body ≤ most_statements)
-        × (length found.old ≡ batch_room) }
-    ensures { Passes window found.old result found.new (record_words points.now depth body x y j ∷ []) }
+// The record of a conflict has come by.
+fn pass_record(nest: &LinkedNest, conflict: Conflict, window: Window, found: &mut [i16]) -> Window
+    requires { ConflictIn nest.now conflict × (length found.old ≡ batch_room) }
+    ensures { Passes window found.old result found.new (words_of nest.now conflict ∷ []) }
 {
     if 0 < window.skip {
         return Window {
@@ -149,43 +134,26 @@ fn pass_record(
     if BATCH <= got {
         return window;
     }
-    write_record(
-        points,
-        depth,
-        count,
-        body,
-        x,
-        y,
-        j,
-        found,
-        got * RECORD_ROOM,
-    );
+    write_record(nest, conflict, found, got * RECORD_ROOM);
     Window {
         skip: 0,
         got: got + 1,
     }
 }
 
-// The record of block j of the points x and y has come by, if they conflict there.
+// The record of a conflict has come by, if it is one.
 fn pass_if(
-    points: &[i64],
-    depth: usize,
-    count: usize,
-    body: usize,
-    x: usize,
-    y: usize,
-    j: usize,
-    conflict: bool,
+    nest: &LinkedNest,
+    conflict: Conflict,
+    there: bool,
     window: Window,
     found: &mut [i16],
 ) -> Window
-    requires { PointsIn points.now depth count × (x < count) × (y < count) × (j < block_count body) × (body ≤ most_statements)
-        × (length found.old ≡ batch_room) }
-    ensures { Passes window found.old result found.new
-        (cond conflict (record_words points.now depth body x y j ∷ []) []) }
+    requires { ConflictIn nest.now conflict × (length found.old ≡ batch_room) }
+    ensures { Passes window found.old result found.new (cond there (words_of nest.now conflict ∷ []) []) }
 {
-    if conflict {
-        return pass_record(points, depth, count, body, x, y, j, window, found);
+    if there {
+        return pass_record(nest, conflict, window, found);
     }
     window
 }
@@ -193,119 +161,107 @@ fn pass_if(
 // ---- the conflicts of two points
 
 // Whether an access from `from` up to `end` names element e at point x.
-fn names(numbers: &[u16], count: usize, from: usize, end: usize, x: usize, e: u16) -> bool
-    requires { SpanIn count numbers.now from end × (x < count) }
-    ensures { result ≡ named_in count numbers.now from end x e }
+fn names(nest: &LinkedNest, from: usize, end: usize, x: usize, e: u16) -> bool
+    requires { SpanIn nest.now.count nest.now.numbers.now from end × (end ≤ nest.now.accesses)
+        × (x < nest.now.count) }
+    ensures { result ≡ named_in nest.now.count nest.now.numbers.now from end x e }
 {
-    let mut k = from;
-    while k < end {
-        if numbers[k * count + x] == e {
+    for k in from..end {
+        if nest.number(k, x) == e {
             return true;
         }
-        k += 1;
     }
     false
 }
 
-// All records of statement s at point x, whose accesses are those from a up to a_end, and statement t at point y, those from b up to b_end.
+// All records of two statements, each at a point.
 fn pass_statements(
-    points: &[i64],
-    depth: usize,
-    count: usize,
-    numbers: &[u16],
-    body: usize,
-    x: usize,
-    y: usize,
-    s: usize,
-    t: usize,
-    a: usize,
-    a_end: usize,
-    b: usize,
-    b_end: usize,
+    nest: &LinkedNest,
+    source: Instance,
+    sink: Instance,
     window: Window,
     found: &mut [i16],
 ) -> Window
-    requires { PointsIn points.now depth count × (x < count) × (y < count) × (body ≤ most_statements) × (s < body) × (t < body)
-        × SpanIn count numbers.now (a + 1) a_end × SpanIn count numbers.now (b + 1) b_end × (length found.old ≡ batch_room) }
-    ensures { Passes window found.old result found.new
-        (statement_records points.now depth count numbers.now body x y s t a a_end b b_end) }
+    requires { InstanceIn nest.now source × InstanceIn nest.now sink × (length found.old ≡ batch_room) }
+    ensures { Passes window found.old result found.new (records_at nest.now source sink) }
 {
-    let source = numbers[a * count + x];
-    let sink = numbers[b * count + y];
-    let flow = names(numbers, count, b + 1, b_end, y, source);
-    let anti = names(numbers, count, a + 1, a_end, x, sink);
-    let output = source == sink;
-    let j = (s * body + t) * KINDS;
-    let w = pass_if(points, depth, count, body, x, y, j, flow, window, found);
-    let v = pass_if(points, depth, count, body, x, y, j + 1, anti, w, found);
-    pass_if(points, depth, count, body, x, y, j + 2, output, v, found)
+    let written = nest.number(source.first, source.point);
+    let also_written = nest.number(sink.first, sink.point);
+    let flow = names(nest, sink.first + 1, sink.end, sink.point, written);
+    let anti = names(
+        nest,
+        source.first + 1,
+        source.end,
+        source.point,
+        also_written,
+    );
+    let output = written == also_written;
+    let block = (source.statement * nest.sizes.len() + sink.statement) * KINDS;
+    let x = source.point;
+    let y = sink.point;
+    let first = Conflict {
+        source: x,
+        sink: y,
+        block,
+    };
+    let second = Conflict {
+        block: block + 1,
+        ..first
+    };
+    let third = Conflict {
+        block: block + 2,
+        ..first
+    };
+    let w = pass_if(nest, first, flow, window, found);
+    let v = pass_if(nest, second, anti, w, found);
+    pass_if(nest, third, output, v, found)
 }
 
-// All records of statement s at point x and every statement at point y.
+// All records of a statement at a point with every statement at point y.
 fn pass_sinks(
-    points: &[i64],
-    depth: usize,
-    count: usize,
-    numbers: &[u16],
-    sizes: &[usize],
-    body: usize,
-    x: usize,
+    nest: &LinkedNest,
+    source: Instance,
     y: usize,
-    s: usize,
-    a: usize,
-    a_end: usize,
     window: Window,
     found: &mut [i16],
 ) -> Window
-    requires { Ready (sized points.now depth count numbers.now sizes.now body) sizes.now × (x < count) × (y < count)
-        × StatementAt sizes.now s a a_end × (length found.old ≡ batch_room) }
-    ensures { Passes window found.old result found.new (block_records
-        (sized points.now depth count numbers.now sizes.now body) x y (s * body * kind_count) (body * kind_count)) }
+    requires { InstanceIn nest.now source × (y < nest.now.count) × (length found.old ≡ batch_room) }
+    ensures { Passes window found.old result found.new (block_records (flat_of nest.now) source.point y
+        (source.statement * length nest.now.sizes.now * kind_count) (length nest.now.sizes.now * kind_count)) }
 {
     let mut w = window;
     let mut b = 0;
-    let mut t = 0;
-    while t < body {
-        let end = b + sizes[t];
-        let next = pass_statements(
-            points, depth, count, numbers, body, x, y, s, t, a, a_end, b, end, w, found,
-        );
-        w = next;
+    for t in 0..nest.sizes.len() {
+        let end = b + nest.sizes[t];
+        let sink = Instance {
+            point: y,
+            statement: t,
+            first: b,
+            end,
+        };
+        w = pass_statements(nest, source, sink, w, found);
         b = end;
-        t += 1;
     }
     w
 }
 
 // All records of the points x and y.
-fn pass_pair(
-    points: &[i64],
-    depth: usize,
-    count: usize,
-    numbers: &[u16],
-    sizes: &[usize],
-    body: usize,
-    x: usize,
-    y: usize,
-    window: Window,
-    found: &mut [i16],
-) -> Window
-    requires { Ready (sized points.now depth count numbers.now sizes.now body) sizes.now × (x < count) × (y < count)
-        × (length found.old ≡ batch_room) }
-    ensures { Passes window found.old result found.new (records_between
-        (sized points.now depth count numbers.now sizes.now body) x y) }
+fn pass_pair(nest: &LinkedNest, x: usize, y: usize, window: Window, found: &mut [i16]) -> Window
+    requires { (x < nest.now.count) × (y < nest.now.count) × (length found.old ≡ batch_room) }
+    ensures { Passes window found.old result found.new (records_between (flat_of nest.now) x y) }
 {
     let mut w = window;
     let mut a = 0;
-    let mut s = 0;
-    while s < body {
-        let end = a + sizes[s];
-        let next = pass_sinks(
-            points, depth, count, numbers, sizes, body, x, y, s, a, end, w, found,
-        );
-        w = next;
+    for s in 0..nest.sizes.len() {
+        let end = a + nest.sizes[s];
+        let source = Instance {
+            point: x,
+            statement: s,
+            first: a,
+            end,
+        };
+        w = pass_sinks(nest, source, y, w, found);
         a = end;
-        s += 1;
     }
     w
 }
@@ -314,157 +270,78 @@ fn pass_pair(
 
 // All records of source point x, whose partners are lent.
 fn pass_partners(
-    points: &[i64],
-    depth: usize,
-    count: usize,
-    numbers: &[u16],
-    sizes: &[usize],
-    body: usize,
+    nest: &LinkedNest,
     x: usize,
     partners: &[u16],
     window: Window,
     found: &mut [i16],
 ) -> Window
-    requires { Ready (sized points.now depth count numbers.now sizes.now body) sizes.now × (x < count)
-        × All (λ y. y < count) partners.now × (length found.old ≡ batch_room) }
-    ensures { Passes window found.old result found.new (flat_map (records_between
-        (sized points.now depth count numbers.now sizes.now body) x)
-        partners.now) }
+    requires { (x < nest.now.count) × All (λ y. y < nest.now.count) partners.now
+        × (length found.old ≡ batch_room) }
+    ensures { Passes window found.old result found.new (flat_map (records_between (flat_of nest.now) x) partners.now) }
 {
     let mut w = window;
-    let mut i = 0;
-    while i < partners.len() {
-        let next = pass_pair(
-            points,
-            depth,
-            count,
-            numbers,
-            sizes,
-            body,
-            x,
-            dependence_pair_search::to_index(partners[i]),
-            w,
-            found,
-        );
-        w = next;
-        i += 1;
+    for i in 0..partners.len() {
+        w = pass_pair(nest, x, usize::from(partners[i]), w, found);
     }
     w
 }
 
 // All records of source point x. Lent is room for its partners.
 fn pass_source(
-    points: &[i64],
-    depth: usize,
-    count: usize,
-    numbers: &[u16],
-    sizes: &[usize],
-    accesses: usize,
-    body: usize,
-    writes: &[bool],
-    named: &[u16],
-    written: &[u16],
-    moved: &[i64],
-    moved_depth: usize,
+    nest: &LinkedNest,
     x: usize,
     window: Window,
     partners: &mut [u16],
     found: &mut [i16],
 ) -> Window
-    requires { Walkable (sized points.now depth count numbers.now sizes.now body) sizes.now accesses moved_depth moved.now
-        writes.now named.now written.now × (x < count) × (count ≤ length partners.old) × (length found.old ≡ batch_room) }
-    ensures { Passes window found.old result found.new (records_from
-        (sized points.now depth count numbers.now sizes.now body)
-        moved_depth moved.now x) }
+    requires { (x < nest.now.count) × (nest.now.count ≤ length partners.old)
+        × (length found.old ≡ batch_room) }
+    ensures { Passes window found.old result found.new (records_from (flat_of nest.now) nest.now.moved_depth nest.now.moved.now x) }
 {
-    let m = pair_partners::find_partners(
-        numbers,
-        writes,
-        named,
-        written,
-        count,
-        accesses,
-        moved,
-        moved_depth,
-        x,
-        partners,
-    );
-    pass_partners(
-        points,
-        depth,
-        count,
-        numbers,
-        sizes,
-        body,
-        x,
-        &partners[..m],
-        window,
-        found,
-    )
+    let tables = LinkedAccesses {
+        numbers: nest.numbers,
+        writes: nest.writes,
+        count: nest.count,
+        accesses: nest.accesses,
+        named: nest.named,
+        written: nest.written,
+    };
+    let moved = Rows {
+        numbers: nest.moved,
+        depth: nest.moved_depth,
+        count: nest.count,
+    };
+    let m = pair_partners::find_partners(&tables, &moved, x, partners);
+    pass_partners(nest, x, &partners[..m], window, found)
 }
 
 // Walks from source point `from` on, past `skip` records, until the window is full.
 pub fn walk(
-    points: &[i64],
-    depth: usize,
-    count: usize,
-    numbers: &[u16],
-    sizes: &[usize],
-    accesses: usize,
-    body: usize,
-    writes: &[bool],
-    named: &[u16],
-    written: &[u16],
-    moved: &[i64],
-    moved_depth: usize,
+    nest: &LinkedNest,
     from: usize,
     skip: usize,
     partners: &mut [u16],
     found: &mut [i16],
 ) -> Walked
-    requires { Walkable (sized points.now depth count numbers.now sizes.now body) sizes.now accesses moved_depth moved.now
-        writes.now named.now written.now × (from ≤ count) × (count ≤ length partners.old) × (length found.old ≡ batch_room) }
-    ensures { Walks (sized points.now depth count numbers.now sizes.now body)
-        moved_depth moved.now from skip result found.new }
+    requires { (from ≤ nest.now.count) × (nest.now.count ≤ length partners.old)
+        × (length found.old ≡ batch_room) }
+    ensures { Walks (flat_of nest.now) nest.now.moved_depth nest.now.moved.now from skip result found.new }
 {
-    let mut w = Window { skip: skip, got: 0 };
+    let mut w = Window { skip, got: 0 };
     let mut source = from;
     let mut before = 0;
-    let mut x = from;
-    while x < count {
+    for x in from..nest.count {
         if BATCH <= w.got {
-            return Walked {
-                window: w,
-                source: source,
-                before: before,
-            };
+            break;
         }
         source = x;
         before = skip - w.skip + w.got;
-        let next = pass_source(
-            points,
-            depth,
-            count,
-            numbers,
-            sizes,
-            accesses,
-            body,
-            writes,
-            named,
-            written,
-            moved,
-            moved_depth,
-            x,
-            w,
-            partners,
-            found,
-        );
-        w = next;
-        x += 1;
+        w = pass_source(nest, x, w, partners, found);
     }
     Walked {
         window: w,
-        source: source,
-        before: before,
+        source,
+        before,
     }
 }

@@ -3,10 +3,10 @@ use mathlib.Core.Path.{◌≡◌, refl, sym, ap, ◌∙◌, subst}
 use mathlib.Core.Bool.{Bool, true, false}
 use mathlib.Core.List.{List}
 use Prim.Native.Nat.{ℕ, zero, suc, ◌*◌, ◌≤◌}
-use native.Mathlib.Nat.{mul-le-mul, mul_comm}
+use native.Mathlib.Nat.{mul-le-mul}
 use native.Mathlib.Omega.{arith}
 use lib.Dec.{leb}
-use lib.IntN.{ℤ, pos}
+use lib.IntN.{ℤ}
 use lib.ListN.{length, get_or, take, replicate, length-replicate}
 use borrow.Author.Tests.{leb-true}
 use Rattle.lists.specs.Membership.{All}
@@ -35,12 +35,13 @@ use Rattle.ticket_admission.proofs.AdmitLaws.{points-counted}
 use Rattle.step_points.specs.Points.{PointsIn}
 use Rattle.step_points.proofs.TicketLaws.{points-move}
 use Rattle.pair_partners.specs.Chains.{Numbered}
+use Rattle.dependence_search.specs.Flat.{Describes}
 use Rattle.pair_records.specs.Conflicts.{sized}
 use Rattle.pair_records.specs.Walks.{Walkable, Walks}
 use Rattle.pair_records.proofs.StatementLaws.{number-below}
 use Rattle.pair_records.specs.declared.Walked.{Walked}
 use Rattle.pair_search.specs.Searches.{SearchIn, Searched}
-use Rattle.pair_search.specs.Rooms.{few_points, few_numbers, Few, Lent, Linked}
+use Rattle.pair_search.specs.Rooms.{few_points, few_numbers, Few, RoomFor, Linked}
 use Rattle.pair_search.proofs.RecordLaws.{Stands, searched}
 
 -- ---- few points, as they are tested
@@ -123,7 +124,7 @@ module _ (P : FlatNest) (S : Steps) (n step from : ℕ) (found : List ℤ) (h : 
   module _ (points : List ℤ) (numbers : List ℕ) (writes : List Bool) (named written : List ℕ) (moved : List ℤ) (depth : ℕ)
       (k : Linked P S n step points numbers writes named written moved depth) where
     abbrev F : Flat
-    F = sized points P.depth n numbers (sizes_in P) P.statements
+    F = sized points P.depth n numbers (sizes_in P) (length (sizes_in P))
 
     as_many : length (sizes_in P) ≡ P.statements
     as_many = sizes-count P flat-nest
@@ -137,8 +138,8 @@ module _ (P : FlatNest) (S : Steps) (n step from : ℕ) (found : List ℤ) (h : 
         accesses = record {
           few-points = few-points;
           few-accesses = let f = flat-nest.few-accesses in omega arith;
-          few-statements = flat-nest.few-statements;
-          statements = as_many;
+          few-statements = let f = flat-nest.few-statements in let e = as_many in omega arith;
+          statements = refl;
           each = flat-nest.each;
           table = omega (arith, ap (◌* n) e);
         };
@@ -157,10 +158,10 @@ module _ (P : FlatNest) (S : Steps) (n step from : ℕ) (found : List ℤ) (h : 
 
     stands : Stands (take step (steps_of S)) (nest_of P) F depth moved
     stands = record {
-      describes = describes-sized P points n (unmarked points k.points-are) (lines points k.points-are) (length numbers)
+      describes = subst (λ b. Describes (nest_of P).statements (sized points P.depth n numbers (sizes_in P) b)) (sym as_many) (describes-sized P points n (unmarked points k.points-are) (lines points k.points-are) (length numbers)
           k.numbers-are.room
-          numbers k.numbers-are;
-      in-body = λ a l. let b = number-below (sizes_in P) a l in let e = as_many in omega arith;
+          numbers k.numbers-are);
+      in-body = λ a l. number-below (sizes_in P) a l;
       points = k.points-are.are;
       moved = k.moved-are.are;
     }
@@ -171,32 +172,31 @@ module _ (P : FlatNest) (S : Steps) (n step from : ℕ) (found : List ℤ) (h : 
 
   -- ---- rooms
 
-  -- room for the points that there are
-  lent : (a b c d e : ℕ) → n * ticket_loops ≤ a → n * most_loops ≤ b → P.accesses * n ≤ c → total (nest_of P).arrays ≤ d → d ≤ most_elements → n ≤ e
-      → Lent P n (replicate a (pos 0)) (replicate b (pos 0)) (replicate c 0) (replicate c 0) (replicate c 0) (replicate d 0) (replicate e 0)
-  lent a b c d e ha hb hc hd hm he = let m = mul_comm n P.accesses in let z = length-replicate {A = ℕ} c 0 in
-      let y = length-replicate {A = ℕ} d 0 in record {
-        points-room = let w = length-replicate {A = ℤ} a (pos 0) in
-            let l = mul-le-mul {n₁ = n} {m₁ = P.depth} {n₂ = n} {m₂ = ticket_loops} (omega arith) h.laid.ticket.shallow in omega arith;
-        moved-room = let w = length-replicate {A = ℤ} b (pos 0) in omega arith;
-        numbers-room = omega arith;
-        named-room = omega arith;
-        written-room = omega arith;
-        heads-room = omega arith;
-        few-heads = omega arith;
-        partners-room = let w = length-replicate {A = ℕ} e 0 in omega arith;
-      }
+  pub room-few : Few P n → RoomFor P n few_points (ticket_loops * few_points) (most_loops * few_points) few_numbers few_numbers
+  room-few f = let a = f.points in record {
+    points-fit = f.points;
+    indices-fit = mul-le-mul {n₁ = n} {m₁ = P.depth} {n₂ = few_points} {m₂ = ticket_loops} f.points h.laid.ticket.shallow;
+    moved-fit = omega arith;
+    numbers-fit = f.numbers;
+    elements-fit = f.elements;
+    most-points = omega arith;
+    most-indices = omega arith;
+    most-moved = omega arith;
+    most-numbers = omega arith;
+    most-elements = omega arith;
+  }
 
-  pub lent-few : Few P n
-      → Lent P n (replicate (ticket_loops * few_points) (pos 0)) (replicate (most_loops * few_points) (pos 0)) (replicate few_numbers 0)
-      (replicate few_numbers 0) (replicate few_numbers 0) (replicate few_numbers 0) (replicate few_points 0)
-  lent-few f = let a = f.points in
-      lent (ticket_loops * few_points) (most_loops * few_points) few_numbers few_numbers few_points (omega arith) (omega arith) f.numbers f.elements
-      (omega arith) a
-
-  pub lent-many : Lent P n (replicate (ticket_loops * most_points) (pos 0)) (replicate (most_loops * most_points) (pos 0)) (replicate most_numbers 0)
-      (replicate most_numbers 0) (replicate most_numbers 0) (replicate most_elements 0) (replicate most_points 0)
+  pub room-many : RoomFor P n most_points (ticket_loops * most_points) (most_loops * most_points) most_numbers most_elements
   unfolding nest_of
-  lent-many = let f = few-points in let t = flat-nest.fits in
-      lent (ticket_loops * most_points) (most_loops * most_points) most_numbers most_elements most_points (omega arith) (omega arith)
-      (numbers-at P n most_points flat-nest f) (omega arith) (omega arith) f
+  room-many = let f = few-points in let t = flat-nest.fits in record {
+    points-fit = f;
+    indices-fit = mul-le-mul {n₁ = n} {m₁ = P.depth} {n₂ = most_points} {m₂ = ticket_loops} f h.laid.ticket.shallow;
+    moved-fit = omega arith;
+    numbers-fit = numbers-at P n most_points flat-nest f;
+    elements-fit = omega arith;
+    most-points = omega arith;
+    most-indices = omega arith;
+    most-moved = omega arith;
+    most-numbers = omega arith;
+    most-elements = omega arith;
+  }

@@ -41,8 +41,8 @@ use Rattle.ticket_admission.specs.CountedTickets.{Laid}
 use Rattle.pair_partners.proofs.Witness as Partners
 use Rattle.pair_records.specs.Windows.{batch_room}
 use Rattle.pair_search.specs.Searches.{SearchIn}
-use Rattle.pair_search.specs.Rooms.{few_points, few_numbers, Few, Lent, Linked}
-use Rattle.pair_search.proofs.SearchLaws.{lent-few}
+use Rattle.pair_search.specs.Rooms.{few_points, few_numbers, Few, RoomFor, Linked}
+use Rattle.pair_search.proofs.SearchLaws.{room-few}
 
 abbrev storing : FlatNest
 storing = plain 1 0
@@ -108,9 +108,8 @@ pub few : Few storing 1
 unfolding nest_of total elements arrays_of arrays_from extents_at
 few = record { points = omega arith; numbers = omega arith; elements = omega arith }
 
-pub lent : Lent storing 1 (replicate (ticket_loops * few_points) (pos 0)) (replicate (most_loops * few_points) (pos 0)) (replicate few_numbers 0)
-    (replicate few_numbers 0) (replicate few_numbers 0) (replicate few_numbers 0) (replicate few_points 0)
-lent = lent-few storing reversing 1 1 0 (replicate batch_room (pos 0)) search-in few
+pub room : RoomFor storing 1 few_points (ticket_loops * few_points) (most_loops * few_points) few_numbers few_numbers
+room = room-few storing reversing 1 1 0 (replicate batch_room (pos 0)) search-in few
 
 -- ---- its one point, which is moved to −1 and has no next one
 

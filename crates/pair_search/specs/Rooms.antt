@@ -1,6 +1,6 @@
 -- What a search keeps of a ticket's points: room for it, and what stands there.
 use Rattle.std.specs.Prelude.{◌≡◌, Bool, List, ℕ, ◌*◌, ◌≤◌, ℤ, length}
-use Rattle.model.specs.Grammar.{total, most_loops, most_elements}
+use Rattle.model.specs.Grammar.{total, ticket_loops, most_loops, most_points, most_numbers, most_elements}
 use Rattle.ticket_steps.specs.declared.Steps.{Steps}
 use Rattle.nest_flat.specs.FlatNests.{FlatNest, nest_of, sizes_in}
 use Rattle.nest_points.specs.Nests.{PointsAre}
@@ -21,16 +21,18 @@ pub record Few (P : FlatNest) (n : ℕ) : Type 0 where
   pub numbers : P.accesses * n ≤ few_numbers
   pub elements : total (nest_of P).arrays ≤ few_numbers
 
--- room for all that is kept of n points, and for a head of each element
-pub record Lent (P : FlatNest) (n : ℕ) (points moved : List ℤ) (numbers named written heads partners : List ℕ) : Type 0 where
-  pub points-room : n * P.depth ≤ length points
-  pub moved-room : n * most_loops ≤ length moved
-  pub numbers-room : P.accesses * n ≤ length numbers
-  pub named-room : n * P.accesses ≤ length named
-  pub written-room : n * P.accesses ≤ length written
-  pub heads-room : total (nest_of P).arrays ≤ length heads
-  pub few-heads : length heads ≤ most_elements
-  pub partners-room : n ≤ length partners
+-- room for n points, for their indices before and after the steps, for a number of each access at each of them, and for a head of each element
+pub record RoomFor (P : FlatNest) (n points indices moved numbers elements : ℕ) : Type 0 where
+  pub points-fit : n ≤ points
+  pub indices-fit : n * P.depth ≤ indices
+  pub moved-fit : n * most_loops ≤ moved
+  pub numbers-fit : P.accesses * n ≤ numbers
+  pub elements-fit : total (nest_of P).arrays ≤ elements
+  pub most-points : points ≤ most_points
+  pub most-indices : indices ≤ ticket_loops * most_points
+  pub most-moved : moved ≤ most_loops * most_points
+  pub most-numbers : numbers ≤ most_numbers
+  pub most-elements : elements ≤ most_elements
 
 -- the points are listed, moved by the first `step` steps to rows of `depth` numbers, numbered and linked
 pub record Linked (P : FlatNest) (S : Steps) (n step : ℕ) (points : List ℤ) (numbers : List ℕ) (writes : List Bool) (named written : List ℕ)

@@ -6,7 +6,7 @@ use Rattle.nest_elements.specs.Places.{BaseIn, TotalIn}
 use Rattle.run_statements.specs.Flat.{BasesAre}
 
 pub base-in : {a : List ℕ} {n : ℕ} → TotalIn a n → (i : ℕ) → i < n → BaseIn a i
-base-in t i h = record { array = t.each i h; fits = t.fits }
+base-in t i h = record { before = λ j l. t.each j (omega arith); fits = t.fits }
 
 pub one-base : (a bases : List ℕ) (i b : ℕ) → i < length bases → BasesAre a i bases → b ≡ base (arrays_of a) i → BasesAre a (i + 1) (set bases i b)
 one-base a bases i b l f e j h = ⊎_elim

@@ -1,7 +1,8 @@
 -- The words that a statement reads, one more at a time, and what the rules make of them, by the rule's number.
-use Rattle.std.proofs.Common.{◌≡◌, ℕ, zero, suc, ◌+◌, ◌*◌, ◌%◌, ◌^◌, ◌<◌, ◌≤◌, cond, ltb, List, [], ◌∷◌, ◌++◌, length, get_or, sym, refl, ap, ◌∙◌, add-zero, add_assoc, add-suc, mul-le-mul_right, suc-add, add-one, arith, le-ltb, lt-ltb, eq-eqb, ne_eqb}
+use Rattle.std.proofs.Common.{◌≡◌, ℕ, zero, suc, ◌+◌, ◌*◌, ◌%◌, ◌^◌, ◌<◌, ◌≤◌, cond, ltb, max, List, [], ◌∷◌, ◌++◌, length, get_or, sym, refl, ap, ◌∙◌, add-zero, add_assoc, add-suc, mul-le-mul_right, suc-add, add-one, arith, ltb-true, ltb-false, eq-eqb, ne_eqb}
 use native.Mathlib.Nat.{mod-add-mod}
 use Rattle.lists.proofs.PartLaws.{row_fits}
+use Rattle.lists.proofs.TestLaws.{cond_cases}
 use Rattle.model.specs.Store.{sum, most, first_of, make}
 use Rattle.run_statements.specs.Flat.{number_at, fetched, FetchIn}
 
@@ -51,11 +52,9 @@ module _ (numbers : List ℕ) (count x : ℕ) (w : List ℕ) (k c : ℕ) where
     most-next = ap (λ (j : ℕ). most c (fetched numbers count x w k j)) (add-one i) ∙ ap (most c) (fetched-snoc numbers count x w k i)
         ∙ most-snoc c (fetched numbers count x w k i) (get_or w (number_at numbers count (k + i) x) 0) ∙ rw (← p, ← e)
 
-    pub most-new : r < v → v ≡ most c (fetched numbers count x w k (i + 1))
-    most-new t = sym (most-next ∙ rw (lt-ltb r v t))
-
-    pub most-old : v ≤ r → r ≡ most c (fetched numbers count x w k (i + 1))
-    most-old t = sym (most-next ∙ rw (le-ltb r v t))
+    pub most-max : max r v ≡ most c (fetched numbers count x w k (i + 1))
+    most-max = cond_cases (λ (m : ℕ). max r v ≡ m) (ltb r v) v r (λ e. let h = ltb-true r v e in omega arith)
+        (λ e. let h = ltb-false r v e in omega arith) ∙ sym most-next
 
 pub first-none : (numbers : List ℕ) (count x : ℕ) (w : List ℕ) (k n : ℕ) → n ≡ 0 → 0 ≡ first_of (fetched numbers count x w k n)
 unfolding fetched first_of

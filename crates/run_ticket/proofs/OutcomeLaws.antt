@@ -2,43 +2,40 @@
 use mathlib.Core.Path.{◌≡◌, refl, sym, ◌∙◌, ap, subst}
 use mathlib.Core.Bool.{Bool}
 use mathlib.Core.List.{List}
-use Prim.Native.Nat.{ℕ, zero, suc, ◌≤◌, ◌<◌}
-use native.Mathlib.Omega.{arith}
+use Prim.Native.Nat.{ℕ}
 use borrow.Author.Tests.{eq-eqb, ne_eqb}
 use lib.Dec.{eqb}
 use lib.ListN.{length}
+use Rattle.std.specs.Prelude.{Option, Some, None, Ok, Err}
 use Rattle.model.specs.Answer.{Answer, require, ◌>>◌, ◌>>=◌}
 use Rattle.model.specs.Ticket.{Nest}
 use Rattle.model.specs.Store.{run_nest}
 use Rattle.ticket_refusals.specs.declared.Refusal.{Refusal}
 use Rattle.ticket_refusals.specs.declared.Refusal.TheVariants.{OpaqueRule, WrongStoreLength}
 use Rattle.ticket_refusals.specs.Refusals.{refusal}
-use Rattle.entry_answers.specs.declared.Answer.TheVariants.{Accepted, Refused}
 use Rattle.entry_answers.specs.Answers.{OutcomeIs}
 use Rattle.run_ticket.specs.Outcomes.{tested, outcome}
 
-module _ (t c : ℕ) (M : Nest) (w : List ℕ) where
-  refuse : (k : ℕ) (r : Refusal) → refusal r ≡ tested k t w → OutcomeIs (outcome (tested k t w) c M w) (Refused r) w
+module _ (t c : ℕ) (M : Nest) (w : List ℕ) (k : Option ℕ) where
+  refuse : (r : Refusal) → refusal r ≡ tested k t w → OutcomeIs (outcome (tested k t w) c M w) (Err r) w
   unfolding outcome
-  refuse k r e = subst (λ (a : Answer (Unit {0})). OutcomeIs (outcome a c M w) (Refused r) w) e (record { answer = refl; memory = refl })
+  refuse r e = subst (λ (a : Answer (Unit {0})). OutcomeIs (outcome a c M w) (Err r) w) e (record { answer = refl; memory = refl })
 
-  pub opaque-found : (k : ℕ) → 0 < k → OutcomeIs (outcome (tested k t w) c M w) (Refused (OpaqueRule k)) w
+  pub opaque-found : (n : ℕ) → k ≡ Some n → OutcomeIs (outcome (tested k t w) c M w) (Err (OpaqueRule n)) w
   unfolding tested ◌>>◌ ◌>>=◌
-  opaque-found zero h = absurd (omega arith)
-  opaque-found (suc k) h = refuse (suc k) (OpaqueRule (suc k)) refl
+  opaque-found n h = refuse (OpaqueRule n) (sym (ap (λ (o : Option ℕ). tested o t w) h))
 
-  -- no statement is opaque
-  clear : (k : ℕ) → k ≤ 0 → tested k t w ≡ require (eqb (length w) t) 16 0
-  unfolding tested ◌>>◌ ◌>>=◌
-  clear zero h = refl
-  clear (suc k) h = absurd (omega arith)
+  module _ (h : k ≡ None) where
+    -- no statement is opaque
+    clear : tested k t w ≡ require (eqb (length w) t) 16 0
+    unfolding tested ◌>>◌ ◌>>=◌
+    clear = ap (λ (o : Option ℕ). tested o t w) h
 
-  module _ (k : ℕ) (h : k ≤ 0) where
-    pub wrong-length : (length w ≡ t → ⊥) → OutcomeIs (outcome (tested k t w) c M w) (Refused WrongStoreLength) w
+    pub wrong-length : (length w ≡ t → ⊥) → OutcomeIs (outcome (tested k t w) c M w) (Err WrongStoreLength) w
     unfolding require
-    wrong-length g = refuse k WrongStoreLength (sym (clear k h ∙ ap (λ (b : Bool). require b 16 0) (ne_eqb (length w) t g)))
+    wrong-length g = refuse WrongStoreLength (sym (clear ∙ ap (λ (b : Bool). require b 16 0) (ne_eqb (length w) t g)))
 
-    pub executed : length w ≡ t → (e : List ℕ) → e ≡ run_nest M w → OutcomeIs (outcome (tested k t w) c M w) (Accepted c) e
+    pub executed : length w ≡ t → (e : List ℕ) → e ≡ run_nest M w → OutcomeIs (outcome (tested k t w) c M w) (Ok c) e
     unfolding require outcome
-    executed g e r = subst (λ (a : Answer (Unit {0})). OutcomeIs (outcome a c M w) (Accepted c) e)
-        (sym (clear k h ∙ ap (λ (b : Bool). require b 16 0) (eq-eqb (length w) t g))) (record { answer = refl; memory = r })
+    executed g e r = subst (λ (a : Answer (Unit {0})). OutcomeIs (outcome a c M w) (Ok c) e)
+        (sym (clear ∙ ap (λ (b : Bool). require b 16 0) (eq-eqb (length w) t g))) (record { answer = refl; memory = r })

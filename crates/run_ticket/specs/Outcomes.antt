@@ -1,5 +1,5 @@
 -- A judged ticket: refusals 15 and 16 by what was found on its own nest, then the run of the new one.
-use Rattle.std.specs.Prelude.{◌≡◌, List, ℕ, eqb, length}
+use Rattle.std.specs.Prelude.{◌≡◌, List, ℕ, eqb, length, Option}
 use Rattle.model.specs.Answer.{Answer, accepted, refused, require, ◌>>◌}
 use Rattle.model.specs.Ticket.{Nest}
 use Rattle.model.specs.Grammar.{total}
@@ -10,8 +10,8 @@ use Rattle.nest_flat.specs.FlatNests.{FlatNest, nest_of, FlatNestIn}
 use Rattle.nest_elements.specs.Nests.{opaque_at}
 use Rattle.run_nest.specs.Execution.{Executable}
 
--- 15 before 16, where `opaque` is the first opaque statement, from 1, or 0, and there are so many elements
-unfoldable pub tested : ℕ → ℕ → List ℕ → Answer (Unit {0})
+-- 15 before 16, where `opaque` is the first opaque statement, if there is one, and there are so many elements
+unfoldable pub tested : Option ℕ → ℕ → List ℕ → Answer (Unit {0})
 tested opaque elements words = opaque_at opaque >> require (eqb (length words) elements) 16 0
 
 -- N is the new nest, `count` the number of iterations

@@ -1,5 +1,5 @@
 -- What a step asks of the slices of a nest, and what taking it leaves there: s and c are limits and counts, w, o and a the accesses.
-use Rattle.std.specs.Prelude.{◌≡◌, true, false, not, ◌&&◌, List, ℕ, ℤ, length}
+use Rattle.std.specs.Prelude.{◌≡◌, true, ◌&&◌, Result, ⊤, is_ok, List, ℕ, ℤ, length}
 use Rattle.lists.specs.Tests.{all}
 use Rattle.model.specs.Ticket as Model
 use Rattle.model.specs.Grammar.{depth_after, most_sides, nest_room}
@@ -10,7 +10,8 @@ use Rattle.nest_flat.specs.Flat.{loops_from, NestOk}
 use Rattle.nest_flat.specs.Layout.{AccessesOk}
 use Rattle.step_kinds.specs.Kinds.{stage_of}
 use Rattle.step_kinds.specs.declared.Stage.{Stage}
-use Rattle.step_loops.specs.declared.Stepped.{Stepped}
+use Rattle.step_exchange.specs.declared.StepError.{StepError}
+use Rattle.step_exchange.specs.Answers.{step_answer}
 use Rattle.step_subscripts.specs.After.{accesses_after, AccessesAfter}
 
 -- of the loops alone
@@ -22,15 +23,14 @@ pub record TakingIn (s : List ℤ) (c : List ℕ) (w : List ℤ) (o a : List ℕ
   pub loops : LoopsIn s c depth t
   pub accesses : AccessesOk w o a depth
 
--- 11 and 12, and the model's loops and accesses after the step where it is neither
-pub record Takes (t : Model.Step) (s : List ℤ) (c : List ℕ) (w : List ℤ) (o a : List ℕ) (depth : ℕ) (r : Stepped) (s' : List ℤ) (c' : List ℕ)
+-- what it answers, and the model's loops and accesses after the step where that is Ok
+pub record Takes (t : Model.Step) (s : List ℤ) (c : List ℕ) (w : List ℤ) (o a : List ℕ) (depth : ℕ) (r : Result ⊤ StepError) (s' : List ℤ) (c' : List ℕ)
     (w' : List ℤ) : Type 0 where
   pub limits-room : length s' ≡ nest_room
   pub counts-room : length c' ≡ most_sides
   pub words-room : length w' ≡ length w
-  pub full : r.full ≡ not (few_limits (loops_after t (loops_from s c 0 depth)))
-  pub small : r.full ≡ false → r.small ≡ all small_loop (loops_after t (loops_from s c 0 depth)) && all small_access
-      (accesses_after t w o a depth (length o))
-  pub loops : r.full ≡ false → r.small ≡ true → loops_from s' c' 0 (depth_after t depth) ≡ loops_after t (loops_from s c 0 depth)
-  pub nest : r.full ≡ false → r.small ≡ true → NestOk s' c' (depth_after t depth)
-  pub accesses : r.full ≡ false → r.small ≡ true → AccessesAfter t w o a depth w' true
+  pub answered : r ≡ step_answer (few_limits (loops_after t (loops_from s c 0 depth))) (all small_loop (loops_after t (loops_from s c 0 depth))
+      && all small_access (accesses_after t w o a depth (length o)))
+  pub loops : is_ok r ≡ true → loops_from s' c' 0 (depth_after t depth) ≡ loops_after t (loops_from s c 0 depth)
+  pub nest : is_ok r ≡ true → NestOk s' c' (depth_after t depth)
+  pub accesses : is_ok r ≡ true → AccessesAfter t w o a depth w' true

@@ -7,32 +7,26 @@ ghost use Rattle.step_kinds.specs.Kinds.{stage_of};
 ghost use Rattle.step_loops.specs.After.{After};
 ghost use Rattle.step_application.specs.Taking.{LoopsIn, TakingIn, Takes};
 
+use step_exchange::StepError;
 use step_kinds::Stage;
-use step_loops::Stepped;
 
-fn stage_loops(limits: &mut [i16], counts: &mut [usize], depth: usize, stage: Stage) -> Stepped
+fn stage_loops(
+    limits: &mut [i16],
+    counts: &mut [usize],
+    depth: usize,
+    stage: Stage,
+) -> Result<(), StepError>
     requires { LoopsIn limits.old counts.old depth stage }
     ensures { After (stage_of stage) limits.old counts.old depth result limits.new counts.new }
 {
     match stage {
-        Stage::Exchange(e) => {
-            let a = e.outer;
-            step_loops::exchange_loops(limits, counts, depth, a)
-        }
-        Stage::Reversal(e) => {
-            let a = e.target;
-            step_loops::reverse_loop(limits, counts, depth, a)
-        }
+        Stage::Exchange(e) => step_loops::exchange_loops(limits, counts, depth, e.outer),
+        Stage::Reversal(e) => step_loops::reverse_loop(limits, counts, depth, e.target),
         Stage::Skew(e) => {
-            let a = e.outer;
-            let d = e.distance;
-            let factor = e.factor;
-            step_loops::skew_loop(limits, counts, depth, a, d, factor)
+            step_loops::skew_loop(limits, counts, depth, e.outer, e.distance, e.factor)
         }
         Stage::Section(e) => {
-            let a = e.target;
-            let w = e.width as u32;
-            step_loops::section_loop(limits, counts, depth, a, w)
+            step_loops::section_loop(limits, counts, depth, e.target, e.width as u32)
         }
     }
 }
@@ -46,21 +40,12 @@ pub fn apply_stage(
     extents: &[usize],
     depth: usize,
     stage: Stage,
-) -> Stepped
+) -> Result<(), StepError>
     requires { TakingIn limits.old counts.old words.old accessed.now extents.now depth stage }
     ensures { Takes (stage_of stage) limits.old counts.old words.old accessed.now
         extents.now depth result limits.new counts.new words.new }
 {
-    let stepped = stage_loops(limits, counts, depth, stage);
-    if stepped.full {
-        return stepped;
-    }
-    if !stepped.small {
-        return stepped;
-    }
-    let small = step_subscripts::change_accesses(words, accessed, extents, depth, stage);
-    Stepped {
-        full: false,
-        small: small,
-    }
+    stage_loops(limits, counts, depth, stage)?;
+    step_subscripts::change_accesses(words, accessed, extents, depth, stage)?;
+    Ok(())
 }

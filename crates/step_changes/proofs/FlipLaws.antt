@@ -8,13 +8,9 @@ use lib.IntN.{ℤ, pos}
 use lib.Signed.{◌<ℤ◌}
 use lib.ListN.{length, get_or, take, drop, set, length-set, length-drop}
 use lib.Seq.{get_or-set_same, get_or-set_other, get_or-take, get_or-drop, length-take-le, ext_get_or}
-use mir.Syntax.{w16}
-use mir.Val.{to_z, of_z}
-use mir.Facts.{to_z-of_z}
 use Rattle.integers.specs.Affine.{Within}
 use Rattle.integers.specs.Difference.{size}
 use Rattle.integers.proofs.AffineLaws.{within-at}
-use Rattle.integers.proofs.RangeLaws.{word_fits}
 use Rattle.nest_flat.specs.Flat.{limit_at, limits_at, loop_at, Positive}
 use Rattle.step_limits.proofs.LimitLaws.{same-limit}
 use Rattle.step_changes.specs.Flips.{TradeIn, Traded, FlipIn, flipped, Flipped}
@@ -41,9 +37,6 @@ module _ (s : List ℤ) (a b many : ℕ) (p : TradeIn s a b many) where
   module _ (t : List ℤ) (i : ℕ) (u : Traded s a b i t) (more : i < many) where
     near : (q : ℕ) → size (get_or t q (pos 0)) ≤ 32767
     near q = within-at 32767 t u.small q
-
-    pub copied : (q : ℕ) → to_z w16 (of_z w16 (get_or t q (pos 0))) ≡ get_or t q (pos 0)
-    copied q = to_z-of_z (word_fits (near q))
 
     here : get_or t (a + i) (pos 0) ≡ get_or s (a + i) (pos 0)
     here = let f = p.apart in u.between (a + i) (omega arith) (omega arith)

@@ -2,13 +2,13 @@
 // beyond ±32767; what the slices hold then does not matter.
 #![tactic(auto)]
 
-ghost use Rattle.std.specs.Prelude.{◌≤◌};
-ghost use Rattle.model.specs.Grammar.{most_limits};
+ghost use Rattle.std.specs.Prelude.{is_ok};
 ghost use Rattle.nest_flat.specs.Flat.{loop_at};
 ghost use Rattle.step_changes.specs.Sides.{SideIn, SideMade, changed_side};
 ghost use Rattle.step_changes.specs.Loops.{LoopIn, LoopMade, on_sides, LoopsIn, LoopsMade};
 ghost use Rattle.step_changes.specs.Flips.{TradeIn, Traded, FlipIn, Flipped};
 
+use nest_rows::NumberOutOfRange;
 use step_limits::Change;
 
 // ---- sides
@@ -22,20 +22,16 @@ pub fn change_side(
     m: usize,
     count: usize,
     change: Change,
-) -> bool
+) -> Result<(), NumberOutOfRange>
     requires { SideIn change words.old from n to m count }
-    ensures { SideMade words.old to m count (changed_side change words.old from n count) result words.new }
+    ensures { SideMade words.old to m count (changed_side change words.old from n count) (is_ok result) words.new }
 {
-    let mut i = 0;
-    while i < count {
+    for i in 0..count {
         let l = step_limits::limit_at(words, from + i, n);
         let x = step_limits::change_limit(l, n, change);
-        if !step_limits::put_limit(words, to + i, x, m) {
-            return false;
-        }
-        i += 1;
+        step_limits::put_limit(words, to + i, x, m)?;
     }
-    true
+    Ok(())
 }
 
 // ---- loops
@@ -48,22 +44,18 @@ pub fn change_loop(
     to: usize,
     lo: Change,
     hi: Change,
-) -> bool
+) -> Result<(), NumberOutOfRange>
     requires { LoopIn lo hi limits.old counts.old k to }
     ensures { LoopMade limits.old counts.old to (on_sides lo hi (loop_at limits.old counts.old k))
-        result limits.new counts.new }
+        (is_ok result) limits.new counts.new }
 {
     let lower = counts[k * 2];
     let upper = counts[k * 2 + 1];
-    if !change_side(limits, k * 32, k, to * 32, to, lower, lo) {
-        return false;
-    }
-    if !change_side(limits, k * 32 + 16, k, to * 32 + 16, to, upper, hi) {
-        return false;
-    }
+    change_side(limits, k * 32, k, to * 32, to, lower, lo)?;
+    change_side(limits, k * 32 + 16, k, to * 32 + 16, to, upper, hi)?;
     counts[to * 2] = lower;
     counts[to * 2 + 1] = upper;
-    true
+    Ok(())
 }
 
 // The loops from place `start` on, changed, `by` places further in: the innermost first, so that each is read before another is put there.
@@ -74,19 +66,14 @@ pub fn change_loops(
     many: usize,
     by: usize,
     change: Change,
-) -> bool
+) -> Result<(), NumberOutOfRange>
     requires { LoopsIn change limits.old counts.old start many by }
-    ensures { LoopsMade change limits.old counts.old start many by result limits.new counts.new }
+    ensures { LoopsMade change limits.old counts.old start many by (is_ok result) limits.new counts.new }
 {
-    let mut left = many;
-    while 0 < left {
-        left -= 1;
-        let k = start + left;
-        if !change_loop(limits, counts, k, k + by, change, change) {
-            return false;
-        }
+    for k in (start..start + many).rev() {
+        change_loop(limits, counts, k, k + by, change, change)?;
     }
-    true
+    Ok(())
 }
 
 // ---- the two sides of a loop
@@ -96,21 +83,9 @@ fn exchange_words(words: &mut [i16], a: usize, b: usize, many: usize)
     requires { TradeIn words.old a b many }
     ensures { Traded words.old a b many words.new }
 {
-    let mut i = 0;
-    while i < many {
-        let x = words[a + i];
-        let y = words[b + i];
-        words[a + i] = y;
-        words[b + i] = x;
-        i += 1;
+    for i in 0..many {
+        words.swap(a + i, b + i);
     }
-}
-
-fn larger_count(a: usize, b: usize) -> usize
-    requires { (a ≤ most_limits) × (b ≤ most_limits) }
-    ensures { (a ≤ result) × (b ≤ result) × (result ≤ most_limits) }
-{
-    if a < b { b } else { a }
 }
 
 // The lower limits of loop k become the upper ones, and the upper the lower.
@@ -118,10 +93,7 @@ pub fn exchange_sides(limits: &mut [i16], counts: &mut [usize], k: usize)
     requires { FlipIn limits.old counts.old k }
     ensures { Flipped limits.old counts.old k limits.new counts.new }
 {
-    let lower = counts[k * 2];
-    let upper = counts[k * 2 + 1];
-    let most = larger_count(lower, upper);
+    let most = counts[k * 2].max(counts[k * 2 + 1]);
     exchange_words(limits, k * 256, k * 256 + 128, most * 8);
-    counts[k * 2] = upper;
-    counts[k * 2 + 1] = lower;
+    counts.swap(k * 2, k * 2 + 1);
 }

@@ -32,17 +32,8 @@ pub fn empty(depth: usize) -> DirectionSet
 {
     DirectionSet {
         marks: no_marks(),
-        depth: depth,
+        depth,
     }
-}
-
-fn either(x: bool, y: bool) -> bool
-    ensures { result ≡ (x || y) }
-{
-    if x {
-        return true;
-    }
-    y
 }
 
 // While a set is made its marks are lent. Only numbers of vectors of the depth are visited.
@@ -53,10 +44,8 @@ pub fn clear_vectors(marks: &mut [bool], depth: usize)
     ensures { Cleared depth marks.new }
 {
     let stride = dependence_vectors::stride(depth);
-    let mut n = (stride - 1) / 2;
-    while n < VECTORS {
+    for n in ((stride - 1) / 2..VECTORS).step_by(stride) {
         marks[n] = false;
-        n += stride;
     }
 }
 
@@ -66,10 +55,8 @@ pub fn merge(marks: &mut [bool], row: &[bool], depth: usize)
     ensures { Merged row.now depth marks.old marks.new }
 {
     let stride = dependence_vectors::stride(depth);
-    let mut n = (stride - 1) / 2;
-    while n < VECTORS {
-        marks[n] = either(marks[n], row[n]);
-        n += stride;
+    for n in ((stride - 1) / 2..VECTORS).step_by(stride) {
+        marks[n] = marks[n] | row[n];
     }
 }
 
@@ -101,15 +88,10 @@ pub fn set_after(s: DirectionSet, step: Step) -> DirectionSet
     let mut marks = no_marks();
     let depth = step_kinds::depth_after(step, s.depth);
     let stride = dependence_vectors::stride(depth);
-    let mut n = (stride - 1) / 2;
-    while n < VECTORS {
+    for n in ((stride - 1) / 2..VECTORS).step_by(stride) {
         marks[n] = has_preimage(&old, n, step);
-        n += stride;
     }
-    DirectionSet {
-        marks: marks,
-        depth: depth,
-    }
+    DirectionSet { marks, depth }
 }
 
 // ---- tests
@@ -122,12 +104,10 @@ pub fn is_empty(s: DirectionSet) -> bool
     let marks = s.marks;
     let depth = s.depth;
     let stride = dependence_vectors::stride(depth);
-    let mut n = (stride - 1) / 2;
-    while n < VECTORS {
+    for n in ((stride - 1) / 2..VECTORS).step_by(stride) {
         if marks[n] {
             return false;
         }
-        n += stride;
     }
     true
 }
@@ -140,12 +120,10 @@ pub fn points_back(s: DirectionSet) -> bool
     let marks = s.marks;
     let depth = s.depth;
     let stride = dependence_vectors::stride(depth);
-    let mut n = 364 + stride;
-    while n < VECTORS {
+    for n in (364 + stride..VECTORS).step_by(stride) {
         if marks[n] {
             return true;
         }
-        n += stride;
     }
     false
 }

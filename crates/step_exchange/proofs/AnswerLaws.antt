@@ -1,5 +1,5 @@
 -- What an exchange answers: a side of the outer loop is full, or one of the inner loop; a number of the outer loop is too large; or both loops are put.
-use mathlib.Core.Path.{◌≡◌, sym, ap, ap₂, ◌∙◌, subst}
+use mathlib.Core.Path.{◌≡◌, refl, sym, ap, ap₂, ◌∙◌, subst}
 use mathlib.Core.Bool.{Bool, true, false, not, ◌&&◌}
 use mathlib.Core.List.{List}
 use Prim.Native.Nat.{ℕ, ◌+◌, ◌≤◌}
@@ -18,10 +18,36 @@ use Rattle.ticket_loops.specs.Laid.{lay_loop, lay_count}
 use Rattle.step_exchange_sides.proofs.FlatLaws.{limits-sized}
 use Rattle.step_exchange_sides.proofs.PutLaws.{untrue}
 use Rattle.step_exchange.specs.declared.SideCounts.{SideCounts}
+use Rattle.std.specs.Prelude.{Ok, Err, is_ok}
+use Rattle.step_exchange.specs.declared.StepError.{StepError}
+use Rattle.step_exchange.specs.declared.StepError.TheVariants.{TooManyLimits, NumberOutOfRange}
+use Rattle.step_exchange.specs.Answers.{step_answer}
 use Rattle.step_exchange.specs.Pair.{LoopHeld, loop_in, LoopPut, PairIn, outer_of, inner_of, few_in, PairMade, Exchanges}
 use Rattle.step_exchange.proofs.PairLaws.{few-sides, sides-whole, both-few}
 use Rattle.step_exchange.proofs.MadeLaws.{outer-ranges, inner-ranges}
 use Rattle.step_exchange.proofs.NestLaws.{pair_made}
+
+-- ---- the answer, from what was found
+
+pub settled : (full small F S : Bool) → full ≡ not F → (full ≡ false → small ≡ S) → step_answer (not full) small ≡ step_answer F S
+settled true small F S e f = ap (λ b. step_answer b S) (sym (not-true F (sym e)))
+settled false small F S e f = ap₂ step_answer (sym (not-false F (sym e))) (f refl)
+
+pub answer-ok : (full small : Bool) → is_ok (step_answer (not full) small) ≡ true → (full ≡ false) × (small ≡ true)
+answer-ok true small e = untrue e
+answer-ok false true e = (refl, refl)
+answer-ok false false e = untrue e
+
+-- a test more leaves a refusal
+pub refused-anyway : (few small more : Bool) (e : StepError) → Err e ≡ step_answer few small → Err e ≡ step_answer few (small && more)
+refused-anyway false small more e q = q
+refused-anyway true true more e q = untrue (ap is_ok q)
+refused-anyway true false more e q = q
+
+pub accepted : (few small : Bool) → Ok tt ≡ step_answer few small → (few ≡ true) × (small ≡ true)
+accepted false small q = untrue (sym (ap is_ok q))
+accepted true true q = (refl, refl)
+accepted true false q = untrue (sym (ap is_ok q))
 
 -- a loop whose sides are under way, and the test of its counts
 module _ (n : ℕ) (L : Model.Loop) (low up : List ℤ) (h : SideCounts) (o : LoopHeld n L low up h) (b : Bool)
@@ -53,11 +79,11 @@ module _ (s : List ℤ) (c : List ℕ) (a : ℕ) (p : PairIn s c a) (low up : Li
   unfolding outer_of
   outer-test = tested a outer_l low up h o b f
 
-  pub full-outer : b ≡ true → Exchanges s c a (record { full = true; small = false }) s c
+  pub full-outer : b ≡ true → Exchanges s c a (Err TooManyLimits) s c
   full-outer e = record {
-    full = sym (ap not (ap (◌&& few_in (inner_of s c a)) (not-true (few_in (outer_of s c a)) (sym outer-test ∙ e))));
-    small = λ q. untrue (sym q);
-    made = λ q. untrue (sym q);
+    answered = settled true false _ _ (sym (ap not (ap (◌&& few_in (inner_of s c a)) (not-true (few_in (outer_of s c a)) (sym outer-test ∙ e)))))
+        (λ q. untrue (sym q));
+    made = λ q. untrue q;
     words = p.words;
     counts = p.counts;
   }
@@ -71,11 +97,11 @@ module _ (s : List ℤ) (c : List ℕ) (a : ℕ) (p : PairIn s c a) (low up : Li
     unfolding inner_of
     inner-test = tested (a + 1) inner_l low2 up2 k i d g
 
-    pub full-inner : d ≡ true → Exchanges s c a (record { full = true; small = false }) s c
+    pub full-inner : d ≡ true → Exchanges s c a (Err TooManyLimits) s c
     full-inner e = record {
-      full = sym (ap not (ap₂ ◌&&◌ outer-few (not-true (few_in (inner_of s c a)) (sym inner-test ∙ e))));
-      small = λ q. untrue (sym q);
-      made = λ q. untrue (sym q);
+      answered = settled true false _ _ (sym (ap not (ap₂ ◌&&◌ outer-few (not-true (few_in (inner_of s c a)) (sym inner-test ∙ e)))))
+          (λ q. untrue (sym q));
+      made = λ q. untrue q;
       words = p.words;
       counts = p.counts;
     }
@@ -91,11 +117,10 @@ module _ (s : List ℤ) (c : List ℕ) (a : ℕ) (p : PairIn s c a) (low up : Li
       unfolding outer_of
       outer-put = subst (λ (L : Model.Loop). LoopPut s c a L r t e) (whole a outer_l low up h o b f no) x
 
-      pub outer-large : r ≡ false → length t ≡ nest_room → length e ≡ most_sides → Exchanges s c a (record { full = false; small = false }) t e
+      pub outer-large : r ≡ false → length t ≡ nest_room → length e ≡ most_sides → Exchanges s c a (Err NumberOutOfRange) t e
       outer-large q w n = record {
-        full = few;
-        small = λ _. sym (ap (◌&& small_loop (inner_of s c a)) (sym outer-put.small ∙ q));
-        made = λ _ z. untrue z;
+        answered = settled false false _ _ few (λ _. sym (ap (◌&& small_loop (inner_of s c a)) (sym outer-put.small ∙ q)));
+        made = λ z. untrue z;
         words = w;
         counts = n;
       }
@@ -124,11 +149,21 @@ module _ (s : List ℤ) (c : List ℕ) (a : ℕ) (p : PairIn s c a) (low up : Li
             (inner-ranges s c a p inner-few (sym inner-put.small ∙ w))
             (n.0 ∙ ap (λ l. lay_loop l (a + 1) (inner_of s c a)) m.0) (n.1 ∙ ap (λ l. lay_count l (a + 1) (inner_of s c a)) m.1)
 
-        pub both-put : length v ≡ nest_room → length y ≡ most_sides → Exchanges s c a (record { full = false; small = q }) v y
-        both-put w n = record {
-          full = few;
-          small = λ _. inner-put.small ∙ sym (ap (◌&& small_loop (inner_of s c a)) outer-small);
-          made = λ _ m. both-made m;
+        both-tested : q ≡ small_loop (outer_of s c a) && small_loop (inner_of s c a)
+        both-tested = inner-put.small ∙ sym (ap (◌&& small_loop (inner_of s c a)) outer-small)
+
+        pub inner-large : q ≡ false → length v ≡ nest_room → length y ≡ most_sides → Exchanges s c a (Err NumberOutOfRange) v y
+        inner-large f w n = record {
+          answered = settled false false _ _ few (λ _. sym f ∙ both-tested);
+          made = λ m. untrue m;
+          words = w;
+          counts = n;
+        }
+
+        pub both-put : q ≡ true → length v ≡ nest_room → length y ≡ most_sides → Exchanges s c a (Ok tt) v y
+        both-put f w n = record {
+          answered = settled false true _ _ few (λ _. sym f ∙ both-tested);
+          made = λ _. both-made f;
           words = w;
           counts = n;
         }

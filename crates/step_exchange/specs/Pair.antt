@@ -1,5 +1,5 @@
 -- The two loops of an exchange, made of loop I at place a and loop J inside it: what the functions on their sides ask, and what is left of the nest.
-use Rattle.std.specs.Prelude.{◌≡◌, Bool, true, false, not, ◌&&◌, List, ℕ, suc, ◌+◌, ◌*◌, ◌<◌, ◌≤◌, leb, ℤ, pos, negsuc, length, get_or, take, drop}
+use Rattle.std.specs.Prelude.{◌≡◌, Bool, true, false, ◌&&◌, Result, ⊤, is_ok, List, ℕ, suc, ◌+◌, ◌*◌, ◌<◌, ◌≤◌, leb, ℤ, pos, negsuc, length, get_or, take, drop}
 use Rattle.integers.specs.Affine.{Within}
 use Rattle.model.specs.Ticket as Model
 use Rattle.model.specs.Judge.{small_loop}
@@ -13,7 +13,8 @@ use Rattle.step_limits.specs.Small.{SmallLimit}
 use Rattle.step_exchange_sides.specs.Filling.{Holds, Filled}
 use Rattle.step_exchange.specs.declared.SideLimits.{SideLimits}
 use Rattle.step_exchange.specs.declared.SideCounts.{SideCounts}
-use Rattle.step_exchange.specs.declared.Exchanged.{Exchanged}
+use Rattle.step_exchange.specs.declared.StepError.{StepError}
+use Rattle.step_exchange.specs.Answers.{step_answer}
 use Rattle.step_limits.specs.Words.{LoopOk}
 
 -- p J against e + c I, solved for |c| I
@@ -138,9 +139,8 @@ pub record PairMade (s : List ℤ) (c : List ℕ) (a : ℕ) (X Y : Model.Loop) (
   pub counts-before : take (a * 2) d ≡ take (a * 2) c
   pub counts_behind : drop ((a + 2) * 2) d ≡ drop ((a + 2) * 2) c
 
-pub record Exchanges (s : List ℤ) (c : List ℕ) (a : ℕ) (r : Exchanged) (t : List ℤ) (d : List ℕ) : Type 0 where
-  pub full : r.full ≡ not (few_in (outer_of s c a) && few_in (inner_of s c a))
-  pub small : r.full ≡ false → r.small ≡ small_loop (outer_of s c a) && small_loop (inner_of s c a)
-  pub made : r.full ≡ false → r.small ≡ true → PairMade s c a (outer_of s c a) (inner_of s c a) t d
+pub record Exchanges (s : List ℤ) (c : List ℕ) (a : ℕ) (r : Result ⊤ StepError) (t : List ℤ) (d : List ℕ) : Type 0 where
+  pub answered : r ≡ step_answer (few_in (outer_of s c a) && few_in (inner_of s c a)) (small_loop (outer_of s c a) && small_loop (inner_of s c a))
+  pub made : is_ok r ≡ true → PairMade s c a (outer_of s c a) (inner_of s c a) t d
   pub words : length t ≡ nest_room
   pub counts : length d ≡ most_sides

@@ -2,7 +2,7 @@
 // filled first, in wide numbers and with no limit twice.
 #![tactic(auto)]
 
-ghost use Rattle.std.specs.Prelude.{◌≡◌, not, ◌&&◌, ◌+◌, ◌*◌, ◌<◌, ◌≤◌, leb, pos, length};
+ghost use Rattle.std.specs.Prelude.{◌≡◌, not, ◌&&◌, ◌+◌, ◌*◌, ◌<◌, ◌≤◌, leb, pos, length, is_ok};
 ghost use mathlib.Core.List.{◌++◌, map, flat_map};
 ghost use Rattle.integers.specs.Difference.{size};
 ghost use Rattle.model.specs.Limits.{combined, widened, outer_coefficient, outer_part, new_outer, new_inner};
@@ -13,9 +13,11 @@ ghost use Rattle.step_limits.specs.Small.{SmallLimit};
 ghost use Rattle.step_limits.specs.Makes.{LimitIs};
 ghost use Rattle.step_exchange_sides.specs.Filling.{Filled, Holds, Adds};
 ghost use Rattle.step_exchange.specs.Pair.{solved, taken_of, limits_of, SpanIn, CombineIn, PartIn, TakeIn, SolveIn, ThreeIn, lower_span};
+ghost use Rattle.step_exchange.specs.declared.StepError.TheVariants.{NumberOutOfRange};
 ghost use Rattle.step_exchange.specs.Pair.{upper_span, FillIn, LoopHeld, loop_in, PutLoopIn, LoopPut, PairIn, Exchanges};
 
 use model::{LIMITS, ROW_ROOM};
+use nest_rows::NumberOutOfRange;
 use ticket_loops::Limit;
 
 // ---- limits
@@ -108,12 +110,10 @@ fn push_combined(
     let from = side.from;
     let many = side.count;
     let mut held = count;
-    let mut k = 0;
-    while k < many {
+    for k in 0..many {
         let m = step_limits::limit_at(words, from + k, a);
         let x = combined(a, c, l, m);
         held = step_exchange_sides::push_limit(filling, held, x, a);
-        k += 1;
     }
     held
 }
@@ -160,11 +160,9 @@ fn push_outer(
     let many = js.count;
     let n = a + 1;
     let mut held = 0;
-    let mut k = 0;
-    while k < many {
+    for k in 0..many {
         let l = step_limits::limit_at(words, from + k, n);
         held = push_part(filling, held, a, l, words, same, other);
-        k += 1;
     }
     held
 }
@@ -179,12 +177,10 @@ fn push_widened(filling: &mut [i32], words: &[i16], a: usize, side: SideLimits) 
     let many = side.count;
     let n = a + 1;
     let mut held = 0;
-    let mut k = 0;
-    while k < many {
+    for k in 0..many {
         let l = step_limits::limit_at(words, from + k, a);
         let x = widened(l, a);
         held = step_exchange_sides::push_limit(filling, held, x, n);
-        k += 1;
     }
     held
 }
@@ -223,11 +219,9 @@ fn push_solved(
     let many = js.count;
     let n = a + 1;
     let mut held = count;
-    let mut k = 0;
-    while k < many {
+    for k in 0..many {
         let l = step_limits::limit_at(words, from + k, n);
         held = push_taken(filling, held, a, l, positive);
-        k += 1;
     }
     held
 }
@@ -254,23 +248,26 @@ fn push_inner(
 
 // ---- the pair
 
-fn lower_side(counts: &[usize], k: usize) -> SideLimits
-    requires { (k < most_loops) × (length counts.now ≡ most_sides) }
-    ensures { result ≡ lower_span counts.now k }
-{
-    SideLimits {
-        from: k * 32,
-        count: counts[k * 2],
-    }
+#[derive(Clone, Copy)]
+struct LoopSides {
+    lower: SideLimits,
+    upper: SideLimits,
 }
 
-fn upper_side(counts: &[usize], k: usize) -> SideLimits
+// Those of loop k.
+fn sides_of(counts: &[usize], k: usize) -> LoopSides
     requires { (k < most_loops) × (length counts.now ≡ most_sides) }
-    ensures { result ≡ upper_span counts.now k }
+    ensures { (result.lower ≡ lower_span counts.now k) × (result.upper ≡ upper_span counts.now k) }
 {
-    SideLimits {
-        from: k * 32 + 16,
-        count: counts[k * 2 + 1],
+    LoopSides {
+        lower: SideLimits {
+            from: k * 32,
+            count: counts[k * 2],
+        },
+        upper: SideLimits {
+            from: k * 32 + 16,
+            count: counts[k * 2 + 1],
+        },
     }
 }
 
@@ -292,14 +289,12 @@ fn fill_outer(
     ensures { LoopHeld a (new_outer a (loop_at words.now counts.now a)
         (loop_at words.now counts.now (a + 1))) low.new up.new result }
 {
-    let b = a + 1;
-    let il = lower_side(counts, a);
-    let iu = upper_side(counts, a);
-    let jl = lower_side(counts, b);
-    let ju = upper_side(counts, b);
-    let l = push_outer(low, words, a, jl, il, iu);
-    let u = push_outer(up, words, a, ju, iu, il);
-    SideCounts { lower: l, upper: u }
+    let i = sides_of(counts, a);
+    let j = sides_of(counts, a + 1);
+    SideCounts {
+        lower: push_outer(low, words, a, j.lower, i.lower, i.upper),
+        upper: push_outer(up, words, a, j.upper, i.upper, i.lower),
+    }
 }
 
 fn fill_inner(
@@ -313,14 +308,12 @@ fn fill_inner(
     ensures { LoopHeld (a + 1) (new_inner a (loop_at words.now counts.now a)
         (loop_at words.now counts.now (a + 1))) low.new up.new result }
 {
-    let b = a + 1;
-    let il = lower_side(counts, a);
-    let iu = upper_side(counts, a);
-    let jl = lower_side(counts, b);
-    let ju = upper_side(counts, b);
-    let l = push_inner(low, words, a, il, jl, ju, false);
-    let u = push_inner(up, words, a, iu, jl, ju, true);
-    SideCounts { lower: l, upper: u }
+    let i = sides_of(counts, a);
+    let j = sides_of(counts, a + 1);
+    SideCounts {
+        lower: push_inner(low, words, a, i.lower, j.lower, j.upper, false),
+        upper: push_inner(up, words, a, i.upper, j.lower, j.upper, true),
+    }
 }
 
 fn is_full(held: SideCounts) -> bool
@@ -332,7 +325,7 @@ fn is_full(held: SideCounts) -> bool
     LIMITS < held.upper
 }
 
-// Loop k, of two sides that are not full, unless a number is not within ±32767.
+// Loop k, of two sides that are not full.
 fn put_filled_loop(
     words: &mut [i16],
     counts: &mut [usize],
@@ -340,33 +333,35 @@ fn put_filled_loop(
     low: &[i32],
     up: &[i32],
     held: SideCounts,
-) -> bool
+) -> Result<(), NumberOutOfRange>
     requires { PutLoopIn (length words.old) (length counts.old) k low.now up.now held }
-    ensures { LoopPut words.old counts.old k (loop_in k low.now up.now held) result words.new
+    ensures { LoopPut words.old counts.old k (loop_in k low.now up.now held) (is_ok result) words.new
         counts.new }
 {
-    let l = held.lower;
-    let u = held.upper;
-    if !step_exchange_sides::put_filled_side(words, k * 32, low, l, k) {
-        return false;
-    }
-    if !step_exchange_sides::put_filled_side(words, k * 32 + 16, up, u, k) {
-        return false;
-    }
-    counts[k * 2] = l;
-    counts[k * 2 + 1] = u;
-    true
+    step_exchange_sides::put_filled_side(words, k * 32, low, held.lower, k)?;
+    step_exchange_sides::put_filled_side(words, k * 32 + 16, up, held.upper, k)?;
+    counts[k * 2] = held.lower;
+    counts[k * 2 + 1] = held.upper;
+    Ok(())
 }
 
-// `is_full` where a side has more than 16 limits; else `small` where every number is within ±32767, and then the two loops are in their places.
+// Why a step cannot be taken: a side of a loop would have more than 16 limits, or a number would be beyond ±32767.
 #[derive(Clone, Copy)]
-pub struct Exchanged {
-    pub full: bool,
-    pub small: bool,
+pub enum StepError {
+    TooManyLimits,
+    NumberOutOfRange,
+}
+
+impl From<NumberOutOfRange> for StepError {
+    ghost from_gives = { λ _ e. e ≡ NumberOutOfRange };
+
+    fn from(_e: NumberOutOfRange) -> StepError {
+        StepError::NumberOutOfRange
+    }
 }
 
 // Loops a and a + 1. Both are known before one is put, since each is made of both.
-pub fn exchange_pair(limits: &mut [i16], counts: &mut [usize], a: usize) -> Exchanged
+pub fn exchange_pair(limits: &mut [i16], counts: &mut [usize], a: usize) -> Result<(), StepError>
     requires { PairIn limits.old counts.old a }
     ensures { Exchanges limits.old counts.old a result limits.new counts.new }
 {
@@ -374,29 +369,15 @@ pub fn exchange_pair(limits: &mut [i16], counts: &mut [usize], a: usize) -> Exch
     let mut outer_up = [0i32; LIMITS * ROW_ROOM];
     let outer = fill_outer(limits, counts, a, &mut outer_low, &mut outer_up);
     if is_full(outer) {
-        return Exchanged {
-            full: true,
-            small: false,
-        };
+        return Err(StepError::TooManyLimits);
     }
     let mut inner_low = [0i32; LIMITS * ROW_ROOM];
     let mut inner_up = [0i32; LIMITS * ROW_ROOM];
     let inner = fill_inner(limits, counts, a, &mut inner_low, &mut inner_up);
     if is_full(inner) {
-        return Exchanged {
-            full: true,
-            small: false,
-        };
+        return Err(StepError::TooManyLimits);
     }
-    if !put_filled_loop(limits, counts, a, &outer_low, &outer_up, outer) {
-        return Exchanged {
-            full: false,
-            small: false,
-        };
-    }
-    let small = put_filled_loop(limits, counts, a + 1, &inner_low, &inner_up, inner);
-    Exchanged {
-        full: false,
-        small: small,
-    }
+    put_filled_loop(limits, counts, a, &outer_low, &outer_up, outer)?;
+    put_filled_loop(limits, counts, a + 1, &inner_low, &inner_up, inner)?;
+    Ok(())
 }

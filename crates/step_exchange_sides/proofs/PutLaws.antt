@@ -1,17 +1,17 @@
 -- A limit that is put over wide numbers: two numbers, and the coefficients after them; and read back.
 use mathlib.Core.Path.{◌≡◌, sym, ap, ap₂, ◌∙◌, subst}
 use mathlib.Core.Bool.{true, false}
-use mathlib.Core.List.{List, [], ◌∷◌}
+use mathlib.Core.List.{List, [], ◌∷◌, ◌++◌}
 use Prim.Native.Nat.{ℕ, ◌+◌, ◌*◌, ◌≤◌, ◌<◌}
 use native.Mathlib.Omega.{arith}
-use native.Mathlib.Numerals.{add-one}
 use lib.Dec.{T}
 use lib.IntN.{ℤ, pos, negsuc, nat_abs}
 use lib.Signed.{non_neg}
 use lib.ListN.{length, get_or, take, drop, set, length-set}
-use lib.Seq.{length-take-le, take-suc}
+use lib.Seq.{length-take-le, drop-drop}
+use borrow.Rule.Slice.PartMut.{put_mid}
 use mir.Syntax.{w32}
-use mir.Val.{Fits, SFits, to_z, of_z}
+use mir.Val.{Fits, SFits, to_z}
 use mir.Facts.{to_z_pos}
 use Rattle.lists.specs.Parts.{put}
 use Rattle.lists.proofs.PartLaws.{put-put, set-is-put, set-put, length-put}
@@ -26,18 +26,13 @@ use Rattle.step_limits.proofs.NumberLaws.{fits_below}
 use Rattle.step_limits.proofs.LimitLaws.{same-limit}
 use Rattle.step_exchange_sides.specs.Filling.{WideIn, HeldIn}
 
--- ---- a row, number by number, as the machine reads them
+-- ---- a row
 
-pub row_more : (o row : List ℤ) (at : ℕ) → at + length row ≤ length o → (out : List ℤ) (j : ℕ) → out ≡ put o at (take j row) → j < length row
-    → to_z w32 (of_z w32 (get_or row j (pos 0))) ≡ get_or row j (pos 0)
-    → set out (at + j) (to_z w32 (of_z w32 (get_or row j (pos 0)))) ≡ put o at (take (j + 1) row)
-row_more o row at p out j e h f =
-    let n : length (take j row) ≡ j = length-take-le j row (omega arith) in
-    ap (set out (at + j)) f
-    ∙ ap (λ w. set w (at + j) (get_or row j (pos 0))) e
-    ∙ ap (λ m. set (put o at (take j row)) (at + m) (get_or row j (pos 0))) (sym n)
-    ∙ set-put o at (take j row) (get_or row j (pos 0)) (omega arith)
-    ∙ ap (put o at) (sym (take-suc row j (pos 0) h) ∙ ap (λ m. take m row) (sym (add-one j)))
+-- a part that holds the row
+pub copied_over : (o row part : List ℤ) (at n : ℕ) → n ≡ length row → part ≡ row → put_mid at n o part ≡ put o at row
+unfolding put
+copied_over o row part at n h e = ap₂ (λ (x y : List ℤ). take at o ++ (x ++ y)) e
+    (drop-drop n at o ∙ ap (λ (m : ℕ). drop (at + m) o) h)
 
 -- ---- a limit
 

@@ -1,12 +1,11 @@
 // A side that is filled limit by limit, in wide numbers. n is the number of loops outside.
 #![tactic(auto)]
 
-ghost use Rattle.std.specs.Prelude.{◌≡◌, [], ◌∷◌, ℕ, ◌+◌, ◌*◌, ◌<◌, ◌≤◌, length, take, drop};
-ghost use Rattle.integers.specs.Sign.{eq_z};
+ghost use Rattle.std.specs.Prelude.{◌≡◌, [], ◌∷◌, ℕ, ◌+◌, ◌*◌, ◌<◌, ◌≤◌, length, is_ok};
 ghost use Rattle.lists.specs.Parts.{put};
-ghost use Rattle.lists.specs.Tests.{any, same_by};
+ghost use Rattle.lists.specs.Tests.{any};
 ghost use Rattle.model.specs.Encode.{limit_words};
-ghost use Rattle.model.specs.Grammar.{most_loops, most_limits, row_room};
+ghost use Rattle.model.specs.Grammar.{most_limits, row_room};
 ghost use Rattle.nest_flat.specs.Flat.{limit_at, limits_at};
 ghost use Rattle.step_limits.specs.Makes.{LimitIs};
 ghost use Rattle.step_exchange_sides.specs.Filling.{Adds, WideIn, SameIn, PushIn, HeldIn, PutIn, SidePut};
@@ -14,31 +13,10 @@ ghost use Rattle.model.specs.Limits.{same_limit};
 ghost use Rattle.ticket_loops.specs.LoopReads.{limit_of};
 
 use model::{LIMITS, LOOPS};
+use nest_rows::NumberOutOfRange;
 use ticket_loops::Limit;
 
 // ---- equal limits
-
-fn equal(x: i32, y: i32) -> bool
-    ensures { result ≡ eq_z x y }
-{
-    x == y
-}
-
-// A row, and the numbers from place `at` on.
-fn same_row(xs: [i32; LOOPS], numbers: &[i32], at: usize, n: usize) -> bool
-    requires { (n ≤ most_loops) × (at + n ≤ length numbers.now) }
-    ensures { result ≡ same_by eq_z (take n xs) (take n (drop at numbers.now)) }
-{
-    let mut k = 0;
-    while k < n {
-        let x = xs[k];
-        if !equal(x, numbers[at + k]) {
-            return false;
-        }
-        k += 1;
-    }
-    true
-}
 
 // Limit k of a side under way.
 fn same_limit(x: Limit, filling: &[i32], k: usize, n: usize) -> bool
@@ -46,58 +24,41 @@ fn same_limit(x: Limit, filling: &[i32], k: usize, n: usize) -> bool
     ensures { result ≡ same_limit (limit_of n x) (limit_at filling.now n k) }
 {
     let at = k * 8;
-    if !equal(x.multiplier as i32, filling[at]) {
+    if x.multiplier as i32 != filling[at] {
         return false;
     }
-    if !equal(x.constant, filling[at + 1]) {
+    if x.constant != filling[at + 1] {
         return false;
     }
-    let xs = x.coefficients;
-    same_row(xs, filling, at + 2, n)
+    x.coefficients[..n] == filling[at + 2..at + 2 + n]
 }
 
 fn has_limit(filling: &[i32], count: usize, x: Limit, n: usize) -> bool
     requires { PushIn n filling.now count x × (count ≤ most_limits) }
     ensures { result ≡ any (same_limit (limit_of n x)) (limits_at filling.now n 0 count) }
 {
-    let mut k = 0;
-    while k < count {
+    for k in 0..count {
         if same_limit(x, filling, k, n) {
             return true;
         }
-        k += 1;
     }
     false
 }
 
 // ---- sides that are filled limit by limit
 
-// Writes a row from place `at` on.
-fn fill_row(numbers: &mut [i32], at: usize, row: &[i32])
-    requires { at + length row.now ≤ length numbers.old }
-    ensures { numbers.new ≡ put numbers.old at row.now }
-{
-    let mut k = 0;
-    while k < row.len() {
-        numbers[at + k] = row[k];
-        k += 1;
-    }
-}
-
 fn fill_limit(filling: &mut [i32], k: usize, x: Limit, n: usize)
     requires { WideIn n x × (length filling.old ≡ most_limits * row_room) × (k < most_limits) }
     ensures { filling.new ≡ put filling.old (k * 8) (limit_words (limit_of n x)) }
 {
     let at = k * 8;
-    let multiplier = x.multiplier as i32;
-    let constant = x.constant;
-    let coefficients = x.coefficients;
-    filling[at] = multiplier;
-    filling[at + 1] = constant;
-    fill_row(filling, at + 2, &coefficients[..n]);
+    filling[at] = x.multiplier as i32;
+    filling[at + 1] = x.constant;
+    filling[at + 2..at + 2 + n].copy_from_slice(&x.coefficients[..n]);
 }
 
-// A limit more, unless it is there; 17 where a seventeenth comes, and from then on.
+// A limit more, unless it is there; 17 where a seventeenth comes, and from then on. No Result: `Adds` and `Holds` (specs/Filling) speak of the
+// count of a side that goes on being filled, 17 included.
 pub fn push_limit(filling: &mut [i32], count: usize, x: Limit, n: usize) -> usize
     requires { PushIn n filling.old count x }
     ensures { Adds n filling.old count (limit_of n x ∷ []) filling.new result }
@@ -137,18 +98,20 @@ fn limit_of(filling: &[i32], k: usize) -> Limit
     }
 }
 
-// The limits of a side, from limit j on; false as soon as one has a number that is not within ±32767.
-pub fn put_filled_side(words: &mut [i16], j: usize, filling: &[i32], count: usize, n: usize) -> bool
+// The limits of a side, from limit j on, as far as the first that has a number beyond ±32767.
+pub fn put_filled_side(
+    words: &mut [i16],
+    j: usize,
+    filling: &[i32],
+    count: usize,
+    n: usize,
+) -> Result<(), NumberOutOfRange>
     requires { PutIn (length words.old) j filling.now count n }
-    ensures { SidePut words.old j (limits_at filling.now n 0 count) result words.new }
+    ensures { SidePut words.old j (limits_at filling.now n 0 count) (is_ok result) words.new }
 {
-    let mut k = 0;
-    while k < count {
+    for k in 0..count {
         let x = limit_of(filling, k);
-        if !step_limits::put_limit(words, j + k, x, n) {
-            return false;
-        }
-        k += 1;
+        step_limits::put_limit(words, j + k, x, n)?;
     }
-    true
+    Ok(())
 }

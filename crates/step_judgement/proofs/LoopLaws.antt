@@ -17,11 +17,10 @@ use Rattle.model.specs.Ranges.{StepThere, StepsThere}
 use Rattle.model.specs.Steps.{vectors_after_all, some_points_back}
 use Rattle.model.specs.Judge.{stages, judge_steps, directions_of}
 use Rattle.model.proofs.Verdict.SameVectorsLaws.{vectors_after-same, judge_steps-same}
-use Rattle.ticket_refusals.proofs.StatusLaws.{not-fine}
+use Rattle.ticket_refusals.specs.Refusals.{refusal}
 use Rattle.ticket_refusals.specs.declared.Refusal.{Refusal}
 use Rattle.ticket_refusals.specs.declared.Refusal.TheVariants.{DependenceReversed}
-use Rattle.ticket_refusals.specs.declared.Status.{Status}
-use Rattle.ticket_refusals.specs.declared.Status.TheVariants.{Fine, Refused}
+use Rattle.std.specs.Prelude.{Result, Ok, Err}
 use Rattle.step_kinds.specs.Kinds.{step_of}
 use Rattle.ticket_steps.specs.Steps.{steps_of, NumberedFrom, StepsIn}
 use Rattle.ticket_steps.specs.declared.Numbered.{Numbered}
@@ -32,8 +31,7 @@ use Rattle.nest_points.proofs.NestLaws.{depth_is}
 use Rattle.step_directions.specs.Sets.{vectors_of, After}
 use Rattle.step_directions.specs.declared.DirectionSet.{DirectionSet}
 use Rattle.ticket_decoding.specs.Ticket.{ticket_on}
-use Rattle.step_judgement.specs.Judgement.{unless, judged_as, Taken, JudgeIn, JudgesSteps}
-use Rattle.step_judgement.specs.declared.Judged.{Judged}
+use Rattle.step_judgement.specs.Judgement.{unless, Taken, JudgeIn, JudgesSteps}
 use Rattle.step_judgement.proofs.StepLaws.{judged-back, judged-step, level-goes-on}
 
 -- ---- the step at a place
@@ -102,16 +100,13 @@ module _ (S : Steps) (j : StepsIn S) (P : FlatNest) (s₀ : DirectionSet) (Q : F
     vectors-next = members-trans (carried_same (drop (suc k) (steps_of S)) a.vectors)
         (subst (λ ts. SameMembers (vectors_after_all ts (vectors_of s)) (vectors_after_all (steps_of S) (vectors_of s₀))) next-is v.vectors)
 
-    pub stops-back : b ≡ true → (z : Status) → z ≡ Refused (DependenceReversed x.number) → (M : Model.Nest)
-        → judged_as z M ≡ judge_steps 1 (steps_of S) (vectors_of s₀) (nest_of P)
-    stops-back e z y M =
-        ap (λ (u : Status). judged_as u M) y
-        ∙ sym (so-next ∙ judged-back Q v.flat-nest s v.level x.step step-there q a b p x.number (drop (suc k) (steps_of S)) e)
+    pub stops-back : b ≡ true → refusal {A = Model.Nest} (DependenceReversed x.number) ≡ judge_steps 1 (steps_of S) (vectors_of s₀) (nest_of P)
+    stops-back e = sym (so-next ∙ judged-back Q v.flat-nest s v.level x.step step-there q a b p x.number (drop (suc k) (steps_of S)) e)
 
     abbrev depth : ℕ
     depth = depth_after (step_of x.step) Q.depth
 
-    module _ (e : b ≡ false) (z : Status) (l : List ℤ) (c : List ℕ) (w : List ℤ) (g : Taken (stages (step_of x.step)) depth x.number Q z l c w)
+    module _ (e : b ≡ false) (z : Result (Unit {0}) Refusal) (l : List ℤ) (c : List ℕ) (w : List ℤ) (g : Taken (stages (step_of x.step)) depth x.number Q z l c w)
       where
         abbrev R : ℕ → FlatNest
         R m = moved Q m l c w
@@ -122,16 +117,13 @@ module _ (S : Steps) (j : StepsIn S) (P : FlatNest) (s₀ : DirectionSet) (Q : F
             ∙ judged-step Q v.flat-nest s v.level x.step step-there q a b p x.number (drop (suc k) (steps_of S)) e depth z l c w g
             ∙ ap (λ n. unless z (judge_steps (suc n) (drop (suc k) (steps_of S)) (vectors_of q) (nest_of (R depth)))) number_is
 
-        pub stops : (y : Refusal) → z ≡ Refused y → (u : Status) → u ≡ Refused y → (M : Model.Nest)
-            → judged_as u M ≡ judge_steps 1 (steps_of S) (vectors_of s₀) (nest_of P)
-        stops y f u i M =
-            ap (λ (t : Status). judged_as t M) i
-            ∙ sym (goes_on ∙ ap (λ (t : Status). unless t (judge_steps (suc (suc k)) (drop (suc k) (steps_of S)) (vectors_of q) (nest_of (R depth)))) f)
+        pub stops : (y : Refusal) → z ≡ Err y → refusal {A = Model.Nest} y ≡ judge_steps 1 (steps_of S) (vectors_of s₀) (nest_of P)
+        stops y f = sym (goes_on ∙ ap (λ t. unless t (judge_steps (suc (suc k)) (drop (suc k) (steps_of S)) (vectors_of q) (nest_of (R depth)))) f)
 
-        pub one_more : z ≡ Fine → (m : ℕ) → m ≡ depth → SoFar S P s₀ (R m) q (k + 1)
+        pub one_more : z ≡ Ok tt → (m : ℕ) → m ≡ depth → SoFar S P s₀ (R m) q (k + 1)
         one_more f m y = subst (λ n. SoFar S P s₀ (R n) q (k + 1)) (sym y) (rw (add-one k) (record {
           few = omega arith;
-          so = goes_on ∙ ap (λ (t : Status). unless t (judge_steps (suc (suc k)) (drop (suc k) (steps_of S)) (vectors_of q) (nest_of (R depth)))) f;
+          so = goes_on ∙ ap (λ t. unless t (judge_steps (suc (suc k)) (drop (suc k) (steps_of S)) (vectors_of q) (nest_of (R depth)))) f;
           flat-nest = g.flat-nest f;
           level = level-goes-on Q v.flat-nest s v.level x.step step-there q a;
           vectors = vectors-next;
@@ -168,16 +160,16 @@ module _ (P : FlatNest) (S : Steps) (s₀ : DirectionSet) (i : JudgeIn P S s₀)
   by-directions : judge_steps 1 (steps_of S) (vectors_of s₀) (nest_of P) ≡ judge_steps 1 (steps_of S) (directions_of (nest_of P)) (nest_of P)
   by-directions = judge_steps-same 1 (steps_of S) (nest_of P) i.vectors
 
-  pub steps-stop : (r : Judged) (l w : List ℤ) (y : Refusal) → r.status ≡ Refused y
-      → judged_as r.status (nest_of (flat_nest r.header l w)) ≡ judge_steps 1 (steps_of S) (vectors_of s₀) (nest_of P) → JudgesSteps P S r l w
-  steps-stop r l w y e h = record { same = h ∙ by-directions; flat-nest = λ f. not-fine r.status e f; directions = λ f. not-fine r.status e f }
+  pub steps-stop : (l w : List ℤ) (y : Refusal) → refusal {A = Model.Nest} y ≡ judge_steps 1 (steps_of S) (vectors_of s₀) (nest_of P)
+      → JudgesSteps P S (Err y) l w
+  steps-stop l w y h = record { same = h ∙ by-directions; flat-nest = tt; directions = tt }
 
   pub steps-pass : (O : Header) (l w : List ℤ) (s : DirectionSet) (k : ℕ) → SoFar S P s₀ (flat_nest O l w) s k → S.count ≤ k
-      → JudgesSteps P S (record { status = Fine; header = O; directions = s }) l w
+      → JudgesSteps P S (Ok (record { header = O; directions = s })) l w
   steps-pass O l w s k v h = record {
     same = sym (all-judged S P s₀ (flat_nest O l w) s k v h) ∙ by-directions;
-    flat-nest = λ _. v.flat-nest;
-    directions = λ _. record {
+    flat-nest = v.flat-nest;
+    directions = record {
       level = v.level;
       vectors = members-trans (all-carried S P s₀ (flat_nest O l w) s k v h) (carried_same (steps_of S) i.vectors);
     };

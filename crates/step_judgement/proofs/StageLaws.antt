@@ -1,5 +1,6 @@
 -- The stages of a step one after another: those that are left give what all give.
 use mathlib.Core.Path.{◌≡◌, refl, sym, ◌∙◌, ap, subst}
+use mathlib.Core.Bool.{true≢false}
 use mathlib.Core.List.{List, [], ◌∷◌}
 use Prim.Native.Nat.{ℕ, suc, ◌+◌, ◌≤◌, ◌<◌}
 use native.Mathlib.Omega.{arith}
@@ -15,12 +16,15 @@ use Rattle.model.specs.Ranges.{StepsThere}
 use Rattle.model.specs.Limits.{nest_after, nest_after_all}
 use Rattle.model.specs.Judge.{few_limits, small_numbers, stages, judge_stages}
 use Rattle.model.proofs.Verdict.StageLaws.{depth_after_all, stages-depth, stages-there}
-use Rattle.ticket_refusals.proofs.StatusLaws.{not-fine}
 use Rattle.ticket_refusals.specs.declared.Refusal.{Refusal}
-use Rattle.ticket_refusals.specs.declared.Status.{Status}
-use Rattle.ticket_refusals.specs.declared.Status.TheVariants.{Fine, Refused}
+use Rattle.std.specs.Prelude.{Result, Ok, Err, is_ok}
+use Rattle.ticket_refusals.specs.Refusals.{answer_of}
 use Rattle.nest_flat.specs.FlatNests.{FlatNest, nest_of, FlatNestIn, moved}
-use Rattle.step_judgement.specs.Judgement.{judged_as, TakeIn, Taken}
+use Rattle.step_judgement.specs.Judgement.{TakeIn, Taken}
+
+-- an error is no value
+pub not-ok : {A B : Type 0} {x : A} (y : Refusal) → Err y ≡ Ok x → B
+not-ok y e = absurd (true≢false (sym (ap is_ok e)))
 
 -- ---- the first stage of some, and the others
 
@@ -66,23 +70,23 @@ module _ (ts : List Model.Step) (m k : ℕ) (P : FlatNest) (j : ℕ) (Q : FlatNe
   pub stage-in : TakeIn Q t
   stage-in = record { flat-nest = u.flat-nest; there = at_next.there.0 }
 
-  module _ (r : Status) (l : List ℤ) (c : List ℕ) (w : List ℤ) (g : Taken (t ∷ []) (depth_after t Q.depth) k Q r l c w) where
-    answer : judge_stages k ts (nest_of P) ≡ judged_as r (tt {0}) >> judge_stages k (drop (suc j) ts) (nest_after t (nest_of Q))
+  module _ (r : Result (Unit {0}) Refusal) (l : List ℤ) (c : List ℕ) (w : List ℤ) (g : Taken (t ∷ []) (depth_after t Q.depth) k Q r l c w) where
+    answer : judge_stages k ts (nest_of P) ≡ answer_of r >> judge_stages k (drop (suc j) ts) (nest_after t (nest_of Q))
     answer = at_next.so ∙ first_of k t (drop (suc j) ts) (nest_of Q)
         ∙ ap (λ x. x >> judge_stages k (drop (suc j) ts) (nest_after t (nest_of Q))) (sym g.same)
 
-    pub stage-stops : (y : Refusal) → r ≡ Refused y → (l' : List ℤ) (c' : List ℕ) (w' : List ℤ) → Taken ts m k P (Refused y) l' c' w'
+    pub stage-stops : (y : Refusal) → r ≡ Err y → (l' : List ℤ) (c' : List ℕ) (w' : List ℤ) → Taken ts m k P (Err y) l' c' w'
     unfolding ◌>>◌ ◌>>=◌
     stage-stops y f l' c' w' = record {
-      same = sym (answer ∙ ap (λ x. judged_as x (tt {0}) >> judge_stages k (drop (suc j) ts) (nest_after t (nest_of Q))) f);
-      nest = λ x. not-fine (Refused y) refl x;
-      flat-nest = λ x. not-fine (Refused y) refl x;
+      same = sym (answer ∙ ap (λ x. answer_of x >> judge_stages k (drop (suc j) ts) (nest_after t (nest_of Q))) f);
+      nest = λ x. not-ok y x;
+      flat-nest = λ x. not-ok y x;
     }
 
-    pub stage-passes : r ≡ Fine → (n : ℕ) → n ≡ depth_after t Q.depth → Underway ts m k P (drop (j + 1) ts) (moved Q n l c w)
+    pub stage-passes : r ≡ Ok tt → (n : ℕ) → n ≡ depth_after t Q.depth → Underway ts m k P (drop (j + 1) ts) (moved Q n l c w)
     unfolding ◌>>◌ ◌>>=◌ nest_after_all depth_after_all
     stage-passes f n q = subst (λ d. Underway ts m k P (drop (j + 1) ts) (moved Q d l c w)) (sym q) (rw (add-one j) (record {
-      so = answer ∙ ap (λ x. judged_as x (tt {0}) >> judge_stages k (drop (suc j) ts) (nest_after t (nest_of Q))) f
+      so = answer ∙ ap (λ x. answer_of x >> judge_stages k (drop (suc j) ts) (nest_after t (nest_of Q))) f
           ∙ ap (judge_stages k (drop (suc j) ts)) (sym (g.nest f));
       made = at_next.made ∙ ap (nest_after_all (drop (suc j) ts)) (sym (g.nest f));
       deep = at_next.deep;
@@ -91,7 +95,7 @@ module _ (ts : List Model.Step) (m k : ℕ) (P : FlatNest) (j : ℕ) (Q : FlatNe
     }))
 
 pub stages-pass : (ts : List Model.Step) (m k : ℕ) (P : FlatNest) (j n : ℕ) (d : ℕ) (l : List ℤ) (c : List ℕ) (w : List ℤ)
-    → Underway ts m k P (drop j ts) (moved P d l c w) → j ≤ length ts → n ≡ length ts → n ≤ j → Taken ts m k P Fine l c w
+    → Underway ts m k P (drop j ts) (moved P d l c w) → j ≤ length ts → n ≡ length ts → n ≤ j → Taken ts m k P (Ok tt) l c w
 unfolding judge_stages nest_after_all depth_after_all
 stages-pass ts m k P j n d l c w u h e g =
     let q : j ≡ length ts = omega arith in

@@ -1,7 +1,7 @@
 -- One step judged: the vectors after it; a stage of it on the slices of a flat nest, with the tests of 11 and 12; the step as the model judges it.
 -- Its stages one after another are in `StageLaws`, what the steps before it left is in `LoopLaws`.
 use mathlib.Core.Path.{◌≡◌, refl, sym, ◌∙◌, ap, subst}
-use mathlib.Core.Bool.{Bool, true, false, not, ◌&&◌}
+use mathlib.Core.Bool.{Bool, true, false, ◌&&◌}
 use mathlib.Core.List.{List, [], ◌∷◌, ◌++◌, map}
 use Prim.Native.Nat.{ℕ, suc, ◌*◌, ◌≤◌}
 use native.Mathlib.Omega.{arith}
@@ -20,11 +20,10 @@ use Rattle.model.specs.Limits.{loops_after, access_after, nest_after, nest_after
 use Rattle.model.specs.Judge.{few_limits, small_loop, small_access, small_numbers, stages, judge_stages, judge_steps}
 use Rattle.model.proofs.Verdict.StageLaws.{after-stages}
 use Rattle.model.proofs.Verdict.SameVectorsLaws.{points_back-same, judge_steps-same}
-use Rattle.ticket_refusals.specs.Refusals.{refusal}
-use Rattle.ticket_refusals.proofs.StatusLaws.{not-fine}
-use Rattle.ticket_refusals.specs.declared.Refusal.TheVariants.{DependenceReversed, TooManyLimits, NumberOutOfRange}
-use Rattle.ticket_refusals.specs.declared.Status.{Status}
-use Rattle.ticket_refusals.specs.declared.Status.TheVariants.{Fine, Refused}
+use Rattle.ticket_refusals.specs.Refusals.{refusal, answer_of}
+use Rattle.ticket_refusals.specs.declared.Refusal.TheVariants.{DependenceReversed}
+use Rattle.ticket_refusals.specs.declared.Refusal.{Refusal}
+use Rattle.std.specs.Prelude.{Result, Ok, Err, is_ok}
 use Rattle.nest_flat.specs.Flat.{loops_from}
 use Rattle.nest_flat.specs.Layout.{accesses_from}
 use Rattle.nest_flat.specs.FlatNests.{FlatNest, extents_in, accessed_in, words_in, nest_of, FlatNestIn, moved}
@@ -35,11 +34,13 @@ use Rattle.step_kinds.specs.declared.Step.{Step}
 use Rattle.step_directions.specs.Sets.{vectors_of, DirectionIn, After}
 use Rattle.step_directions.specs.declared.DirectionSet.{DirectionSet}
 use Rattle.step_directions.proofs.AfterLaws.{few-after}
-use Rattle.step_loops.specs.declared.Stepped.{Stepped}
-use Rattle.step_subscripts.specs.After.{AccessesAfter}
+use Rattle.step_exchange.specs.declared.StepError.{StepError}
+use Rattle.step_exchange.specs.Answers.{step_answer}
+use Rattle.step_subscripts.specs.After.{accesses_after, AccessesAfter}
 use Rattle.step_subscripts.specs.Relaid.{Relaid}
 use Rattle.step_subscripts.proofs.FlatNestLaws.{nest-after, small-nest, flat-nest-after, accesses-moved, accesses-held}
-use Rattle.step_judgement.specs.Judgement.{unless, judged_as, stage_status, StageTaken, TakeIn, Taken}
+use Rattle.step_judgement.proofs.StageLaws.{not-ok}
+use Rattle.step_judgement.specs.Judgement.{unless, stage_refusal, stage_answer, StageTaken, TakeIn, Taken}
 
 -- ---- the vectors after a step
 
@@ -48,10 +49,6 @@ pub vectors-are : (s : DirectionSet) (t : Step) → DirectionIn s t → (r : Dir
 vectors-are s t i r a = (a, subst (λ m. m ≤ 6) (sym a.depth) (few-after (step_of t) s.depth i.few i.there))
 
 -- ---- a stage on a flat nest
-
-not_is : (b x : Bool) → x ≡ not b → b ≡ not x
-not_is true x e = sym (ap not e)
-not_is false x e = sym (ap not e)
 
 relaid : (P : FlatNest) (d : ℕ) (l : List ℤ) (c : List ℕ) (w : List ℤ) → Relaid P (moved P d l c w)
 relaid P d l c w = record {
@@ -77,9 +74,9 @@ module _ (P : FlatNest) (t : Stage) (i : TakeIn P (stage_of t)) where
   abbrev h : FlatNestIn P
   h = i.flat-nest
 
-  module _ (k : ℕ) (z : Status) (l : List ℤ) (c : List ℕ) (w : List ℤ)
+  module _ (k : ℕ) (z : Result (Unit {0}) Refusal) (l : List ℤ) (c : List ℕ) (w : List ℤ)
       (g : StageTaken t k P.limits P.counts (words_in P) (accessed_in P) (extents_in P) P.depth z l c w) where
-    abbrev r : Stepped
+    abbrev r : Result (Unit {0}) StepError
     r = g.stepped
 
     -- what stands behind the words in use is not lent
@@ -96,49 +93,53 @@ module _ (P : FlatNest) (t : Stage) (i : TakeIn P (stage_of t)) where
     abbrev Q : FlatNest
     Q = moved P (depth_after (stage_of t) P.depth) l c words
 
-    few-are : few_limits (nest_after (stage_of t) (nest_of P)).loops ≡ not r.full
-    unfolding nest_after nest_of
-    few-are = not_is (few_limits (nest_after (stage_of t) (nest_of P)).loops) r.full g.takes.full
+    abbrev F : Bool
+    F = few_limits (loops_after (stage_of t) (loops_from P.limits P.counts 0 P.depth))
 
-    small-are : r.full ≡ false → small_numbers (nest_after (stage_of t) (nest_of P)) ≡ r.small
-    small-are f = small-nest P h (stage_of t)
+    abbrev N : Bool
+    N = all small_loop (loops_after (stage_of t) (loops_from P.limits P.counts 0 P.depth)) && all small_access
+        (accesses_after (stage_of t) (words_in P) (accessed_in P) (extents_in P) P.depth (length (accessed_in P)))
+
+    few-are : few_limits (nest_after (stage_of t) (nest_of P)).loops ≡ F
+    unfolding nest_after nest_of
+    few-are = refl
+
+    small-are : small_numbers (nest_after (stage_of t) (nest_of P)) ≡ N
+    small-are = small-nest P h (stage_of t)
         ∙ ap (λ n. all small_loop (loops_after (stage_of t) (loops_from P.limits P.counts 0 P.depth)) && all small_access
         (map (access_after (stage_of t)) (accesses_from (words_in P) (accessed_in P) (extents_in P) P.depth 0 n))) (sym (accessed-count P h))
-        ∙ sym (g.takes.small f)
 
-    module _ (f : r.full ≡ false) (n : r.small ≡ true) where
+    module _ (f : is_ok r ≡ true) where
       accesses : AccessesAfter (stage_of t) (words_in P) (accessed_in P) (extents_in P) P.depth (words_in Q) true
-      accesses = subst (λ v. AccessesAfter (stage_of t) (words_in P) (accessed_in P) (extents_in P) P.depth v true) (sym part) (g.takes.accesses f n)
+      accesses = subst (λ v. AccessesAfter (stage_of t) (words_in P) (accessed_in P) (extents_in P) P.depth v true) (sym part) (g.takes.accesses f)
 
       whole : nest_of Q ≡ nest_after (stage_of t) (nest_of P)
-      whole = nest-after P Q (relaid P Q.depth l c words) (stage_of t) (accesses-moved P h Q (stage_of t) refl accesses) h (g.takes.loops f n)
+      whole = nest-after P Q (relaid P Q.depth l c words) (stage_of t) (accesses-moved P h Q (stage_of t) refl accesses) h (g.takes.loops f)
 
       flat-nest-is : FlatNestIn Q
-      flat-nest-is = flat-nest-after P Q h (relaid P Q.depth l c words) (g.takes.nest f n) (some_after (stage_of t) P.depth h.some)
+      flat-nest-is = flat-nest-after P Q h (relaid P Q.depth l c words) (g.takes.nest f) (some_after (stage_of t) P.depth h.some)
           (accesses-held P h Q (stage_of t) refl accesses) stage-words
 
     -- what the model answers, by the two tests
-    by : (f n : Bool) → r.full ≡ f → r.small ≡ n → judged_as (stage_status f n k) tt ≡ judge_stages k (stage_of t ∷ []) (nest_of P)
+    by : (f n : Bool) → F ≡ f → N ≡ n → answer_of (stage_answer (step_answer f n) k) ≡ judge_stages k (stage_of t ∷ []) (nest_of P)
     unfolding judge_stages require ◌>>◌ ◌>>=◌
-    by true n ef en = rw (few-are ∙ ap not ef)
-    by false false ef en = rw (few-are ∙ ap not ef, small-are ef ∙ en)
-    by false true ef en = rw (few-are ∙ ap not ef, small-are ef ∙ en)
+    by false n ef en = rw (few-are ∙ ef)
+    by true false ef en = rw (few-are ∙ ef, small-are ∙ en)
+    by true true ef en = rw (few-are ∙ ef, small-are ∙ en)
 
-    -- where neither test fails
-    passes : z ≡ Fine → (r.full ≡ false) × (r.small ≡ true)
-    passes y = go r.full r.small refl refl (sym g.status ∙ y)
+    passes : z ≡ Ok tt → is_ok r ≡ true
+    passes y = go r (sym g.answered ∙ y)
       where
-        go : (f n : Bool) → r.full ≡ f → r.small ≡ n → stage_status f n k ≡ Fine → (r.full ≡ false) × (r.small ≡ true)
-        go true n ef en x = not-fine (Refused (TooManyLimits k)) refl x
-        go false false ef en x = not-fine (Refused (NumberOutOfRange k)) refl x
-        go false true ef en x = (ef, en)
+        go : (x : Result (Unit {0}) StepError) → stage_answer x k ≡ Ok tt → is_ok x ≡ true
+        go (Ok u) e = refl
+        go (Err d) e = not-ok (stage_refusal d k) e
 
     pub stage-taken : Taken (stage_of t ∷ []) (depth_after (stage_of t) P.depth) k P z l c words
     unfolding nest_after_all
     stage-taken = record {
-      same = ap (λ (x : Status). judged_as x tt) g.status ∙ by r.full r.small refl refl;
-      nest = λ y. whole (passes y).0 (passes y).1;
-      flat-nest = λ y. flat-nest-is (passes y).0 (passes y).1;
+      same = ap answer_of (g.answered ∙ ap (λ x. stage_answer x k) g.takes.answered) ∙ by F N refl refl;
+      nest = λ y. whole (passes y);
+      flat-nest = λ y. flat-nest-is (passes y);
     }
 
 -- ---- one step
@@ -165,20 +166,20 @@ module _ (P : FlatNest) (h : FlatNestIn P) (s : DirectionSet) (level : s.depth �
       pub judged-back : b ≡ true → judge_steps k (step_of t ∷ ts) (vectors_of s) (nest_of P) ≡ refusal (DependenceReversed k)
       judged-back e = stop-at-10 k (step_of t) ts (vectors_of s) (nest_of P) (back_is ∙ e)
 
-      module _ (e : b ≡ false) (m : ℕ) (z : Status) (l : List ℤ) (c : List ℕ) (w : List ℤ) (g : Taken (stages (step_of t)) m k P z l c w) where
+      module _ (e : b ≡ false) (m : ℕ) (z : Result (Unit {0}) Refusal) (l : List ℤ) (c : List ℕ) (w : List ℤ) (g : Taken (stages (step_of t)) m k P z l c w) where
         rest : Model.Nest → Answer Model.Nest
         rest N = judge_steps (suc k) ts (vectors_after (step_of t) (vectors_of s)) N
 
-        by-stages : (x : Status) → judged_as x tt ≡ judge_stages k (stages (step_of t)) (nest_of P)
-            → (x ≡ Fine → nest_of (moved P m l c w) ≡ nest_after_all (stages (step_of t)) (nest_of P))
+        by-stages : (x : Result (Unit {0}) Refusal) → answer_of x ≡ judge_stages k (stages (step_of t)) (nest_of P)
+            → (x ≡ Ok tt → nest_of (moved P m l c w) ≡ nest_after_all (stages (step_of t)) (nest_of P))
             → (judge_stages k (stages (step_of t)) (nest_of P) >> rest (nest_after (step_of t) (nest_of P))) ≡ unless x
             (judge_steps (suc k) ts (vectors_of q) (nest_of (moved P m l c w)))
         unfolding rest ◌>>◌ ◌>>=◌
-        by-stages Fine u f =
+        by-stages (Ok v) u f =
             ap (λ a. a >> rest (nest_after (step_of t) (nest_of P))) (sym u)
             ∙ ap rest (after-stages (step_of t) (nest_of P) ∙ sym (f refl))
             ∙ sym (judge_steps-same (suc k) ts (nest_of (moved P m l c w)) a.vectors)
-        by-stages (Refused y) u f = ap (λ a. a >> rest (nest_after (step_of t) (nest_of P))) (sym u)
+        by-stages (Err y) u f = ap (λ a. a >> rest (nest_after (step_of t) (nest_of P))) (sym u)
 
         pub judged-step : judge_steps k (step_of t ∷ ts) (vectors_of s) (nest_of P) ≡ unless z
             (judge_steps (suc k) ts (vectors_of q) (nest_of (moved P m l c w)))

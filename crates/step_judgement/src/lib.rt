@@ -3,39 +3,28 @@
 #![tactic(auto)]
 
 ghost use Rattle.std.specs.Prelude.{◌≡◌, ◌≤◌};
-ghost use Rattle.ticket_refusals.specs.declared.Status.TheVariants.{Refused};
 ghost use Rattle.model.specs.Grammar.{depth_after};
 ghost use Rattle.model.specs.Judge.{stages};
 ghost use Rattle.step_kinds.specs.Kinds.{step_of};
 ghost use Rattle.step_directions.specs.Sets.{DirectionIn, After};
-ghost use Rattle.nest_flat.specs.FlatNests.{flat_nest, FlatNestIn};
+ghost use Rattle.nest_flat.specs.FlatNests.{flat, flat_nest, FlatNestIn};
 ghost use Rattle.step_application.specs.Taking.{TakingIn};
-ghost use Rattle.step_judgement.specs.Judgement.{StageTaken, flat_nest_at, TakeIn, Taken, SurveyedNew, JudgeIn, JudgesSteps, Judges, stage_status};
+ghost use Rattle.step_judgement.specs.Judgement.{StageTaken, flat_nest_at, TakeIn, Taken, SurveyedNew, JudgeIn, JudgesSteps, Judges, stage_refusal};
 
 use model::{ACCESS_ROOM, ARRAY_ROOM};
-use nest_flat::Header;
-use nest_points::SpaceCheck;
+use nest_flat::{FlatNest, Header};
+use nest_points::SpaceError;
 use step_directions::DirectionSet;
+use step_exchange::StepError;
 use step_kinds::{Stage, Step};
-use ticket_refusals::{Refusal, Status};
+use ticket_refusals::Refusal;
 use ticket_steps::Steps;
 
-// The new nest and its directions where the status is Fine; its limits and the words of its accesses stand where the old ones stood.
+// The new nest and its directions; its limits and the words of its accesses stand where the old ones stood.
 #[derive(Clone, Copy)]
 pub struct Judged {
-    pub status: Status,
     pub header: Header,
     pub directions: DirectionSet,
-}
-
-fn refused_steps(r: Refusal, header: Header, set: DirectionSet) -> Judged
-    ensures { result.status ≡ Refused r }
-{
-    Judged {
-        status: Status::Refused(r),
-        header: header,
-        directions: set,
-    }
 }
 
 // ---- one step
@@ -51,17 +40,14 @@ fn directions_after(set: DirectionSet, step: Step) -> DirectionSet
     step_directions::set_after(set, step)
 }
 
-// Refusals 11 and 12 in this order.
-fn stage_status(full: bool, small: bool, number: usize) -> Status
-    ensures { result ≡ stage_status full small number }
+// Refusal 11 or 12 of step `number`.
+fn stage_refusal(e: StepError, number: usize) -> Refusal
+    ensures { result ≡ stage_refusal e number }
 {
-    if full {
-        return Status::Refused(Refusal::TooManyLimits(number));
+    match e {
+        StepError::TooManyLimits => Refusal::TooManyLimits(number),
+        StepError::NumberOutOfRange => Refusal::NumberOutOfRange(number),
     }
-    if small {
-        return Status::Fine;
-    }
-    Status::Refused(Refusal::NumberOutOfRange(number))
 }
 
 // Takes a stage of step `number` on the slices of a flat nest.
@@ -74,15 +60,15 @@ fn take_stage(
     depth: usize,
     stage: Stage,
     number: usize,
-) -> Status
+) -> Result<(), Refusal>
     requires { TakingIn limits.old counts.old words.old accessed.now extents.now depth stage }
     ensures { StageTaken stage number limits.old counts.old words.old accessed.now
         extents.now depth result limits.new counts.new words.new }
 {
-    let taken = step_application::apply_stage(
-        limits, counts, words, accessed, extents, depth, stage,
-    );
-    stage_status(taken.full, taken.small, number)
+    match step_application::apply_stage(limits, counts, words, accessed, extents, depth, stage) {
+        Ok(()) => Ok(()),
+        Err(e) => Err(stage_refusal(e, number)),
+    }
 }
 
 // Takes step `number` stage by stage on a flat nest that has by now these loops: the header tells the parts in use.
@@ -94,22 +80,20 @@ fn take(
     depth: usize,
     step: Step,
     number: usize,
-) -> Status
+) -> Result<(), Refusal>
     requires { TakeIn (flat_nest_at header depth limits.old counts.old words.old) (step_of step) }
     ensures { Taken (stages (step_of step)) (depth_after (step_of step) depth) number
         (flat_nest_at header depth limits.old counts.old words.old) result limits.new counts.new
         words.new }
 {
+    let accesses = header.accesses;
+    let arrays = header.arrays;
     let accessed = header.accessed;
     let extents = header.extents;
-    let count = step_kinds::stage_count(step);
     let mut loops = depth;
-    let mut j = 0;
-    while j < count {
-        let accesses = header.accesses;
-        let arrays = header.arrays;
+    for j in 0..step_kinds::stage_count(step) {
         let stage = step_kinds::stage_at(step, j);
-        let status = take_stage(
+        take_stage(
             limits,
             counts,
             &mut words[..accesses * ACCESS_ROOM],
@@ -118,15 +102,10 @@ fn take(
             loops,
             stage,
             number,
-        );
-        match status {
-            Status::Fine => {}
-            Status::Refused(r) => return Status::Refused(r),
-        }
+        )?;
         loops = step_kinds::depth_after_stage(stage, loops);
-        j += 1;
     }
-    Status::Fine
+    Ok(())
 }
 
 // ---- all steps
@@ -138,7 +117,7 @@ fn judge_steps(
     words: &mut [i16],
     steps: Steps,
     set: DirectionSet,
-) -> Judged
+) -> Result<Judged, Refusal>
     requires { JudgeIn (flat_nest header limits.old words.old) steps set }
     ensures { JudgesSteps (flat_nest header limits.old words.old) steps result limits.new words.new }
 {
@@ -147,61 +126,42 @@ fn judge_steps(
     let mut counts = header.counts;
     let mut depth = header.depth;
     let mut vectors = set;
-    let mut k = 0;
-    while k < count {
+    for k in 0..count {
         let numbered = all[k];
         let number = numbered.number;
         let step = numbered.step;
         let after = directions_after(vectors, step);
         if step_directions::points_back(after) {
-            return refused_steps(Refusal::DependenceReversed(number), header, set);
+            return Err(Refusal::DependenceReversed(number));
         }
-        let status = take(header, limits, &mut counts, words, depth, step, number);
-        match status {
-            Status::Fine => {}
-            Status::Refused(r) => return refused_steps(r, header, set),
-        }
+        take(header, limits, &mut counts, words, depth, step, number)?;
         depth = step_kinds::depth_after(step, depth);
         vectors = after;
-        k += 1;
     }
-    let extents = header.extents;
-    let sizes = header.sizes;
-    let rules = header.rules;
-    let constants = header.constants;
-    let accessed = header.accessed;
-    Judged {
-        status: Status::Fine,
+    Ok(Judged {
         header: Header {
             depth,
             counts,
-            arrays: header.arrays,
-            extents,
-            statements: header.statements,
-            sizes,
-            rules,
-            constants,
-            accesses: header.accesses,
-            accessed,
+            ..header
         },
         directions: vectors,
-    }
+    })
 }
 
 // ---- the new nest
 
 // Refusal 13: by the ranges of the loops, or by the points.
-fn survey_new(header: Header, limits: &[i16], words: &[i16]) -> Status
-    requires { FlatNestIn (flat_nest header limits.now words.now) }
-    ensures { SurveyedNew (flat_nest header limits.now words.now) result }
+fn survey_new(nest: &FlatNest) -> Result<(), Refusal>
+    requires { FlatNestIn (flat nest.now) }
+    ensures { SurveyedNew (flat nest.now) result }
 {
-    if nest_bounding_box::stays_compact(header, limits, words) {
-        return Status::Fine;
+    if nest_bounding_box::stays_compact(nest) {
+        return Ok(());
     }
-    match nest_points::survey(header, limits, words, 100000, 65536) {
-        SpaceCheck::Admitted(_) => Status::Fine,
-        SpaceCheck::IndexTooLarge(k) => Status::Refused(Refusal::NewNestTooLarge(k)),
-        SpaceCheck::CountTooLarge(k) => Status::Refused(Refusal::NewNestTooLarge(k)),
+    match nest_points::survey(nest, 100000, 65536) {
+        Ok(_) => Ok(()),
+        Err(SpaceError::IndexTooLarge(k)) => Err(Refusal::NewNestTooLarge(k)),
+        Err(SpaceError::CountTooLarge(k)) => Err(Refusal::NewNestTooLarge(k)),
     }
 }
 
@@ -212,22 +172,16 @@ pub fn judge_ticket(
     words: &mut [i16],
     steps: Steps,
     set: DirectionSet,
-) -> Judged
+) -> Result<Judged, Refusal>
     requires { JudgeIn (flat_nest header limits.old words.old) steps set }
     ensures { Judges (flat_nest header limits.old words.old) steps result limits.new words.new }
 {
-    let stepped = judge_steps(header, limits, words, steps, set);
-    let new = stepped.header;
-    let directions = stepped.directions;
-    let status = stepped.status;
-    match status {
-        Status::Fine => {}
-        Status::Refused(r) => return refused_steps(r, new, directions),
-    }
-    let verdict = survey_new(new, limits, words);
-    Judged {
-        status: verdict,
-        header: new,
-        directions: directions,
-    }
+    let judged = judge_steps(header, limits, words, steps, set)?;
+    let new = FlatNest {
+        header: &judged.header,
+        limits,
+        words,
+    };
+    survey_new(&new)?;
+    Ok(judged)
 }

@@ -72,6 +72,7 @@ pub fn depth_after(step: Step, depth: usize) -> usize
     }
 }
 
+// Not by `depth_after`: a conversion of a stage to a step would match the four kinds too.
 pub fn depth_after_stage(stage: Stage, depth: usize) -> usize
     requires { depth ≤ most_loops }
     ensures { result ≡ depth_after (stage_of stage) depth }

@@ -1,19 +1,19 @@
 -- The first n places of a row: a number there; one place more; u xs + v ys; a change at a place as stores leave it.
 use mathlib.Core.Path.{◌≡◌, refl, sym, ◌∙◌, ap, subst}
-use mathlib.Core.List.{List, [], ◌∷◌, ◌++◌, map, zip_with, append_assoc, append-nil}
+use mathlib.Core.List.{List, [], ◌∷◌, ◌++◌, map, zip_with, append_assoc}
 use Prim.Native.Nat.{ℕ, zero, suc, ◌<◌, ◌≤◌, ◌+◌}
 use native.Mathlib.Omega.{arith}
 use native.Mathlib.Numerals.{add-one}
-use lib.ListN.{length, get_or, take, drop, set, length-drop}
-use lib.Seq.{get_or-take, length-take-le, take-set-lt, take-suc-set, take-take, take-suc, take-add, drop_at, set_at, get_or-drop}
+use lib.ListN.{length, get_or, take, drop, set}
+use lib.Seq.{get_or-take, length-take-le, take-set-lt, take-suc-set, take-take, take-suc, set_at}
 use lib.IntN.{ℤ, pos, negsuc, neg_ℤ, ◌+ℤ◌, ◌-ℤ◌, ◌*ℤ◌}
 use Rattle.integers.specs.Affine.{Within}
 use Rattle.integers.specs.Difference.{size}
 use Rattle.integers.proofs.AffineLaws.{within-at, within-take}
 use Rattle.integers.proofs.Linear.{lin, ◌≐◌}
 use Rattle.integers.proofs.Polynomial.{◌⊕◌, ◌⊗◌, ⊝, #}
-use Rattle.lists.specs.Place.{under, on_head, swapped}
-use Rattle.lists.proofs.PlaceLaws.{under-on_head, under-swapped}
+use Rattle.lists.specs.Place.{under, on_head}
+use Rattle.lists.proofs.PlaceLaws.{under-on_head}
 use Rattle.model.specs.Limits.{skew_coefficients, split_coefficients}
 use Rattle.step_limits.specs.Makes.{mixed}
 use Rattle.step_limits.proofs.NumberLaws.{minus-times}
@@ -63,13 +63,6 @@ module _ {A : Type 0} (d : A) where
   front-on_head f n a l z h e = take-set-lt n l a z h ∙ ap (set (take n l) a) (e ∙ ap f (sym (get_or-take n l a d h)))
       ∙ sym (under-on_head f a (take n l) d)
 
-  pub front-swapped : (n a : ℕ) (l : List A) (x y : A) → n ≤ length l → a + 1 < n → x ≡ get_or l a d → y ≡ get_or l (a + 1) d
-      → take n (set (set l a y) (a + 1) x) ≡ under a swapped (take n l)
-  front-swapped n a l x y g h e f =
-      let k : length (take n l) ≡ n = length-take-le n l g in
-      take-set-lt n (set l a y) (a + 1) x h ∙ ap (λ w. set w (a + 1) x) (take-set-lt n l a y (omega arith))
-      ∙ rw (e, f, ← (get_or-take n l a d (omega arith)), ← (get_or-take n l (a + 1) d h), add-one) (sym (under-swapped a (take n l) d (omega arith)))
-
 -- ---- skew
 
 under-skew : (d : ℕ) (c : ℤ) (a : ℕ) (l : List ℤ) → a + 1 + d < length l
@@ -98,31 +91,16 @@ split-under w (suc a) [] h = absurd (omega arith)
 split-under w zero (x ∷ l) h = refl
 split-under w (suc a) (x ∷ l) h = ap (x ∷◌) (split-under w a l (omega arith))
 
-pub shift_none : (a : ℕ) (l : List ℤ) → take (a + 0 + 1) l ≡ take (a + 1) l ++ take 0 (drop a l)
-shift_none a l = let e : a + 0 + 1 ≡ a + 1 = omega arith in rw e (sym (append-nil (take (a + 1) l)))
-
-pub shift-more : (a j : ℕ) (r l : List ℤ) (x : ℤ) → a + j + 1 < length r → a + j < length l
-    → take (a + j + 1) r ≡ take (a + 1) l ++ take j (drop a l) → x ≡ get_or l (a + j) (pos 0)
-    → take (a + (j + 1) + 1) (set r (a + j + 1) x) ≡ take (a + 1) l ++ take (j + 1) (drop a l)
-shift-more a j r l x h g e f =
-    let n : a + (j + 1) + 1 ≡ suc (a + j + 1) = omega arith in
-    let m : j < length (drop a l) = let k = length-drop a l in omega arith in
-    rw (n, add-one j, take-suc-set r (a + j + 1) x h, e, take-suc (drop a l) j (pos 0) m, get_or-drop a l j (pos 0), f)
-    (append_assoc (take (a + 1) l) (take j (drop a l)) (get_or l (a + j) (pos 0) ∷ []))
-
-pub shift-all : (w a j n : ℕ) (r l : List ℤ) (z : ℤ) → n < length r → n ≤ length l → a < n → a + j ≡ n
-    → take (a + j + 1) r ≡ take (a + 1) l ++ take j (drop a l) → z ≡ get_or l a (pos 0) *ℤ pos w
+-- place a is there twice, and its first copy is multiplied
+pub front-split : (w a n : ℕ) (r l : List ℤ) (z : ℤ) → n ≤ length l → a < n
+    → take (n + 1) r ≡ take (a + 1) l ++ drop a (take n l) → z ≡ get_or l a (pos 0) *ℤ pos w
     → take (n + 1) (set r a z) ≡ under a (split_coefficients w) (take n l)
-shift-all w a j n r l z hr hl h q e f =
-    let t : take n l ≡ take a l ++ take j (drop a l) = rw (sym q) (take-add a j l) in
+front-split w a n r l z hl h e f =
     let p : length (take a l) ≡ a = length-take-le a l (omega arith) in
     let k : length (take n l) ≡ n = length-take-le n l hl in
     let u : take a (take n l) ≡ take a l = take-take a n l (omega arith) in
-    let v : drop a (take n l) ≡ take j (drop a l) = ap (drop a) t ∙ drop_at (take a l) (take j (drop a l)) a p in
-    let m : n + 1 ≡ a + j + 1 = omega arith in
     let o : take (a + 1) l ≡ take a l ++ (get_or l a (pos 0) ∷ []) = rw add-one (take-suc l a (pos 0) (omega arith)) in
     take-set-lt (n + 1) r a z (omega arith)
-    ∙ ap (λ i. set (take i r) a z) m
-    ∙ ap (λ y. set y a z) (e ∙ ap (◌++ take j (drop a l)) o ∙ append_assoc (take a l) (get_or l a (pos 0) ∷ []) (take j (drop a l)))
-    ∙ set_at (take a l) (get_or l a (pos 0)) (take j (drop a l)) z a p
-    ∙ rw (split-under w a (take n l) (omega arith), u, v, get_or-take n l a (pos 0) h, f) refl
+    ∙ ap (λ y. set y a z) (e ∙ ap (◌++ drop a (take n l)) o ∙ append_assoc (take a l) (get_or l a (pos 0) ∷ []) (drop a (take n l)))
+    ∙ set_at (take a l) (get_or l a (pos 0)) (drop a (take n l)) z a p
+    ∙ rw (split-under w a (take n l) (omega arith), u, get_or-take n l a (pos 0) h, f) refl

@@ -1,6 +1,6 @@
 -- A limit's words: the test of its numbers, part by part; what is written of it; what is read of it.
 use mathlib.Core.Path.{◌≡◌, refl, sym, ap, ap₂, ◌∙◌}
-use mathlib.Core.Bool.{Bool, true, false}
+use mathlib.Core.Bool.{Bool, true, false, ◌&&◌}
 use mathlib.Core.List.{List, [], ◌∷◌}
 use Prim.Native.Nat.{ℕ, ◌+◌, ◌*◌, ◌≤◌, ◌<◌}
 use native.Mathlib.Omega.{arith}
@@ -15,7 +15,8 @@ use mir.Facts.{to_z_pos}
 use Rattle.lists.specs.Parts.{put}
 use Rattle.lists.specs.Tests.{all}
 use Rattle.lists.proofs.PartLaws.{put-put, set-is-put, set-put, length-put}
-use Rattle.lists.proofs.TestLaws.{T_true, true-T, not-T-false}
+use Rattle.lists.proofs.TestLaws.{T_true, true-T, not-T-false, and_both}
+use Rattle.integers.specs.Affine.{Within}
 use Rattle.integers.specs.Difference.{size}
 use Rattle.integers.proofs.AffineLaws.{within-at}
 use Rattle.integers.proofs.RingLaws.{zarith}
@@ -25,7 +26,7 @@ use Rattle.ticket_loops.specs.LoopReads.{limit_of}
 use Rattle.ticket_loops.specs.declared.Limit.{Limit}
 use Rattle.nest_flat.specs.Flat.{limit_at}
 use Rattle.nest_rows.specs.Rows.{RowIs, Tried}
-use Rattle.nest_rows.proofs.SmallLaws.{number_small}
+use Rattle.nest_rows.proofs.SmallLaws.{number_small, row_small}
 use Rattle.nest_rows.proofs.RowLaws.{number_read, number-written, tried-no, tried-yes}
 use Rattle.step_limits.specs.Makes.{LimitIs}
 use Rattle.step_limits.specs.Words.{LimitRoom, LimitThere}
@@ -51,8 +52,14 @@ module _ (n : ℕ) (l : Limit) where
     unfolding small_limit limit_of
     row-test e = rw (passes, e)
 
-pub constant-small : (z : ℤ) (r : Bool) → r ≡ small z → r ≡ true → size z ≤ 32767
-constant-small z r e f = number_small z (true-T (small z) (sym e ∙ f))
+pub limit-small : (n : ℕ) (l : Limit) (r : Bool) → r ≡ small_limit (limit_of n l) → r ≡ true
+    → (l.multiplier ≤ 32767) × (size l.constant ≤ 32767) × Within 32767 (take n l.coefficients)
+unfolding small_limit limit_of
+limit-small n l r e f =
+    let t = true-T (small_limit (limit_of n l)) (sym e ∙ f) in
+    let p = and_both (leb l.multiplier 32767) (small l.constant && all small (take n l.coefficients)) t in
+    let q = and_both (small l.constant) (all small (take n l.coefficients)) p.1 in
+    (leb→le l.multiplier 32767 p.0, number_small l.constant q.0, row_small (take n l.coefficients) q.1)
 
 pub refused : (test : Bool) (s : List ℤ) (at : ℕ) (xs : List ℤ) → test ≡ false → Tried test s at xs false s
 refused test s at xs e = tried-no test s at xs false (sym e) refl

@@ -1,7 +1,7 @@
 // Limits on the flat words of a nest, and what a step makes of rows of coefficients and of limits. n is the number of loops outside.
 #![tactic(auto)]
 
-ghost use Rattle.std.specs.Prelude.{◌≡◌, ◌+◌, ◌*◌, ◌<◌, ◌≤◌, pos, neg_ℤ, ◌+ℤ◌, ◌*ℤ◌, take};
+ghost use Rattle.std.specs.Prelude.{◌≡◌, ◌+◌, ◌*◌, ◌<◌, ◌≤◌, pos, neg_ℤ, ◌+ℤ◌, ◌*ℤ◌, take, is_ok};
 ghost use Rattle.integers.specs.Affine.{Within};
 ghost use Rattle.integers.specs.Difference.{size};
 ghost use Rattle.lists.specs.Place.{under, on_head, swapped};
@@ -18,6 +18,7 @@ ghost use Rattle.step_limits.specs.Change.{change_of, outer_after, Allowed};
 ghost use Rattle.nest_flat.specs.Flat.{limit_at};
 
 use model::LOOPS;
+use nest_rows::NumberOutOfRange;
 use ticket_loops::Limit;
 
 // ---- numbers
@@ -60,13 +61,8 @@ pub fn combine_rows(n: usize, u: i32, xs: [i32; LOOPS], v: i32, ys: [i32; LOOPS]
     ensures { RowIs n result (mixed u v (take n xs) (take n ys)) }
 {
     let mut r = [0i32; LOOPS];
-    let mut k = 0;
-    while k < n {
-        let x = xs[k];
-        let y = ys[k];
-        let z = combine(u, x, v, y);
-        r[k] = z;
-        k += 1;
+    for k in 0..n {
+        r[k] = combine(u, xs[k], v, ys[k]);
     }
     r
 }
@@ -77,22 +73,7 @@ pub fn reverse_row(cs: [i32; LOOPS], n: usize, a: usize) -> [i32; LOOPS]
     ensures { RowIs n result (under a (on_head neg_ℤ) (take n cs)) }
 {
     let mut r = cs;
-    let x = cs[a];
-    r[a] = negate(x);
-    r
-}
-
-// The coefficients at a and a + 1 trade places.
-pub fn exchange_row(cs: [i32; LOOPS], n: usize, a: usize) -> [i32; LOOPS]
-    requires { (a + 1 < n) × (n ≤ most_loops) }
-    ensures { RowIs n result (under a swapped (take n cs)) }
-{
-    let mut r = cs;
-    let b = a + 1;
-    let x = cs[a];
-    let y = cs[b];
-    r[a] = y;
-    r[b] = x;
+    r[a] = negate(cs[a]);
     r
 }
 
@@ -102,11 +83,7 @@ pub fn skew_row(cs: [i32; LOOPS], n: usize, a: usize, d: usize, factor: i32) -> 
     ensures { RowIs n result (under a (skew_coefficients d factor) (take n cs)) }
 {
     let mut r = cs;
-    let b = a + 1 + d;
-    let x = cs[a];
-    let y = cs[b];
-    let z = add_multiple(x, negate(factor), y);
-    r[a] = z;
+    r[a] = add_multiple(cs[a], negate(factor), cs[a + 1 + d]);
     r
 }
 
@@ -115,17 +92,8 @@ pub fn section_row(cs: [i32; LOOPS], n: usize, a: usize, w: u32) -> [i32; LOOPS]
     requires { (a < n) × (n < most_loops) × (w ≤ 32767) × Within 32767 (take n cs) }
     ensures { RowIs (n + 1) result (under a (split_coefficients w) (take n cs)) }
 {
-    let mut r = cs;
-    let mut j = 0;
-    while a + j < n {
-        let i = a + j;
-        let x = cs[i];
-        r[i + 1] = x;
-        j += 1;
-    }
-    let y = cs[a];
-    let z = times(y, w);
-    r[a] = z;
+    let mut r = nest_rows::double_place(cs, n, a);
+    r[a] = times(cs[a], w);
     r
 }
 
@@ -135,14 +103,10 @@ fn reverse_limit(l: Limit, n: usize) -> Limit
     requires { (n ≤ most_loops) × SmallLimit (limit_of n l) }
     ensures { LimitIs n result (negated (limit_of n l)) }
 {
-    let c = l.constant;
-    let cs = l.coefficients;
-    let d = negate(c);
-    let ds = combine_rows(n, -1, cs, 0, cs);
     Limit {
-        multiplier: l.multiplier,
-        constant: d,
-        coefficients: ds,
+        constant: negate(l.constant),
+        coefficients: combine_rows(n, -1, l.coefficients, 0, l.coefficients),
+        ..l
     }
 }
 
@@ -151,15 +115,11 @@ fn skew_limit(l: Limit, n: usize, a: usize, factor: i32) -> Limit
     requires { (a < n) × (n ≤ most_loops) × (size factor ≤ 32767) × SmallLimit (limit_of n l) }
     ensures { LimitIs n result (skew_limit a factor (limit_of n l)) }
 {
-    let p = l.multiplier as i32;
     let mut cs = l.coefficients;
-    let x = cs[a];
-    let y = add_multiple(x, factor, p);
-    cs[a] = y;
+    cs[a] = add_multiple(cs[a], factor, l.multiplier as i32);
     Limit {
-        multiplier: l.multiplier,
-        constant: l.constant,
         coefficients: cs,
+        ..l
     }
 }
 
@@ -168,11 +128,10 @@ fn section_lower(l: Limit, n: usize, w: u32) -> Limit
     requires { (1 ≤ w) × (w ≤ 256) × SmallLimit (limit_of n l) }
     ensures { LimitIs n result (section_lower w (limit_of n l)) }
 {
-    let cs = l.coefficients;
     Limit {
         multiplier: l.multiplier * w,
         constant: l.constant - ((l.multiplier * (w - 1)) as i32),
-        coefficients: cs,
+        ..l
     }
 }
 
@@ -181,11 +140,9 @@ fn section_upper(l: Limit, n: usize, w: u32) -> Limit
     requires { (w ≤ 256) × SmallLimit (limit_of n l) }
     ensures { LimitIs n result (section_upper w (limit_of n l)) }
 {
-    let cs = l.coefficients;
     Limit {
         multiplier: l.multiplier * w,
-        constant: l.constant,
-        coefficients: cs,
+        ..l
     }
 }
 
@@ -195,11 +152,10 @@ fn section_element(l: Limit, n: usize, w: u32) -> Limit
     ensures { LimitIs (n + 1) result (element_limit w (limit_of n l)) }
 {
     let mut cs = l.coefficients;
-    cs[n] = 0 - ((l.multiplier * w) as i32);
+    cs[n] = -((l.multiplier * w) as i32);
     Limit {
-        multiplier: l.multiplier,
-        constant: l.constant,
         coefficients: cs,
+        ..l
     }
 }
 
@@ -207,9 +163,8 @@ fn with_row(l: Limit, cs: [i32; LOOPS]) -> Limit
     ensures { result ≡ record { multiplier = l.multiplier; constant = l.constant; coefficients = cs } }
 {
     Limit {
-        multiplier: l.multiplier,
-        constant: l.constant,
         coefficients: cs,
+        ..l
     }
 }
 
@@ -221,37 +176,39 @@ pub fn limit_at(words: &[i16], j: usize, n: usize) -> Limit
     ensures { LimitIs n result (limit_at words.now n j) }
 {
     let at = j * 8;
-    let p = nest_rows::word_at(words, at);
-    let c = nest_rows::word_at(words, at + 1);
-    let cs = nest_rows::row_at(words, at + 2);
     Limit {
-        multiplier: p as u32,
-        constant: c,
-        coefficients: cs,
+        multiplier: nest_rows::word_at(words, at) as u32,
+        constant: nest_rows::word_at(words, at + 1),
+        coefficients: nest_rows::row_at(words, at + 2),
     }
 }
 
-// The words stay as they are if a number is too large for them.
-pub fn put_limit(words: &mut [i16], j: usize, l: Limit, n: usize) -> bool
-    requires { LimitRoom words.old j n }
-    ensures { Tried (small_limit (limit_of n l)) words.old (j * 8) (limit_words (limit_of n l)) result words.new }
+fn is_small(l: Limit, n: usize) -> bool
+    requires { n ≤ most_loops }
+    ensures { result ≡ small_limit (limit_of n l) }
 {
-    let at = j * 8;
-    let c = l.constant;
-    let cs = l.coefficients;
     if 32767 < l.multiplier {
         return false;
     }
-    if !nest_rows::small_number(c) {
+    if !nest_rows::small_number(l.constant) {
         return false;
     }
-    if !nest_rows::small_row(cs, n) {
-        return false;
+    nest_rows::small_row(l.coefficients, n)
+}
+
+// The words stay as they are if a number is too large for them.
+pub fn put_limit(words: &mut [i16], j: usize, l: Limit, n: usize) -> Result<(), NumberOutOfRange>
+    requires { LimitRoom words.old j n }
+    ensures { Tried (small_limit (limit_of n l)) words.old (j * 8) (limit_words (limit_of n l)) (is_ok result) words.new }
+{
+    if !is_small(l, n) {
+        return Err(NumberOutOfRange);
     }
+    let at = j * 8;
     words[at] = l.multiplier as i16;
-    words[at + 1] = nest_rows::narrow(c);
-    nest_rows::lay_row(words, at + 2, &cs[..n]);
-    true
+    words[at + 1] = nest_rows::narrow(l.constant);
+    nest_rows::lay_row(words, at + 2, &l.coefficients[..n]);
+    Ok(())
 }
 
 // ---- the changes that a step makes to every limit of a side
@@ -295,25 +252,12 @@ pub fn change_limit(l: Limit, n: usize, change: Change) -> Limit
     match change {
         Change::ReverseLimit => reverse_limit(l, n),
         Change::ReverseRow(a) => with_row(l, reverse_row(cs, n, a)),
-        Change::ExchangeRow(a) => with_row(l, exchange_row(cs, n, a)),
-        Change::SkewLimit(s) => {
-            let a = s.outer;
-            let factor = s.factor;
-            skew_limit(l, n, a, factor)
-        }
-        Change::SkewRow(s) => {
-            let a = s.outer;
-            let d = s.between;
-            let factor = s.factor;
-            with_row(l, skew_row(cs, n, a, d, factor))
-        }
+        Change::ExchangeRow(a) => with_row(l, nest_rows::exchange_places(cs, n, a)),
+        Change::SkewLimit(s) => skew_limit(l, n, s.outer, s.factor),
+        Change::SkewRow(s) => with_row(l, skew_row(cs, n, s.outer, s.between, s.factor)),
         Change::SectionLower(w) => section_lower(l, n, w),
         Change::SectionUpper(w) => section_upper(l, n, w),
         Change::SectionElement(w) => section_element(l, n, w),
-        Change::SectionRow(s) => {
-            let a = s.place;
-            let w = s.width;
-            with_row(l, section_row(cs, n, a, w))
-        }
+        Change::SectionRow(s) => with_row(l, section_row(cs, n, s.place, s.width)),
     }
 }

@@ -24,6 +24,8 @@ use Rattle.step_limits.specs.declared.Change.{Change}
 use Rattle.step_limits.proofs.FlatLaws.{limit-near, small-passes}
 use Rattle.step_limits.specs.Words.{LoopOk}
 use Rattle.step_changes.proofs.RunLaws.{limits-pass, loops-pass}
+use Rattle.step_exchange.specs.Answers.{step_answer}
+use Rattle.step_exchange.proofs.AnswerLaws.{answer-ok, settled as settled-answer}
 use Rattle.step_loops.specs.After.{After}
 use Rattle.step_loops.proofs.HeldLaws.{HeldAll, ok_at, nest-loops, nest-ok}
 
@@ -119,7 +121,7 @@ module _ (ch : Change) (s : List ℤ) (c : List ℕ) (depth : ℕ) (ok : NestOk 
       all_join p (loops_from s c 0 a) (those ++ inside) ∙ ap (◌&& all p (those ++ inside)) (T_true (all p (loops_from s c 0 a)) f)
       ∙ all_join p those inside
 
-  few-made : few_limits made ≡ all few those
+  pub few-made : few_limits made ≡ all few those
   unfolding few_limits
   few-made =
       let f : T (all few inside) = loops-pass (on_limits (change_of ch)) s c few start many
@@ -127,7 +129,7 @@ module _ (ch : Change) (s : List ℤ) (c : List ℕ) (depth : ℕ) (ok : NestOk 
       of-front few (λ k g. few-sides (loop_at s c k) (lower-few s c k (ok_at s c depth k ok g)) (upper-few s c k (ok_at s c depth k ok g)))
       ∙ ap (all few those &&◌) (T_true (all few inside) f) ∙ and-true (all few those)
 
-  small-made : all small_loop made ≡ all small_loop those && all small_loop inside
+  pub small-made : all small_loop made ≡ all small_loop those && all small_loop inside
   small-made = of-front small_loop (λ k g. loop-small s c k ok.small)
 
   module _ (t : Step) (is : loops_after t (loops_from s c 0 depth) ≡ made) (deep : depth_after t depth ≡ a + (length those + many))
@@ -135,14 +137,13 @@ module _ (ch : Change) (s : List ℤ) (c : List ℕ) (depth : ℕ) (ok : NestOk 
     pub settled : (full small : Bool) (s' : List ℤ) (c' : List ℕ) → length s' ≡ nest_room → length c' ≡ most_sides
         → full ≡ not (all few those) → (full ≡ false → small ≡ all small_loop those && all small_loop inside)
         → (full ≡ false → small ≡ true → HeldAll s' c' 0 made × Within 32767 s')
-        → After t s c depth (record { full = full; small = small }) s' c'
+        → After t s c depth (step_answer (not full) small) s' c'
     settled full small s' c' w n f g h =
         let e : length made ≡ depth_after t depth = made-length ∙ sym deep in
         record {
           words = w;
           counts = n;
-          full = f ∙ ap not (sym (ap few_limits is ∙ few-made));
-          small = λ x. g x ∙ sym (ap (all small_loop) is ∙ small-made);
-          whole = λ x y. nest-loops s' c' (depth_after t depth) made e (h x y).0 ∙ sym is;
-          nest = λ x y. nest-ok s' c' (depth_after t depth) made e (h x y).0 w n shallow (h x y).1;
+          answered = settled-answer full small _ _ (f ∙ ap not (sym (ap few_limits is ∙ few-made))) (λ x. g x ∙ sym (ap (all small_loop) is ∙ small-made));
+          whole = λ x. let y = answer-ok full small x in nest-loops s' c' (depth_after t depth) made e (h y.0 y.1).0 ∙ sym is;
+          nest = λ x. let y = answer-ok full small x in nest-ok s' c' (depth_after t depth) made e (h y.0 y.1).0 w n shallow (h y.0 y.1).1;
         }

@@ -21,6 +21,9 @@ use Rattle.step_limits.specs.Words.{LoopOk}
 use Rattle.step_changes.specs.Loops.{LoopIn, on_sides, LoopMade, LoopsIn, LoopsMade}
 use Rattle.step_changes.specs.Flips.{FlipIn, flipped, Flipped}
 use Rattle.step_changes.proofs.LoopLaws.{loop-same, ok_same}
+use Rattle.std.specs.Prelude.{Err}
+use Rattle.step_exchange.specs.Answers.{step_answer}
+use Rattle.step_exchange.specs.declared.StepError.TheVariants.{NumberOutOfRange}
 use Rattle.step_loops.specs.After.{After, ReversalIn, SkewIn}
 use Rattle.step_loops.proofs.HeldLaws.{ok_at}
 use Rattle.step_loops.proofs.AfterLaws.{few, few-sides, lower-few, upper-few, under-loops}
@@ -79,7 +82,7 @@ module _ (s : List ℤ) (c : List ℕ) (depth a many : ℕ) (p : ReversalIn s c 
   same = refl
 
   module _ (r₁ : Bool) (t₁ : List ℤ) (d₁ : List ℕ) (m₁ : LoopsMade (ReverseRow a) s c (a + 1) many 0 r₁ t₁ d₁) where
-    pub reversed-large : r₁ ≡ false → After (reversal a) s c depth (record { full = false; small = false }) t₁ d₁
+    pub reversed-large : r₁ ≡ false → After (reversal a) s c depth (Err NumberOutOfRange) t₁ d₁
     reversed-large e = inside-large s c depth p.nest (ReverseRow a) a many deep (reversal a) reversed_loop reversed-is same reversed-few r₁ t₁ d₁
         m₁ e
 
@@ -114,7 +117,7 @@ module _ (s : List ℤ) (c : List ℕ) (depth a many : ℕ) (p : ReversalIn s c 
         }
 
         pub reversed-done : (r : Bool) (t₃ : List ℤ) (d₃ : List ℕ) → LoopMade t₂ d₂ a (on_sides ReverseLimit ReverseLimit (loop_at t₂ d₂ a)) r t₃ d₃
-            → After (reversal a) s c depth (record { full = false; small = r }) t₃ d₃
+            → After (reversal a) s c depth (step_answer true r) t₃ d₃
         unfolding reversed_loop
         reversed-done r t₃ d₃ m₃ =
             let q : on_sides ReverseLimit ReverseLimit (loop_at t₂ d₂ a) ≡ reversed_loop = ap (on_sides ReverseLimit ReverseLimit)
@@ -182,7 +185,7 @@ module _ (s : List ℤ) (c : List ℕ) (depth a d : ℕ) (factor : ℤ) (many : 
     skew-same = refl
 
     module _ (r₁ : Bool) (t₁ : List ℤ) (d₁ : List ℕ) (m₁ : LoopsMade (SkewRow (skew-at a d factor)) s c (a + 1 + d + 1) many 0 r₁ t₁ d₁) where
-      pub skewed-large : r₁ ≡ false → After (skew a d factor) s c depth (record { full = false; small = false }) t₁ d₁
+      pub skewed-large : r₁ ≡ false → After (skew a d factor) s c depth (Err NumberOutOfRange) t₁ d₁
       skewed-large e = inside-large s c depth p.nest (SkewRow (skew-at a d factor)) (a + 1 + d) many deep (skew a d factor) skewed_loop skewed-is
           skew-same skewed-few r₁ t₁ d₁ m₁ e
 
@@ -204,7 +207,7 @@ module _ (s : List ℤ) (c : List ℕ) (depth a d : ℕ) (factor : ℤ) (many : 
 
         pub skewed-done : (r : Bool) (t₂ : List ℤ) (d₂ : List ℕ)
             → LoopMade t₁ d₁ (a + 1 + d) (on_sides (SkewLimit (skew-at a d factor)) (SkewLimit (skew-at a d factor)) (loop_at t₁ d₁ (a + 1 + d))) r t₂ d₂
-            → After (skew a d factor) s c depth (record { full = false; small = r }) t₂ d₂
+            → After (skew a d factor) s c depth (step_answer true r) t₂ d₂
         unfolding skewed_loop
         skewed-done r t₂ d₂ m₂ =
             let b = a + 1 + d in

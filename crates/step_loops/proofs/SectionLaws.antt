@@ -22,6 +22,9 @@ use Rattle.step_limits.specs.declared.Change.TheVariants.{SectionLower, SectionU
 use Rattle.step_limits.specs.Words.{LoopOk}
 use Rattle.step_changes.specs.Loops.{LoopIn, on_sides, LoopMade, LoopsIn, LoopsMade}
 use Rattle.step_changes.proofs.LoopLaws.{loop-same, ok_same}
+use Rattle.std.specs.Prelude.{Err}
+use Rattle.step_exchange.specs.Answers.{step_answer}
+use Rattle.step_exchange.specs.declared.StepError.TheVariants.{TooManyLimits, NumberOutOfRange}
 use Rattle.step_loops.specs.After.{After, SectionIn}
 use Rattle.step_loops.specs.Sections.{element_side, element_loop, ElementLoopIn}
 use Rattle.step_loops.proofs.HeldLaws.{Held, HeldAll, ok_at, held_kept}
@@ -91,19 +94,19 @@ module _ (s : List ℤ) (c : List ℕ) (depth a w many : ℕ) (p : SectionIn s c
   sectioned-settled : (full small : Bool) (s' : List ℤ) (c' : List ℕ) → length s' ≡ nest_room → length c' ≡ most_sides
       → full ≡ not (few E) → (full ≡ false → small ≡ all small_loop (S ∷ E ∷ []) && all small_loop inside)
       → (full ≡ false → small ≡ true → HeldAll s' c' 0 (loops_from s c 0 a ++ ((S ∷ E ∷ []) ++ inside)) × Within 32767 s')
-      → After (section a w) s c depth (record { full = full; small = small }) s' c'
+      → After (section a w) s c depth (step_answer (not full) small) s' c'
   sectioned-settled full small s' c' x n f g h =
       settled (SectionRow (coefficient_section a w)) s c depth p.nest a (a + 1) many (omega arith) (omega arith) (S ∷ E ∷ []) (section a w)
       sectioned-is counted shallow full small s' c' x n (f ∙ ap not (sym both-few)) g h
 
-  full-settled : few E ≡ false → After (section a w) s c depth (record { full = true; small = false }) s c
+  full-settled : few E ≡ false → After (section a w) s c depth (Err TooManyLimits) s c
   full-settled e = sectioned-settled true false s c p.nest.words p.nest.counts (sym (ap not e))
       (λ q. absurd (let z : ◌≡◌ {A = ℕ} 0 1 = cc in omega arith)) (λ q. absurd (let z : ◌≡◌ {A = ℕ} 0 1 = cc in omega arith))
 
-  pub lower-full : 16 ≤ get_or c (a * 2) 0 → After (section a w) s c depth (record { full = true; small = false }) s c
+  pub lower-full : 16 ≤ get_or c (a * 2) 0 → After (section a w) s c depth (Err TooManyLimits) s c
   lower-full h = full-settled (ap (◌&& leb (length E.upper) 16) (too_many (length E.lower) (omega (arith, lower-length))))
 
-  pub upper-full : 16 ≤ get_or c (a * 2 + 1) 0 → After (section a w) s c depth (record { full = true; small = false }) s c
+  pub upper-full : 16 ≤ get_or c (a * 2 + 1) 0 → After (section a w) s c depth (Err TooManyLimits) s c
   upper-full h = full-settled (ap (leb (length E.lower) 16 &&◌) (too_many (length E.upper) (omega (arith, upper-length)))
       ∙ and-false (leb (length E.lower) 16))
 
@@ -127,10 +130,10 @@ module _ (s : List ℤ) (c : List ℕ) (depth a w many : ℕ) (p : SectionIn s c
     not_full = sym (ap not (E-few low up))
 
     large : (s' : List ℤ) (c' : List ℕ) → length s' ≡ nest_room → length c' ≡ most_sides → all small_loop (S ∷ E ∷ []) && all small_loop inside ≡ false
-        → After (section a w) s c depth (record { full = false; small = false }) s' c'
+        → After (section a w) s c depth (Err NumberOutOfRange) s' c'
     large s' c' x n e = sectioned-settled false false s' c' x n not_full (λ _. sym e) (λ _ q. absurd (let z : ◌≡◌ {A = ℕ} 0 1 = cc in omega arith))
 
-    pub inside-large : r₁ ≡ false → After (section a w) s c depth (record { full = false; small = false }) t₁ d₁
+    pub inside-large : r₁ ≡ false → After (section a w) s c depth (Err NumberOutOfRange) t₁ d₁
     inside-large e = large t₁ d₁ (m₁.words ∙ p.nest.words) (m₁.counts ∙ p.nest.counts)
         (ap (all small_loop (S ∷ E ∷ []) &&◌) (sym m₁.tested ∙ e) ∙ and-false (all small_loop (S ∷ E ∷ [])))
 
@@ -163,7 +166,7 @@ module _ (s : List ℤ) (c : List ℕ) (depth a w many : ℕ) (p : SectionIn s c
         inside-passes : all small_loop inside ≡ true
         inside-passes = sym m₁.tested ∙ e₁
 
-        pub element-large : r₂ ≡ false → After (section a w) s c depth (record { full = false; small = false }) t₂ d₂
+        pub element-large : r₂ ≡ false → After (section a w) s c depth (Err NumberOutOfRange) t₂ d₂
         unfolding all
         element-large e = large t₂ d₂ (m₂.words ∙ m₁.words ∙ p.nest.words) (m₂.counts ∙ m₁.counts ∙ p.nest.counts)
             (ap (◌&& all small_loop inside) (ap (λ b. small_loop S && (b && true)) (sym m₂.tested ∙ e) ∙ and-false (small_loop S)))
@@ -230,7 +233,7 @@ module _ (s : List ℤ) (c : List ℕ) (depth a w many : ℕ) (p : SectionIn s c
                   ),
                 )
 
-            pub sectioned-done : After (section a w) s c depth (record { full = false; small = r₃ }) t₃ d₃
+            pub sectioned-done : After (section a w) s c depth (step_answer true r₃) t₃ d₃
             sectioned-done = sectioned-settled false r₃ t₃ d₃ (m₃.words ∙ m₂.words ∙ m₁.words ∙ p.nest.words)
                 (m₃.counts ∙ m₂.counts ∙ m₁.counts ∙ p.nest.counts) not_full (λ _. all_tested)
                 (λ _ e₃. (held e₃, (m₃.whole e₃).small))

@@ -19,6 +19,9 @@ use Rattle.step_limits.specs.Change.{change_of}
 use Rattle.step_limits.specs.declared.Change.{Change}
 use Rattle.step_limits.specs.Words.{LoopOk}
 use Rattle.step_changes.specs.Loops.{LoopIs, LoopMade, LoopsAre, LoopsMade}
+use Rattle.std.specs.Prelude.{Err}
+use Rattle.step_exchange.specs.Answers.{step_answer}
+use Rattle.step_exchange.specs.declared.StepError.TheVariants.{NumberOutOfRange}
 use Rattle.step_loops.specs.After.{After}
 use Rattle.step_loops.proofs.HeldLaws.{HeldAll, ok_at, held-there, held_kept, held-append, held-run}
 use Rattle.step_loops.proofs.AfterLaws.{few, length-loops, settled}
@@ -97,12 +100,12 @@ module _ (s : List ℤ) (c : List ℕ) (depth : ℕ) (ok : NestOk s c depth) whe
     one-settled : (small : Bool) (s' : List ℤ) (c' : List ℕ) → length s' ≡ nest_room → length c' ≡ most_sides → small ≡ small_loop X && r₁
         → (small ≡ true → HeldAll s' c' 0 (loops_from s c 0 a ++ ((X ∷ []) ++ map (on_limits (change_of ch)) (loops_from s c (a + 1) many)))
         × Within 32767 s')
-        → After t s c depth (record { full = false; small = small }) s' c'
+        → After t s c depth (step_answer true small) s' c'
     one-settled small s' c' w n g h = let few = ok.shallow in
         settled ch s c depth ok a (a + 1) many (omega arith) (omega arith) (X ∷ []) t is (omega arith) (omega arith) false small s' c' w n
         (sym (ap not one-few)) (λ _. g ∙ ap (◌&& r₁) (sym one-small) ∙ ap (all small_loop (X ∷ []) &&◌) m₁.tested) (λ _. h)
 
-    pub inside-large : r₁ ≡ false → After t s c depth (record { full = false; small = false }) t₁ d₁
+    pub inside-large : r₁ ≡ false → After t s c depth (Err NumberOutOfRange) t₁ d₁
     inside-large e = one-settled false t₁ d₁ (m₁.words ∙ ok.words) (m₁.counts ∙ ok.counts)
         (sym (ap (small_loop X &&◌) e ∙ and-false (small_loop X))) (λ q. absurd (let z : ◌≡◌ {A = ℕ} 0 1 = cc in omega arith))
 
@@ -122,6 +125,6 @@ module _ (s : List ℤ) (c : List ℕ) (depth : ℕ) (ok : NestOk s c depth) whe
                 (λ p h. v.counts-kept.after p (omega arith))),
           )
 
-      pub one-done : After t s c depth (record { full = false; small = r }) t₂ d₂
+      pub one-done : After t s c depth (step_answer true r) t₂ d₂
       one-done = one-settled r t₂ d₂ (m₂.words ∙ m₁.words ∙ ok.words) (m₂.counts ∙ m₁.counts ∙ ok.counts)
           (m₂.tested ∙ sym (ap (small_loop X &&◌) e ∙ and-true (small_loop X))) (λ q. (one-held q, (m₂.whole q).small))

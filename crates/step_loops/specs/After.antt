@@ -1,5 +1,5 @@
 -- What a step asks of the flat slices of a nest, and what it leaves in them.
-use Rattle.std.specs.Prelude.{◌≡◌, true, false, not, List, ℕ, ◌+◌, ◌<◌, ◌≤◌, ℤ, length}
+use Rattle.std.specs.Prelude.{◌≡◌, true, Result, ⊤, is_ok, List, ℕ, ◌+◌, ◌<◌, ◌≤◌, ℤ, length}
 use Rattle.integers.specs.Difference.{size}
 use Rattle.lists.specs.Tests.{all}
 use Rattle.model.specs.Ticket.{Step}
@@ -7,7 +7,8 @@ use Rattle.model.specs.Grammar.{depth_after, most_loops, most_sides, nest_room}
 use Rattle.model.specs.Limits.{loops_after}
 use Rattle.model.specs.Judge.{few_limits, small_loop}
 use Rattle.nest_flat.specs.Flat.{loops_from, NestOk}
-use Rattle.step_loops.specs.declared.Stepped.{Stepped}
+use Rattle.step_exchange.specs.declared.StepError.{StepError}
+use Rattle.step_exchange.specs.Answers.{step_answer}
 
 pub record ReversalIn (s : List ℤ) (c : List ℕ) (depth a : ℕ) : Type 0 where
   pub nest : NestOk s c depth
@@ -29,11 +30,10 @@ pub record ExchangeIn (s : List ℤ) (c : List ℕ) (depth a : ℕ) : Type 0 whe
   pub nest : NestOk s c depth
   pub place : a + 1 < depth
 
--- full where a side has more than 16 limits; else small where every number is within ±32767; then the slices hold the model's loops
-pub record After (t : Step) (s : List ℤ) (c : List ℕ) (depth : ℕ) (r : Stepped) (s' : List ℤ) (c' : List ℕ) : Type 0 where
+-- what it answers; where that is Ok, the slices hold the model's loops
+pub record After (t : Step) (s : List ℤ) (c : List ℕ) (depth : ℕ) (r : Result ⊤ StepError) (s' : List ℤ) (c' : List ℕ) : Type 0 where
   pub words : length s' ≡ nest_room
   pub counts : length c' ≡ most_sides
-  pub full : r.full ≡ not (few_limits (loops_after t (loops_from s c 0 depth)))
-  pub small : r.full ≡ false → r.small ≡ all small_loop (loops_after t (loops_from s c 0 depth))
-  pub whole : r.full ≡ false → r.small ≡ true → loops_from s' c' 0 (depth_after t depth) ≡ loops_after t (loops_from s c 0 depth)
-  pub nest : r.full ≡ false → r.small ≡ true → NestOk s' c' (depth_after t depth)
+  pub answered : r ≡ step_answer (few_limits (loops_after t (loops_from s c 0 depth))) (all small_loop (loops_after t (loops_from s c 0 depth)))
+  pub whole : is_ok r ≡ true → loops_from s' c' 0 (depth_after t depth) ≡ loops_after t (loops_from s c 0 depth)
+  pub nest : is_ok r ≡ true → NestOk s' c' (depth_after t depth)

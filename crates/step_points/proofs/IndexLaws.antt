@@ -6,7 +6,7 @@ use native.Mathlib.Omega.{arith}
 use native.Mathlib.Numerals.{add-one}
 use lib.IntN.{ℤ, pos, ◌+ℤ◌, ◌-ℤ◌, ◌*ℤ◌}
 use lib.ListN.{length, get_or, take, drop, set, length-drop, length-append}
-use lib.Seq.{get_or-take, length-take-le, take-set-lt, take-take, take-suc, take-add, take-length, drop_at, set_at, get_or-drop, drop-cons}
+use lib.Seq.{get_or-take, length-take-le, take-set-lt, take-take, take-suc, take-length, set_at, get_or-drop, drop-cons}
 use mir.Syntax.{w32, w64}
 use mir.Val.{SFits, to_z, of_z}
 use Rattle.integers.specs.Difference.{size}
@@ -78,37 +78,31 @@ front-skewed n a d c l z g h e =
     ∙ ap (set (take n l) (a + 1 + d)) e
     ∙ rw (← (get_or-take n l a (pos 0) (omega arith)), ← (get_or-take n l (a + 1 + d) (pos 0) h)) (sym (under-skewed d c a (take n l) (omega arith)))
 
--- ---- section: the j places from a on have moved by one
+-- ---- section: place a stands twice
 
-module _ (w a j n : ℕ) (r l : List ℤ) (hr : n < length r) (hl : n ≤ length l) (h : a < n) (q : a + j ≡ n)
-    (e : take (a + j + 1) r ≡ take (a + 1) l ++ take j (drop a l)) where
+module _ (w a n : ℕ) (r l : List ℤ) (hr : n < length r) (hl : n ≤ length l) (h : a < n)
+    (e : take (n + 1) r ≡ take (a + 1) l ++ drop a (take n l)) where
   abbrev y : ℤ
   y = get_or l a (pos 0)
 
   abbrev inner : List ℤ
-  inner = take j (drop a l)
+  inner = drop a (take n l)
 
   outer-length : length (take a l) ≡ a
   outer-length = length-take-le a l (omega arith)
 
-  whole : take n l ≡ take a l ++ inner
-  whole = rw (sym q) (take-add a j l)
-
   inner-is : inner ≡ y ∷ drop 1 inner
   inner-is =
-      let k = length-drop a l in
-      let m : length inner ≡ j = length-take-le j (drop a l) (omega arith) in
+      let m : length (take n l) ≡ n = length-take-le n l hl in
+      let k = length-drop a (take n l) in
       let i : a + 0 ≡ a = omega arith in
       drop-cons inner 0 (pos 0) (omega arith)
-      ∙ ap (◌∷ drop 1 inner) (get_or-take j (drop a l) 0 (pos 0) (omega arith) ∙ get_or-drop a l 0 (pos 0) ∙ ap (λ i. get_or l i (pos 0)) i)
+      ∙ ap (◌∷ drop 1 inner) (get_or-drop a (take n l) 0 (pos 0) ∙ ap (λ i. get_or (take n l) i (pos 0)) i ∙ get_or-take n l a (pos 0) h)
 
   moved : take (n + 1) r ≡ take a l ++ (y ∷ inner)
   moved =
-      let i : n + 1 ≡ a + j + 1 = omega arith in
       let o : take (a + 1) l ≡ take a l ++ (y ∷ []) = rw add-one (take-suc l a (pos 0) (omega arith)) in
-      ap (λ i. take i r) i ∙ e
-      ∙ ap (◌++ inner) o
-      ∙ append_assoc (take a l) (y ∷ []) inner
+      e ∙ ap (◌++ inner) o ∙ append_assoc (take a l) (y ∷ []) inner
 
   -- the two stores that follow
   stored : (z u : ℤ) → take (n + 1) (set (set r a z) (a + 1) u) ≡ take a l ++ (z ∷ u ∷ drop 1 inner)
@@ -130,7 +124,7 @@ module _ (w a j n : ℕ) (r l : List ℤ) (hr : n < length r) (hl : n ≤ length
       stored z u
       ∙ ap₂ (λ z u. take a l ++ (z ∷ u ∷ drop 1 inner)) f g
       ∙ sym (under_split (sectioned w) a (take n l) (omega arith) ∙ ap₂ (λ p k. p ++ sectioned w k) (take-take a n l (omega arith))
-      (ap (drop a) whole ∙ drop_at (take a l) inner a p ∙ inner-is))
+      inner-is)
 
 -- ---- circulation
 

@@ -4,7 +4,7 @@
 
 ghost use Rattle.std.specs.Prelude.{◌≡◌, ◌+◌, ◌<◌, ◌≤◌, neg_ℤ, ◌+ℤ◌, ◌-ℤ◌, ◌*ℤ◌, length, get_or, take, drop};
 ghost use Rattle.lists.specs.Parts.{put};
-ghost use Rattle.lists.specs.Place.{under, on_head, swapped, swap_all};
+ghost use Rattle.lists.specs.Place.{under, on_head, swap_all};
 ghost use Rattle.integers.specs.Affine.{Within};
 ghost use Rattle.integers.specs.Difference.{size};
 ghost use Rattle.model.specs.Grammar.{most_loops};
@@ -27,7 +27,7 @@ pub struct MovedPoint {
     pub depth: usize,
 }
 
-// ---- numbers
+// ---- numbers, of 64 bits: one function for those of step_limits too would ask the bounds of a trait, and be longer than both
 
 fn negate(x: i64) -> i64
     requires { size x ≤ farthest }
@@ -54,20 +54,6 @@ fn take_widths(x: i64, w: i64, q: i64) -> i64
 
 // ---- the indices of a row, of which the first n count
 
-// The indices a and a + 1 trade places.
-fn exchange_indices(row: [i64; LOOPS], n: usize, a: usize) -> [i64; LOOPS]
-    requires { (a + 1 < n) × (n ≤ most_loops) }
-    ensures { RowIs n result (under a swapped (take n row)) }
-{
-    let mut r = row;
-    let b = a + 1;
-    let x = row[a];
-    let y = row[b];
-    r[a] = y;
-    r[b] = x;
-    r
-}
-
 // Index a changes sign.
 fn reverse_index(row: [i64; LOOPS], n: usize, a: usize) -> [i64; LOOPS]
     requires { (a < n) × (n ≤ most_loops) × Within farthest (take n row) }
@@ -88,7 +74,7 @@ fn skew_index(row: [i64; LOOPS], n: usize, a: usize, d: usize, factor: i32) -> [
     let b = a + 1 + d;
     let x = row[a];
     let y = row[b];
-    let z = add_multiple(y, factor as i64, x);
+    let z = add_multiple(y, i64::from(factor), x);
     r[b] = z;
     r
 }
@@ -98,14 +84,7 @@ fn section_index(row: [i64; LOOPS], n: usize, a: usize, w: usize) -> [i64; LOOPS
     requires { (a < n) × (n < most_loops) × (1 ≤ w) × (w ≤ 256) × Within farthest (take n row) }
     ensures { RowIs (n + 1) result (under a (sectioned w) (take n row)) }
 {
-    let mut r = row;
-    let mut j = 0;
-    while a + j < n {
-        let i = a + j;
-        let x = row[i];
-        r[i + 1] = x;
-        j += 1;
-    }
+    let mut r = nest_rows::double_place(row, n, a);
     let y = row[a];
     let v = w as i64;
     let q = integers::floor_div(y, v);
@@ -122,12 +101,10 @@ fn circulate_indices(row: [i64; LOOPS], n: usize, a: usize, b: usize) -> [i64; L
 {
     let count = step_kinds::chain_length(a, b);
     let mut r = row;
-    let mut j = 0;
-    while j < count {
+    for j in 0..count {
         let k = step_kinds::exchange_at(a, b, j);
-        let next = exchange_indices(r, n, k);
+        let next = nest_rows::exchange_places(r, n, k);
         r = next;
-        j += 1;
     }
     r
 }
@@ -140,30 +117,11 @@ pub fn point_after(row: [i64; LOOPS], depth: usize, step: Step) -> [i64; LOOPS]
     ensures { PointAfter row depth (step_of step) result }
 {
     match step {
-        Step::Exchange(e) => {
-            let a = e.outer;
-            exchange_indices(row, depth, a)
-        }
-        Step::Reversal(e) => {
-            let a = e.target;
-            reverse_index(row, depth, a)
-        }
-        Step::Skew(e) => {
-            let a = e.outer;
-            let d = e.distance;
-            let factor = e.factor;
-            skew_index(row, depth, a, d, factor)
-        }
-        Step::Section(e) => {
-            let a = e.target;
-            let w = e.width;
-            section_index(row, depth, a, w)
-        }
-        Step::Circulation(e) => {
-            let a = e.from;
-            let b = e.to;
-            circulate_indices(row, depth, a, b)
-        }
+        Step::Exchange(e) => nest_rows::exchange_places(row, depth, e.outer),
+        Step::Reversal(e) => reverse_index(row, depth, e.target),
+        Step::Skew(e) => skew_index(row, depth, e.outer, e.distance, e.factor),
+        Step::Section(e) => section_index(row, depth, e.target, e.width),
+        Step::Circulation(e) => circulate_indices(row, depth, e.from, e.to),
     }
 }
 
@@ -184,13 +142,11 @@ pub fn point_after_steps(row: [i64; LOOPS], depth: usize, steps: Steps, done: us
 {
     let mut point = row;
     let mut loops = depth;
-    let mut k = 0;
-    while k < done {
+    for k in 0..done {
         let step = step_at(steps, k);
         let next = point_after(point, loops, step);
         point = next;
         loops = step_kinds::depth_after(step, loops);
-        k += 1;
     }
     MovedPoint {
         row: point,
@@ -204,11 +160,9 @@ pub fn depth_after_steps(depth: usize, steps: Steps, done: usize) -> usize
     ensures { DepthAfter steps depth done result }
 {
     let mut level = depth;
-    let mut k = 0;
-    while k < done {
+    for k in 0..done {
         let step = step_at(steps, k);
         level = step_kinds::depth_after(step, level);
-        k += 1;
     }
     level
 }
@@ -221,10 +175,8 @@ fn row_at(points: &[i64], at: usize, depth: usize) -> [i64; LOOPS]
     ensures { RowIs depth result (take depth (drop at points.now)) }
 {
     let mut row = [0i64; LOOPS];
-    let mut k = 0;
-    while k < depth {
+    for k in 0..depth {
         row[k] = points[at + k];
-        k += 1;
     }
     row
 }
@@ -242,9 +194,7 @@ fn store_moved(
     ensures { out.new ≡ put out.old at (after_steps steps done (take depth row)) }
 {
     let moved = point_after_steps(row, depth, steps, done);
-    let indices = moved.row;
-    let n = moved.depth;
-    nest_points::store(out, at, &indices[..n]);
+    nest_points::store(out, at, &moved.row[..moved.depth]);
 }
 
 // Writes where the first `done` steps take each of `count` points, row by row; returns how many indices each has then.
@@ -261,11 +211,9 @@ pub fn move_points(
         × (length out.new ≡ length out.old) }
 {
     let loops = depth_after_steps(depth, steps, done);
-    let mut j = 0;
-    while j < count {
+    for j in 0..count {
         let row = row_at(points, j * depth, depth);
         store_moved(row, depth, steps, done, out, j * loops);
-        j += 1;
     }
     loops
 }

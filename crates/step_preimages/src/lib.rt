@@ -67,11 +67,9 @@ pub fn circulation_source(n: usize, a: usize, b: usize) -> usize
 {
     let count = step_kinds::chain_length(b, a);
     let mut m = n;
-    let mut j = 0;
-    while j < count {
+    for j in 0..count {
         let k = step_kinds::exchange_at(b, a, j);
         m = exchange_source(m, k);
-        j += 1;
     }
     m
 }

@@ -2,7 +2,7 @@
 // refusal 12. n is the number of loops before the stage, m that after it.
 #![tactic(auto)]
 
-ghost use Rattle.std.specs.Prelude.{take};
+ghost use Rattle.std.specs.Prelude.{take, is_ok};
 ghost use Rattle.integers.specs.Affine.{Within};
 ghost use Rattle.model.specs.Grammar.{depth_after};
 ghost use Rattle.model.specs.Limits.{coefficients_after};
@@ -11,6 +11,7 @@ ghost use Rattle.step_kinds.specs.Kinds.{stage_of};
 ghost use Rattle.step_subscripts.specs.After.{StepFits, ChangeIn, Changes, AccessesIn, AccessesAfter};
 
 use model::{ARRAY_ROOM, LOOPS};
+use nest_rows::NumberOutOfRange;
 use step_kinds::Stage;
 
 fn row_after(cs: [i32; LOOPS], n: usize, stage: Stage) -> [i32; LOOPS]
@@ -18,32 +19,23 @@ fn row_after(cs: [i32; LOOPS], n: usize, stage: Stage) -> [i32; LOOPS]
     ensures { RowIs (depth_after (stage_of stage) n) result (coefficients_after (stage_of stage) (take n cs)) }
 {
     match stage {
-        Stage::Exchange(e) => {
-            let a = e.outer;
-            step_limits::exchange_row(cs, n, a)
-        }
-        Stage::Reversal(e) => {
-            let a = e.target;
-            step_limits::reverse_row(cs, n, a)
-        }
-        Stage::Skew(e) => {
-            let a = e.outer;
-            let d = e.distance;
-            let factor = e.factor;
-            step_limits::skew_row(cs, n, a, d, factor)
-        }
-        Stage::Section(e) => {
-            let a = e.target;
-            let w = e.width as u32;
-            step_limits::section_row(cs, n, a, w)
-        }
+        Stage::Exchange(e) => nest_rows::exchange_places(cs, n, e.outer),
+        Stage::Reversal(e) => step_limits::reverse_row(cs, n, e.target),
+        Stage::Skew(e) => step_limits::skew_row(cs, n, e.outer, e.distance, e.factor),
+        Stage::Section(e) => step_limits::section_row(cs, n, e.target, e.width as u32),
     }
 }
 
 // Subscript j of all; its constant stands.
-fn change_subscript(words: &mut [i16], j: usize, n: usize, m: usize, stage: Stage) -> bool
+fn change_subscript(
+    words: &mut [i16],
+    j: usize,
+    n: usize,
+    m: usize,
+    stage: Stage,
+) -> Result<(), NumberOutOfRange>
     requires { ChangeIn words.old j 1 n m stage }
-    ensures { Changes (stage_of stage) words.old n j 1 words.new result }
+    ensures { Changes (stage_of stage) words.old n j 1 words.new (is_ok result) }
 {
     let at = j * 8 + 1;
     let cs = nest_rows::row_at(words, at);
@@ -59,40 +51,31 @@ fn change_subscripts(
     n: usize,
     m: usize,
     stage: Stage,
-) -> bool
+) -> Result<(), NumberOutOfRange>
     requires { ChangeIn words.old first count n m stage }
-    ensures { Changes (stage_of stage) words.old n first count words.new result }
+    ensures { Changes (stage_of stage) words.old n first count words.new (is_ok result) }
 {
-    let mut d = 0;
-    while d < count {
-        if !change_subscript(words, first + d, n, m, stage) {
-            return false;
-        }
-        d += 1;
+    for d in 0..count {
+        change_subscript(words, first + d, n, m, stage)?;
     }
-    true
+    Ok(())
 }
 
-// Every access; `false` if a number is beyond ±32767, and the words are then of no use.
+// Every access; where a number is beyond ±32767, the words are of no use afterwards.
 pub fn change_accesses(
     words: &mut [i16],
     accessed: &[usize],
     extents: &[usize],
     depth: usize,
     stage: Stage,
-) -> bool
+) -> Result<(), NumberOutOfRange>
     requires { AccessesIn words.old accessed.now extents.now depth stage }
-    ensures { AccessesAfter (stage_of stage) words.old accessed.now extents.now depth words.new result }
+    ensures { AccessesAfter (stage_of stage) words.old accessed.now extents.now depth words.new (is_ok result) }
 {
     let m = step_kinds::depth_after_stage(stage, depth);
-    let mut k = 0;
-    while k < accessed.len() {
-        let at = accessed[k] * ARRAY_ROOM;
-        let count = extents[at];
-        if !change_subscripts(words, k * 3, count, depth, m, stage) {
-            return false;
-        }
-        k += 1;
+    for (k, &array) in accessed.iter().enumerate() {
+        let count = extents[array * ARRAY_ROOM];
+        change_subscripts(words, k * 3, count, depth, m, stage)?;
     }
-    true
+    Ok(())
 }

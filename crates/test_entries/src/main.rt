@@ -7,10 +7,10 @@
 
 ghost use Rattle.std.specs.Prelude.{◌≡◌, ◌+◌, ◌*◌, ◌<◌, ◌≤◌, length};
 ghost use Rattle.model.specs.Answer.{count_in};
-ghost use Rattle.entry_answers.specs.Answers.{answer_of};
+ghost use Rattle.ticket_refusals.specs.Refusals.{answer_of};
 
 use entry_answers::Answer;
-use entry_quick::Tested;
+use entry_quick::Meeting;
 use ticket_refusals::Refusal;
 
 const STDIN: i32 = 0;
@@ -32,8 +32,8 @@ fn print_count(n: usize) {
 
 fn print_refusal(r: Refusal) {
     io::write_all(STDOUT, b"refused");
-    print_number(ticket_refusals::number_of(r));
-    print_number(ticket_refusals::place_of(r));
+    print_number(r.number());
+    print_number(r.place());
     io::write_all(STDOUT, b"\n");
 }
 
@@ -42,11 +42,11 @@ fn print_answer(a: Answer) -> usize
     ensures { result ≡ count_in (answer_of a) }
 {
     match a {
-        Answer::Accepted(n) => {
+        Ok(n) => {
             print_count(n);
             n
         }
-        Answer::Refused(r) => {
+        Err(r) => {
             print_refusal(r);
             0
         }
@@ -67,34 +67,30 @@ fn try_judge(ticket: &[u8]) {
 
 fn try_quick(ticket: &[u8], first: usize, second: usize) {
     match entry_quick::quick(ticket, first, second) {
-        Tested::Apart => {
+        Ok(Meeting::Apart) => {
             io::write_all(STDOUT, b"apart\n");
         }
-        Tested::Perhaps => {
+        Ok(Meeting::Perhaps) => {
             io::write_all(STDOUT, b"perhaps\n");
         }
-        Tested::Refused(r) => print_refusal(r),
+        Err(r) => print_refusal(r),
     }
 }
 
 // ---- write and list
 
 fn fill(out: &mut [u8]) {
-    let mut i = 0;
-    while i < out.len() {
+    for i in 0..out.len() {
         out[i] = 170;
-        i += 1;
     }
 }
 
 // Whether the bytes from `first` on are as they were filled.
 fn is_filled(out: &[u8], first: usize) -> bool {
-    let mut i = first;
-    while i < out.len() {
+    for i in first..out.len() {
         if out[i] != 170 {
             return false;
         }
-        i += 1;
     }
     true
 }
@@ -104,10 +100,8 @@ fn print_byte(b: u8) {
 }
 
 fn print_bytes(bytes: &[u8]) {
-    let mut i = 0;
-    while i < bytes.len() {
+    for i in 0..bytes.len() {
         print_byte(bytes[i]);
-        i += 1;
     }
     io::write_all(STDOUT, b"\n");
 }
@@ -140,10 +134,8 @@ fn print_word(w: u32) {
 }
 
 fn print_words(store: &[u32]) {
-    let mut i = 0;
-    while i < store.len() {
+    for i in 0..store.len() {
         print_word(store[i]);
-        i += 1;
     }
     io::write_all(STDOUT, b"\n");
 }
@@ -151,12 +143,12 @@ fn print_words(store: &[u32]) {
 // Returns how many words may have changed.
 fn print_run(ticket: &[u8], store: &mut [u32]) -> usize {
     match entry_run::run(ticket, store) {
-        Answer::Accepted(n) => {
+        Ok(n) => {
             print_count(n);
             print_words(store);
             store.len()
         }
-        Answer::Refused(r) => {
+        Err(r) => {
             print_refusal(r);
             0
         }
@@ -181,10 +173,8 @@ fn store_word(bytes: &[u8], at: usize) -> u32
 fn set_words(bytes: &[u8], store: &mut [u32])
     requires { length store.old * 4 ≤ length bytes.now }
 {
-    let mut i = 0;
-    while i < store.len() {
+    for i in 0..store.len() {
         store[i] = store_word(bytes, i * 4);
-        i += 1;
     }
 }
 
@@ -192,12 +182,10 @@ fn set_words(bytes: &[u8], store: &mut [u32])
 fn is_as_set(bytes: &[u8], store: &[u32], first: usize) -> bool
     requires { length store.now * 4 ≤ length bytes.now }
 {
-    let mut i = first;
-    while i < store.len() {
+    for i in first..store.len() {
         if store[i] != store_word(bytes, i * 4) {
             return false;
         }
-        i += 1;
     }
     true
 }

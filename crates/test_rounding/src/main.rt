@@ -2,67 +2,42 @@
 // first stands to the second.
 #![tactic(auto)]
 
-ghost use Rattle.std.specs.Prelude.{◌<◌, pos, ◌<ℤ◌};
+ghost use Rattle.std.specs.Prelude.{pos, ◌<ℤ◌};
 
-// Writes n. Of a negative number one less than its size is cast: the least number, negated, would not fit.
-fn print_signed(n: i64) {
-    if n < 0 {
-        io::write_all(1, b"-");
-        io::print_decimal(1, (-1 - n) as u64 + 1);
-    } else {
-        io::print_decimal(1, n as u64);
-    }
-}
+use integers::{ceil_div, floor_div, sign_of};
+use std::io;
 
-// Writes two numbers, with a blank behind each.
-fn print_two(a: i64, b: i64) {
-    print_signed(a);
-    io::write_all(1, b" ");
-    print_signed(b);
-    io::write_all(1, b" ");
-}
-
-// Writes one line of the table: a is k - 9.
-fn print_line(k: usize, b: i64)
-    requires { (k < 19) × (pos 0 <ℤ b) }
+// Writes one line of the table.
+fn print_line(rt: &impl Print, a: i64, b: i64) -> io::Result<()>
+    requires { pos 0 <ℤ b }
 {
-    let a = (k as i64) - 9;
-    print_two(a, b);
-    print_signed(integers::floor_div(a, b));
-    io::write_all(1, b" ");
-    print_signed(integers::ceil_div(a, b));
-    io::write_all(1, b"\n");
+    println!(rt; "{a} {b} {} {}", floor_div(a, b), ceil_div(a, b))
 }
 
 // Writes one line of the signs.
-fn print_sign(a: i64, b: i64) {
-    print_two(a, b);
-    print_signed(integers::sign_of(a, b));
-    io::write_all(1, b"\n");
+fn print_sign(rt: &impl Print, a: i64, b: i64) -> io::Result<()> {
+    println!(rt; "{a} {b} {}", sign_of(a, b))
 }
 
 // At the ends of 64 bits, where the difference does not fit, and around zero.
-fn print_signs() {
-    print_sign(-9223372036854775808, 9223372036854775807);
-    print_sign(9223372036854775807, -9223372036854775808);
-    print_sign(-9223372036854775808, -9223372036854775808);
-    print_sign(9223372036854775807, 9223372036854775807);
-    print_sign(0, -9223372036854775808);
-    print_sign(-9223372036854775808, 0);
-    print_sign(0, 9223372036854775807);
-    print_sign(-1, 0);
-    print_sign(0, 0);
-    print_sign(1, 0);
+fn print_signs(rt: &impl Print) -> io::Result<()> {
+    print_sign(rt, i64::MIN, i64::MAX)?;
+    print_sign(rt, i64::MAX, i64::MIN)?;
+    print_sign(rt, i64::MIN, i64::MIN)?;
+    print_sign(rt, i64::MAX, i64::MAX)?;
+    print_sign(rt, 0, i64::MIN)?;
+    print_sign(rt, i64::MIN, 0)?;
+    print_sign(rt, 0, i64::MAX)?;
+    print_sign(rt, -1, 0)?;
+    print_sign(rt, 0, 0)?;
+    print_sign(rt, 1, 0)
 }
 
-fn main() {
-    let mut k = 0;
-    while k < 19 {
-        print_line(k, 1);
-        print_line(k, 2);
-        print_line(k, 3);
-        print_line(k, 4);
-        k += 1;
+fn main(rt: HostRuntime) -> io::Result<()> {
+    for a in -9..10 {
+        for b in 1..5 {
+            print_line(&rt, a, b)?;
+        }
     }
-    print_signs();
+    print_signs(&rt)
 }

@@ -1,23 +1,21 @@
 -- Refusal 9 is the rest of the model's `admit` after 1 to 8.
-use mathlib.Core.Path.{◌≡◌, sym, ◌∙◌, ap}
+use mathlib.Core.Path.{◌≡◌, sym, ap}
 use mathlib.Core.List.{List}
 use Prim.Native.Nat.{ℕ}
 use lib.IntN.{ℤ}
+use Rattle.std.specs.Prelude.{Result, Ok, Err}
 use Rattle.model.specs.Answer.{Answer, accepted, refused, ◌>>◌, ◌>>=◌}
 use Rattle.model.specs.Ticket as Model
 use Rattle.model.specs.Points.{iterations}
 use Rattle.model.specs.Bounds.{space, in_arrays, admitted}
 use Rattle.model.specs.Judge.{admit_of}
 use Rattle.ticket_refusals.specs.declared.Refusal.{Refusal}
-use Rattle.ticket_refusals.specs.declared.Status.{Status}
-use Rattle.ticket_refusals.specs.declared.Status.TheVariants.{Fine, Refused}
 use Rattle.ticket_refusals.specs.Refusals.{refusal}
 use Rattle.ticket_steps.specs.declared.Steps.{Steps}
-use Rattle.nest_flat.specs.FlatNests.{FlatNest, flat_nest}
+use Rattle.nest_flat.specs.FlatNests.{FlatNest}
 use Rattle.ticket_decoding.specs.declared.Decoded.{Decoded}
-use Rattle.ticket_decoding.specs.Ticket.{ticket_on, decoded, ticket_of}
-use Rattle.nest_admission.specs.Admission.{answer_of, passed, Admits, PointsCounted}
-use Rattle.nest_admission.specs.declared.Counted.{Counted}
+use Rattle.ticket_decoding.specs.Ticket.{ticket_on, ticket_of}
+use Rattle.nest_admission.specs.Admission.{Admits, PointsCounted}
 use Rattle.ticket_admission.specs.CountedTickets.{Laid, Counts}
 
 refused-before-9 : (m : Answer Model.Ticket) {n p : ℕ} → (m >>= (λ T. space T.nest.loops)) ≡ refused n p → admit_of m ≡ refused n p
@@ -26,12 +24,8 @@ refused-before-9 (accepted T) e =
     ap (λ (x : Answer (Unit {0})). (x >> in_arrays T.nest.arrays (iterations T.nest.loops) 1 T.nest.statements) >> accepted T) e
 refused-before-9 (refused n p) e = ap (λ (x : Answer (Unit {0})). x >> refused n p) e
 
-pub not-counted : (d : Decoded) (l w : List ℤ) (c : Counted) → Counts d l w c
-    → (r : Refusal) → c ≡ Counted.Refused r → admit_of (ticket_of d l w) ≡ refusal r
-not-counted d l w c h r e = refused-before-9 (ticket_of d l w) (sym h.same ∙ ap answer_of e)
-
-pub ticket-there : (d : Decoded) (l w : List ℤ) → d.status ≡ Fine → ticket_of d l w ≡ accepted (ticket_on (flat_nest d.header l w) d.steps)
-ticket-there d l w e = ap (λ (x : Status). decoded x (ticket_on (flat_nest d.header l w) d.steps)) e
+pub not-counted : (d : Result Decoded Refusal) (l w : List ℤ) (r : Refusal) → Counts d l w (Err r) → admit_of (ticket_of d l w) ≡ refusal r
+not-counted d l w r h = refused-before-9 (ticket_of d l w) (sym h.same)
 
 -- a ticket that is laid out waits for 9
 pub points-counted : (P : FlatNest) (S : Steps) (n : ℕ) → Laid P S n → PointsCounted P n
@@ -42,11 +36,11 @@ points-counted P S n h = record {
 }
 
 -- however refusal 9 was found or passed
-module _ (P : FlatNest) (S : Steps) (s : Status) (g : Admits P s) where
-  pub not-admitted : (r : Refusal) → s ≡ Refused r → admit_of (accepted (ticket_on P S)) ≡ refusal r
+module _ (P : FlatNest) (S : Steps) where
+  pub not-admitted : (r : Refusal) → Admits P (Err r) → admit_of (accepted (ticket_on P S)) ≡ refusal r
   unfolding admit_of ticket_on ◌>>◌ ◌>>=◌
-  not-admitted r e = ap (◌>> accepted (ticket_on P S)) (sym g ∙ ap passed e)
+  not-admitted r g = ap (◌>> accepted (ticket_on P S)) (sym g)
 
-  pub admitted-too : s ≡ Fine → admit_of (accepted (ticket_on P S)) ≡ accepted (ticket_on P S)
+  pub admitted-too : Admits P (Ok tt) → admit_of (accepted (ticket_on P S)) ≡ accepted (ticket_on P S)
   unfolding admit_of ticket_on ◌>>◌ ◌>>=◌
-  admitted-too e = ap (◌>> accepted (ticket_on P S)) (sym g ∙ ap passed e)
+  admitted-too g = ap (◌>> accepted (ticket_on P S)) (sym g)

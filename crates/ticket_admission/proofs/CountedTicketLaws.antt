@@ -1,39 +1,44 @@
 -- The grammar's answer, then refusals 7 and 8 on the flat nest.
-use mathlib.Core.Path.{◌≡◌, refl, sym, ◌∙◌, ap}
+use mathlib.Core.Path.{◌≡◌, refl, sym, subst}
 use mathlib.Core.List.{List}
 use Prim.Native.Nat.{ℕ}
-use native.Mathlib.Omega.{arith}
 use lib.IntN.{ℤ}
+use Rattle.std.specs.Prelude.{Result, Ok, Err}
+use Rattle.std.specs.Result.{IsErrAnd}
 use Rattle.model.specs.Answer.{◌>>=◌}
-use Rattle.model.specs.Bounds.{space}
 use Rattle.ticket_refusals.specs.declared.Refusal.{Refusal}
-use Rattle.ticket_refusals.specs.declared.Status.{Status}
-use Rattle.ticket_refusals.specs.declared.Status.TheVariants.{Fine, Refused}
-use Rattle.nest_flat.specs.FlatNests.{flat_nest}
+use Rattle.nest_flat.specs.FlatNests.{flat_nest, FlatNestIn}
 use Rattle.ticket_decoding.specs.declared.Decoded.{Decoded}
-use Rattle.ticket_decoding.specs.Ticket.{ticket_on, decoded, DecodedIn}
+use Rattle.ticket_decoding.specs.Ticket.{ticket_on, DecodedIn}
 use Rattle.nest_admission.specs.Admission as Admission
-use Rattle.nest_admission.specs.Admission.{answer_of}
-use Rattle.nest_admission.specs.declared.Counted.{Counted}
-use Rattle.ticket_admission.specs.CountedTickets.{Counts}
+use Rattle.ticket_admission.specs.CountedTickets.{Laid, Counts}
 
--- a refusal has no points
-no-points : {A : Type 0} (c : Counted) {r : Refusal} {n : ℕ} → c ≡ Counted.Refused r → c ≡ Counted.Points n → A
-no-points c e f = let z : ◌≡◌ {A = ℕ} 0 1 = cc in absurd (omega arith)
+-- a refusal that a `?` hands on
+pub handed-on : {T : Type 0} (P : Result T Refusal → Type 0) {r : Refusal} (x : Result T Refusal) → IsErrAnd x (λ e. e ≡ r) → P (Err r) → P x
+handed-on P (Ok a) h p = elim h [ ]
+handed-on P (Err e) h p = subst (λ y. P (Err y)) (sym h) p
 
-module _ (d : Decoded) (l w : List ℤ) (h : DecodedIn d l w) where
-  pub decode-refused : (r : Refusal) → d.status ≡ Refused r → Counts d l w (Counted.Refused r)
+module _ {read : Result Decoded Refusal} (l w : List ℤ) where
+  pub decode-refused : {r : Refusal} → read ≡ Err r → Counts read l w (Err r)
   unfolding ◌>>=◌
-  decode-refused r e = record {
-    same = sym (ap (λ (x : Status). decoded x (ticket_on (flat_nest d.header l w) d.steps) >>= (λ T. space T.nest.loops)) e);
-    fine = λ n z. no-points (Counted.Refused r) refl z;
-    laid = λ n z. no-points (Counted.Refused r) refl z;
-  }
+  decode-refused {r} e = subst (λ m. Counts m l w (Err r)) (sym e) (record { same = refl; laid = tt })
 
-  pub counted : d.status ≡ Fine → (a : Counted) → Admission.Counts (flat_nest d.header l w) a → Counts d l w a
-  unfolding ◌>>=◌ ticket_on
-  counted e a g = record {
-    same = g.same ∙ sym (ap (λ (x : Status). decoded x (ticket_on (flat_nest d.header l w) d.steps) >>= (λ T. space T.nest.loops)) e);
-    fine = λ n z. e;
-    laid = λ n z. record { ticket = h.ticket e; space-accepted = sym g.same ∙ ap answer_of z; count = g.count n z };
-  }
+  module _ (h : DecodedIn read l w) {d : Decoded} (e : read ≡ Ok d) where
+    pub flat-nest-in : FlatNestIn (flat_nest d.header l w)
+    flat-nest-in = (subst (λ m. DecodedIn m l w) e h).ticket.flat-nest
+
+    laid-out : (a : Result ℕ Refusal) → Admission.Counts (flat_nest d.header l w) a → Counts (Ok d) l w a
+    unfolding ◌>>=◌ ticket_on
+    laid-out (Ok n) g = record {
+      same = g.same;
+      laid = record { ticket = (subst (λ m. DecodedIn m l w) e h).ticket; space-accepted = sym g.same; count = g.count n refl };
+    }
+    laid-out (Err r) g = record { same = g.same; laid = tt }
+
+    pub counted : {a : Result ℕ Refusal} → Admission.Counts (flat_nest d.header l w) a → Counts read l w a
+    counted {a} g = subst (λ m. Counts m l w a) (sym e) (laid-out a g)
+
+-- the ticket that was read is laid out
+pub laid-ticket : {read : Result Decoded Refusal} {l w : List ℤ} {n : ℕ} {d : Decoded} → Counts read l w (Ok n) → read ≡ Ok d
+    → Laid (flat_nest d.header l w) d.steps n
+laid-ticket {l = l} {w = w} {n = n} {d = d} h e = (subst (λ m. Counts m l w (Ok n)) e h).laid

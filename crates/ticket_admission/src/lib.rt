@@ -4,19 +4,23 @@
 ghost use Rattle.ticket_decoding.specs.Ticket.{DecodedIn};
 ghost use Rattle.ticket_admission.specs.CountedTickets.{Counts};
 
-use nest_admission::Counted;
+use nest_flat::FlatNest;
 use ticket_decoding::Decoded;
-use ticket_refusals::Status;
+use ticket_refusals::Refusal;
 
-pub fn count_ticket_points(read: Decoded, limits: &[i16], words: &[i16]) -> Counted
+pub fn count_ticket_points(
+    read: Result<Decoded, Refusal>,
+    limits: &[i16],
+    words: &[i16],
+) -> Result<usize, Refusal>
     requires { DecodedIn read limits.now words.now }
     ensures { Counts read limits.now words.now result }
 {
-    let header = read.header;
-    let status = read.status;
-    match status {
-        Status::Fine => {}
-        Status::Refused(r) => return Counted::Refused(r),
-    }
-    nest_admission::count_points(header, limits, words)
+    let ticket = read?;
+    let nest = FlatNest {
+        header: &ticket.header,
+        limits,
+        words,
+    };
+    nest_admission::count_points(&nest)
 }

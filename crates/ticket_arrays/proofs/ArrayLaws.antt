@@ -1,4 +1,4 @@
--- The number of elements of an array, extent by extent, and its bound; then the array from its extents and the test of its elements.
+-- The number of elements of an array, extent by extent, and its bound; then the test of its elements and those before.
 use mathlib.Core.Path.{◌≡◌, refl, sym, ap, ◌∙◌}
 use mathlib.Core.List.{List, [], ◌∷◌, ◌++◌}
 use Prim.Native.Nat.{ℕ, zero, suc, ◌+◌, ◌*◌, ◌-◌, ◌<◌, ◌≤◌}
@@ -12,7 +12,13 @@ use lib.Seq.{take-suc-set}
 use Rattle.model.specs.Answer as Answer
 use Rattle.model.specs.Answer.{accepted, refused, require}
 use Rattle.model.specs.Grammar.{◌>>=◌, ◌>>◌, must, done, elements, shape, array}
-use Rattle.ticket_words.proofs.ReaderLaws.{after-value, after-refusal}
+use Rattle.std.specs.Prelude.{Ok, Err}
+use Rattle.ticket_refusals.specs.declared.Refusal.TheVariants.{TooManyElements}
+use Rattle.ticket_words.specs.Reads.{Reads}
+use Rattle.ticket_words.specs.declared.Words.{Words}
+use Rattle.ticket_words.proofs.ReaderLaws.{read-then}
+use Rattle.ticket_arrays.specs.Arrays.{shape_of}
+use Rattle.ticket_arrays.specs.declared.shapes.Shape.{Shape}
 
 elements-snoc : (xs : List ℕ) (x : ℕ) → elements (xs ++ (x ∷ [])) ≡ elements xs * x
 unfolding elements
@@ -44,20 +50,18 @@ most-three (suc (suc (suc (suc k)))) h = absurd (omega arith)
 
 -- ---- one array after others of t elements
 
-module _ (t : ℕ) (b : List ℕ) (k : ℕ) where
-  pub array-no : (q p : ℕ) → shape b k ≡ refused q p → array t b k ≡ refused q p
+module _ (t : ℕ) {o e : Words} {a : Shape} (h : Reads shape_of shape o (Ok a) e) where
+  pub array-fits : t + elements (shape_of a) ≤ 16384 → Reads shape_of (array t) o (Ok a) e
   unfolding array
-  array-no q p e = after-refusal shape _ b k q p e
+  array-fits g = read-then _ h (record { same = sym kept; bytes = refl })
+    where
+      kept : (must (leb (t + elements (shape_of a)) 16384) 5 >> done (shape_of a)) e.bytes.now e.next
+          ≡ accepted (record { value = shape_of a; next = e.next })
+      kept = unfold ◌>>◌ ◌>>=◌ must done Answer.◌>>=◌ require in rw (le-leb (t + elements (shape_of a)) 16384 g)
 
-  module _ (a : List ℕ) (j : ℕ) (e : shape b k ≡ accepted (record { value = a; next = j })) where
-    tested : array t b k ≡ (must (leb (t + elements a) 16384) 5 >> done a) b j
-    unfolding array
-    tested = after-value shape _ b k a j e
-
-    pub array-fits : t + elements a ≤ 16384 → array t b k ≡ accepted (record { value = a; next = j })
-    unfolding ◌>>◌ ◌>>=◌ must done Answer.◌>>=◌ require
-    array-fits h = tested ∙ rw (le-leb (t + elements a) 16384 h)
-
-    pub array-full : 16384 < t + elements a → array t b k ≡ refused 5 (j - 1)
-    unfolding ◌>>◌ ◌>>=◌ must Answer.◌>>=◌ require
-    array-full h = tested ∙ rw (lt-leb (t + elements a) 16384 h)
+  pub array-full : 16384 < t + elements (shape_of a) → Reads shape_of (array t) o (Err (TooManyElements (e.next - 1))) e
+  unfolding array
+  array-full g = read-then _ h (record { same = sym full; bytes = refl })
+    where
+      full : (must (leb (t + elements (shape_of a)) 16384) 5 >> done (shape_of a)) e.bytes.now e.next ≡ refused 5 (e.next - 1)
+      full = unfold ◌>>◌ ◌>>=◌ must Answer.◌>>=◌ require in rw (lt-leb (t + elements (shape_of a)) 16384 g)

@@ -13,7 +13,7 @@ use Rattle.lists.proofs.FlatMapLaws.{all-flat_map}
 use Rattle.lists.proofs.PartLaws.{take-put-end}
 use Rattle.integers.proofs.AffineLaws.{within-take}
 use Rattle.model.specs.Ticket.{Subscript, Access, Statement, Nest}
-use Rattle.model.specs.Grammar.{extents, total, most_words, most_accesses, access_room, most_statements, ticket_loops, ticket_limits, most_arrays, most_extents, array_room}
+use Rattle.model.specs.Grammar.{extents, total, most_words, most_accesses, access_room, ticket_loops, ticket_limits, most_arrays, most_extents}
 use Rattle.model.specs.Bounds.{accesses_of}
 use Rattle.model.specs.Ranges.{Small, ArrayRanges, AccessRanges, StatementRanges, NestRanges}
 use Rattle.model.specs.Shape.{Fits, WellFormed}
@@ -22,12 +22,11 @@ use Rattle.nest_flat.specs.Flat.{loops_from, NestOk}
 use Rattle.nest_flat.specs.Layout.{arrays_of, access_at, AccessesOk}
 use Rattle.nest_flat.specs.FlatNests.{FlatNest, extents_in, accessed_in, words_in, sizes_in, nest_of, statements_from, FlatNestIn}
 use Rattle.ticket_loops.proofs.LimitLaws.{small-within}
-use Rattle.ticket_arrays.specs.Laid.{lay_rows, shape_words}
+use Rattle.ticket_arrays.specs.Arrays.{LaidArrays}
 use Rattle.ticket_arrays.proofs.RowLaws.{all_replicate, part-take}
 use Rattle.ticket_arrays.proofs.ArrayBack.{laid-length, used-length, used-arrays, arrays-same, dimensions-at, few-dimensions, small-extents}
 use Rattle.ticket_statements.specs.Laid.{array_numbers, accesses_in, size_of}
 use Rattle.ticket_statements.specs.Statements.{StatementsLaid}
-use Rattle.ticket_statements.specs.declared.StatementsRead.{StatementsRead}
 use Rattle.ticket_statements.proofs.AccessBack.{Wide, words_at, access-back, accesses-length, accesses-at, accesses-small}
 use Rattle.ticket_decoding.proofs.StatementBack.{no-access, sum-sizes, statements-back}
 
@@ -48,10 +47,15 @@ abbrev pub nest_on : FlatNest → List (List ℕ) → List Statement → Nest
 nest_on P as' ss = record { loops = loops_from P.limits P.counts 0 P.depth; arrays = as'; statements = ss }
 
 module _ (P : FlatNest) (w : List ℤ) (room : length w ≡ most_words) (small : All Small w) (as' : List (List ℕ)) (ss : List Statement)
-    (t : StatementsRead) (nest : NestOk P.limits P.counts P.depth) (Array-count : length as' ≡ P.arrays) (few-arrays : P.arrays ≤ most_arrays)
-    (e : P.extents ≡ lay_rows array_room no_extents 0 (map shape_words as')) (b : StatementsLaid ss w P.words no_accessed P.accessed P.sizes P.rules
-    P.constants t)
-    (statements-is : P.statements ≡ t.count) (accesses-is : P.accesses ≡ t.accesses) (few-accesses : P.accesses ≤ most_accesses)
+    (nest : NestOk P.limits P.counts P.depth) (a : LaidArrays no_extents P.extents as') (Array-count : length as' ≡ P.arrays)
+    (b : StatementsLaid ss w P.words (record {
+      count = P.statements;
+      sizes = P.sizes;
+      rules = P.rules;
+      constants = P.constants;
+      accesses = P.accesses;
+      accessed = P.accessed;
+    }))
     (ranges : NestRanges ticket_loops ticket_limits (nest_on P as' ss)) (formed : WellFormed (nest_on P as' ss)) where
   abbrev all : List Access
   all = accesses_in ss
@@ -63,7 +67,10 @@ module _ (P : FlatNest) (w : List ℤ) (room : length w ≡ most_words) (small :
   blank-length = length-replicate 16 zero
 
   access-count : P.accesses ≡ length all
-  access-count = accesses-is ∙ b.accesses
+  access-count = b.accesses
+
+  few-arrays : P.arrays ≤ most_arrays
+  few-arrays = let h = a.few in omega arith
 
   -- ---- the parts of the model
 
@@ -92,7 +99,7 @@ module _ (P : FlatNest) (w : List ℤ) (room : length w ≡ most_words) (small :
   -- ---- lengths
 
   words-room : (0 + length all) * access_room ≤ length w
-  words-room = let c = access-count in omega arith
+  words-room = let c = access-count in let h = b.few-accesses in omega arith
 
   words-length : length P.words ≡ most_words
   words-length = ap length b.laid.words ∙ accesses-length P.depth nest.shallow w 0 all all-wide words-room ∙ room
@@ -116,7 +123,7 @@ module _ (P : FlatNest) (w : List ℤ) (room : length w ≡ most_words) (small :
       let v = all_get_d (Wide P.depth) all i no-access all-wide g in
       let named : get_or (accessed_in P) i 0 ≡ x.array = ap (λ l. get_or l i 0) accessed-are ∙ get_or-map (λ (a : Access). a.array) all i no-access in
       let dims : get_or (extents_in P) (x.array * 4) 0 ≡ length x.subscripts =
-      dimensions-at no_extents blank-length as' P.arrays Array-count few-arrays ranges.arrays P.extents e x.array f.there
+      dimensions-at no_extents blank-length as' P.arrays Array-count few-arrays ranges.arrays P.extents a.laid x.array f.there
       ∙ sym f.dimensions in
       access-back (words_in P) (accessed_in P) (extents_in P) P.depth i x named dims
       (λ d r.
@@ -131,8 +138,8 @@ module _ (P : FlatNest) (w : List ℤ) (room : length w ≡ most_words) (small :
   accesses-sound =
       let n = words-length in
       let o = accessed-used in
-      let a = used-length no_extents blank-length as' P.arrays Array-count few-arrays ranges.arrays P.extents e in
-      let u = used-arrays no_extents blank-length as' P.arrays Array-count few-arrays ranges.arrays P.extents e in
+      let y = used-length no_extents blank-length as' P.arrays Array-count few-arrays ranges.arrays P.extents a.laid in
+      let u = used-arrays no_extents blank-length as' P.arrays Array-count few-arrays ranges.arrays P.extents a.laid in
       record {
         words = length-take-le (P.accesses * access_room) P.words (omega arith) ∙ ap (◌* access_room) (sym o);
         many = omega arith;
@@ -140,8 +147,8 @@ module _ (P : FlatNest) (w : List ℤ) (room : length w ≡ most_words) (small :
         shallow = nest.shallow;
         small = within-take 32767 P.words (P.accesses * access_room)
             (small-within P.words (subst (All Small) (sym b.laid.words) (accesses-small w 0 all small all-ranges)));
-        dimensions = few-dimensions no_extents blank-length as' P.arrays Array-count few-arrays ranges.arrays P.extents e;
-        extents = small-extents no_extents blank-length as' P.arrays Array-count few-arrays ranges.arrays P.extents e
+        dimensions = few-dimensions no_extents blank-length as' P.arrays Array-count few-arrays ranges.arrays P.extents a.laid;
+        extents = small-extents no_extents blank-length as' P.arrays Array-count few-arrays ranges.arrays P.extents a.laid
             (all_replicate (λ x. x ≤ 4096) 16 0 (omega arith));
         there = λ k g. all_get_d (λ x. x < length (extents_in P) / 4) (accessed_in P) k 0
             (subst (λ (l : List ℕ). All (λ x. x < length (extents_in P) / 4) l) (sym accessed-are)
@@ -152,10 +159,10 @@ module _ (P : FlatNest) (w : List ℤ) (room : length w ≡ most_words) (small :
   -- ---- its statements
 
   statement-count : P.statements ≡ length ss
-  statement-count = statements-is ∙ sym b.count
+  statement-count = sym b.count
 
   sizes-are : sizes_in P ≡ map size_of ss
-  sizes-are = ap (λ n. take n P.sizes) statements-is ∙ b.sizes
+  sizes-are = b.sizes
 
   rules-are : take (length ss) P.rules ≡ map (λ (s : Statement). s.rule) ss
   rules-are = ap (λ n. take n P.rules) b.count ∙ b.rules
@@ -180,15 +187,14 @@ module _ (P : FlatNest) (w : List ℤ) (room : length w ≡ most_words) (small :
   by_parts as₂ ss₂ g k = rw (g, k)
 
   arrays-stand : arrays_of (extents_in P) ≡ as'
-  arrays-stand = arrays-same no_extents blank-length as' P.arrays Array-count few-arrays ranges.arrays P.extents e
+  arrays-stand = arrays-same no_extents blank-length as' P.arrays Array-count few-arrays ranges.arrays P.extents a.laid
 
   pub flat-nest-stands : nest_of P ≡ nest_on P as' ss
   unfolding nest_of
   flat-nest-stands = by_parts _ _ arrays-stand statements-same
 
-  pub flat-nest-in : length P.sizes ≡ most_statements → length P.rules ≡ most_statements → length P.constants ≡ most_statements
-      → length P.accessed ≡ most_accesses → FlatNestIn P
-  flat-nest-in s r c o = record {
+  pub flat-nest-in : FlatNestIn P
+  flat-nest-in = record {
     nest = nest;
     some = let n = loops-count P.limits P.counts 0 P.depth in let h = ranges.few-loops.low in omega arith;
     accesses-ok = accesses-sound;
@@ -197,11 +203,11 @@ module _ (P : FlatNest) (w : List ℤ) (room : length w ≡ most_words) (small :
     each = subst (λ (l : List ℕ). All (λ m. 1 ≤ m) l) (sym sizes-are) some-access;
     few-arrays = few-arrays;
     few-statements = let n = statement-count in let h = ranges.few-statements.high in omega arith;
-    few-accesses = few-accesses;
-    extents-length = laid-length no_extents blank-length as' P.arrays Array-count few-arrays ranges.arrays P.extents e;
-    sizes-length = s;
-    accessed-length = o;
+    few-accesses = b.few-accesses;
+    extents-length = laid-length no_extents blank-length as' P.arrays Array-count few-arrays ranges.arrays P.extents a.laid;
+    sizes-length = b.sizes-room;
+    accessed-length = b.accessed-room;
     words-length = words-length;
-    rules-length = r;
-    constants-length = c;
+    rules-length = b.rules-room;
+    constants-length = b.constants-room;
   }

@@ -1,16 +1,14 @@
 -- The ticket that a flat nest and its steps hold; decoding is the model's grammar of the bytes.
-use Rattle.std.specs.Prelude.{◌≡◌, cond, List, ℕ, ◌-◌, ◌*◌, ◌≤◌, ltb, ℤ, length}
+use Rattle.std.specs.Prelude.{◌≡◌, List, ◌≤◌, ℤ, length, Result, Ok, Err, IfOk}
 use Rattle.lists.specs.Membership.{All}
 use Rattle.integers.specs.Affine.{Within}
 use Rattle.model.specs.Answer.{Answer, accepted}
 use Rattle.model.specs.Ticket as Model
-use Rattle.model.specs.Grammar as Grammar
 use Rattle.model.specs.Ranges.{Small, TicketRanges}
 use Rattle.model.specs.Shape.{WellFormed}
-use Rattle.model.specs.Grammar.{Reader, ◌>>=◌, ticket_loops, ticket_limits, nest_room, most_words}
+use Rattle.model.specs.Grammar.{ticket_loops, nest_room, most_words}
 use Rattle.ticket_refusals.specs.Refusals.{refusal}
-use Rattle.ticket_refusals.specs.declared.Refusal.TheVariants.{TrailingBytes}
-use Rattle.ticket_refusals.specs.declared.Status.{Status}
+use Rattle.ticket_refusals.specs.declared.Refusal.{Refusal}
 use Rattle.nest_flat.specs.FlatNests.{FlatNest, flat_nest, nest_of, FlatNestIn}
 use Rattle.ticket_steps.specs.Steps.{steps_of, StepsIn}
 use Rattle.ticket_steps.specs.declared.Steps.{Steps}
@@ -18,18 +16,6 @@ use Rattle.ticket_decoding.specs.declared.Decoded.{Decoded}
 
 unfoldable pub ticket_on : FlatNest → Steps → Model.Ticket
 ticket_on P S = record { nest = nest_of P; steps = steps_of S }
-
--- the four sections
-unfoldable pub sections : Reader Model.Ticket
-sections = do
-  n ← Grammar.nest ticket_loops ticket_limits
-  ts ← Grammar.steps (length n.loops)
-  Grammar.done (record { nest = n; steps = ts })
-
--- of sections that end before word k, in n bytes
-abbrev pub end_of : Status → ℕ → ℕ → Status
-end_of Status.Fine k n = cond (ltb ((k - 1) * 2) n) (Status.Refused (TrailingBytes k)) Status.Fine
-end_of (Status.Refused r) k n = Status.Refused r
 
 -- ---- what decode answers
 
@@ -40,13 +26,10 @@ pub record Lent (limits words : List ℤ) : Type 0 where
   pub words-length : length words ≡ most_words
   pub words_small : All Small words
 
-abbrev pub decoded : Status → Model.Ticket → Answer Model.Ticket
-decoded Status.Fine t = accepted t
-decoded (Status.Refused r) t = refusal r
-
 -- the model's answer for a ticket that was read onto these limits and words
-abbrev pub ticket_of : Decoded → List ℤ → List ℤ → Answer Model.Ticket
-ticket_of d limits words = decoded d.status (ticket_on (flat_nest d.header limits words) d.steps)
+abbrev pub ticket_of : Result Decoded Refusal → List ℤ → List ℤ → Answer Model.Ticket
+ticket_of (Ok d) limits words = accepted (ticket_on (flat_nest d.header limits words) d.steps)
+ticket_of (Err r) limits words = refusal r
 
 -- a flat nest and steps that hold a ticket of the grammar: within its ranges, and of at most four loops
 pub record TicketIn (P : FlatNest) (S : Steps) : Type 0 where
@@ -57,10 +40,10 @@ pub record TicketIn (P : FlatNest) (S : Steps) : Type 0 where
   pub formed : WellFormed (nest_of P)
 
 -- what the stages after reading ask of a ticket that was read: nothing where it is refused
-pub record DecodedIn (d : Decoded) (limits words : List ℤ) : Type 0 where
-  pub ticket : d.status ≡ Status.Fine → TicketIn (flat_nest d.header limits words) d.steps
+pub record DecodedIn (read : Result Decoded Refusal) (limits words : List ℤ) : Type 0 where
+  pub ticket : IfOk read (λ d. TicketIn (flat_nest d.header limits words) d.steps)
 
 -- m is the model's answer; the lent slices became limits and words
-pub record Decodes (m : Answer Model.Ticket) (r : Decoded) (limits words : List ℤ) : Type 0 where
-  pub same : ticket_of r limits words ≡ m
-  pub within : DecodedIn r limits words
+pub record Decodes (m : Answer Model.Ticket) (read : Result Decoded Refusal) (limits words : List ℤ) : Type 0 where
+  pub same : ticket_of read limits words ≡ m
+  pub within : DecodedIn read limits words

@@ -6,6 +6,7 @@ use Prim.Native.Nat.{ℕ, suc, ◌+◌, ◌≤◌, ◌<◌}
 use native.Mathlib.Omega.{arith}
 use lib.IntN.{ℤ, pos}
 use lib.ListN.{length, get_or}
+use Rattle.std.specs.Prelude.{Result, Ok, Err}
 use Rattle.lists.specs.Membership.{All}
 use Rattle.lists.proofs.MembershipLaws.{all_nil, all_cons, all_append}
 use Rattle.lists.proofs.PartLaws.{put_all}
@@ -16,42 +17,30 @@ use Rattle.model.specs.Ranges.{Small}
 use Rattle.model.proofs.Grammar.RoundTripLaws.{encode-length, nest-small}
 use Rattle.nest_flat.specs.Flat.{loops_from}
 use Rattle.nest_flat.specs.Layout.{arrays_of}
-use Rattle.nest_flat.specs.FlatNests.{FlatNest, extents_in, sizes_in, accessed_in, words_in, statements_from, nest_of, FlatNestIn}
-use Rattle.nest_flat.proofs.FlatNestLaws.{accessed-count, sizes-count}
+use Rattle.nest_flat.specs.FlatNests.{FlatNest, extents_in, sizes_in, accessed_in, words_in, statements_from, nest_of}
 use Rattle.ticket_encoding_words.specs.Writing.{Writable, Written}
-use Rattle.ticket_lengths.specs.Slices.{statement_at, statements_at, nest_at, SlicesIn}
-use Rattle.ticket_encoding.specs.declared.Encoded.{Encoded}
-use Rattle.ticket_encoding.specs.declared.Encoded.TheVariants.{Complete, TooShort}
-use Rattle.ticket_encoding.specs.Encodable.{StatementsIn, Encodable, FlatNestEncodable}
+use Rattle.ticket_lengths.specs.Slices.{statement_at, statements_at, nest_at}
+use Rattle.ticket_encoding.specs.declared.NestSlices.{NestSlices}
+use Rattle.ticket_encoding.specs.declared.TooShort.{TooShort}
+use Rattle.ticket_encoding.specs.Nests.{statements_on, nest_on}
+use Rattle.ticket_encoding.specs.Encodable.{FlatNestEncodable}
 use Rattle.ticket_encoding.specs.Encoding.{Encodes}
 use Rattle.ticket_encoding.proofs.StatementLaws.{first, second, third, fourth, four}
 use Rattle.model.proofs.Grammar.WordLaws.{nest_sections, sections-then}
 
 -- ---- sections
 
-module _ (s : List ℤ) (c : List ℕ) (n : ℕ) (v a ms rs es o : List ℕ) (w : List ℤ) where
+module _ (S : NestSlices) where
   abbrev loops : List ℤ
-  loops = counted loop_words (loops_from s c 0 n)
+  loops = counted loop_words (loops_from S.limits.now S.counts.now 0 S.depth)
 
   abbrev arrays : List ℤ
-  arrays = counted array_words (arrays_of v)
+  arrays = counted array_words (arrays_of S.arrays.now)
 
   abbrev statements : List ℤ
-  statements = counted statement_words (statements_at w o a n rs es 0 0 ms)
+  statements = counted statement_words (statements_on S)
 
-  module _ (p : SlicesIn s c n v a ms rs es o w) where
-    pub statements-in : StatementsIn w o a n ms rs es
-    statements-in = let t = p.all-accesses in
-        record {
-          accesses = p.accesses;
-          all-accesses = omega arith;
-          each = p.each;
-          few = p.few-statements;
-          rules = p.rules;
-          constants = p.constants;
-        }
-
-  module _ {out : List ℕ} {at : ℕ} (h : Writable out at (nest_words (nest_at s c n v a ms rs es o w))) where
+  module _ {out : List ℕ} {at : ℕ} (h : Writable out at (nest_words (nest_on S))) where
     pub loops-room : Writable out at loops
     unfolding nest_words nest_at
     loops-room = first loops arrays statements (pos 0 ∷ []) h
@@ -71,8 +60,7 @@ module _ (s : List ℤ) (c : List ℕ) (n : ℕ) (v a ms rs es o : List ℕ) (w 
           unfolding nest_words nest_at
           steps-room = fourth loops arrays statements (pos 0 ∷ []) h v₁ v₂ v₃
 
-          pub sections-written : {o₄ : List ℕ} {t : ℕ} → Written o₃ o₄ r (pos 0 ∷ []) t
-              → Written out o₄ at (nest_words (nest_at s c n v a ms rs es o w)) t
+          pub sections-written : {o₄ : List ℕ} {t : ℕ} → Written o₃ o₄ r (pos 0 ∷ []) t → Written out o₄ at (nest_words (nest_on S)) t
           unfolding nest_words nest_at
           sections-written v₄ = four loops arrays statements (pos 0 ∷ []) h v₁ v₂ v₃ v₄
 
@@ -82,11 +70,11 @@ module _ (N : Model.Nest) (o : List ℕ) (n : ℕ) (e : n ≡ length (encode N))
   pub nest-writable : n ≤ length o → All Small (nest_words N) → Writable o 0 (nest_words N)
   nest-writable h i = let q = encode-length N in record { room = omega arith; small = i }
 
-  pub nest-written : {o' : List ℕ} {r : ℕ} → n ≤ length o → Written o o' 0 (nest_words N) r → Encodes N o o' (Complete r)
+  pub nest-written : {o' : List ℕ} {r : ℕ} → n ≤ length o → Written o o' 0 (nest_words N) r → Encodes N o o' (Ok r)
   unfolding encode
   nest-written h w = let q = encode-length N in let p = w.next in (w.same ∙ put_all o (bytes_of (nest_words N)), omega arith, omega arith)
 
-  pub nest-long : length o < n → Encodes N o o (TooShort n)
+  pub nest-long : length o < n → Encodes N o o (Err (record { needed = n }))
   nest-long h = (refl, e, omega arith)
 
 nest-sections : (N : Model.Nest) → nest_sections N ++ (pos 0 ∷ []) ≡ nest_words N
@@ -110,28 +98,13 @@ module _ (P : FlatNest) where
   nest-same = ap (λ ss. record { loops = loops_from P.limits P.counts 0 P.depth; arrays = arrays_of (extents_in P); statements = ss })
       (statements-same 0 0 (sizes_in P))
 
-  slices-in : FlatNestIn P → SlicesIn P.limits P.counts P.depth (extents_in P) (extents_in P) (sizes_in P) P.rules P.constants
-      (accessed_in P) (words_in P)
-  slices-in p = let n = sizes-count P p in let f = p.few-statements in let r = p.rules-length in let e = p.constants-length in record {
-    nest = p.nest;
-    written = record { few = p.accesses-ok.few; dimensions = p.accesses-ok.dimensions };
-    accesses = p.accesses-ok;
-    all-accesses = p.all-accesses ∙ sym (accessed-count P p);
-    each = p.each;
-    few-statements = omega arith;
-    rules = omega arith;
-    constants = omega arith;
-  }
+  -- its words are within ±32767
+  pub flat-nest-small : FlatNestEncodable P → All Small (nest_words (nest_at P.limits P.counts P.depth (extents_in P) (extents_in P) (sizes_in P)
+      P.rules P.constants (accessed_in P) (words_in P)))
+  flat-nest-small p = subst (λ N. All Small (nest_words N)) (sym nest-same) (subst (All Small) (nest-sections (nest_of P))
+      (all_append Small (nest_sections (nest_of P)) (pos 0 ∷ []) (nest-small (nest_of P) (omega arith) (omega arith) p.ranges p.formed)
+      (all_cons Small (omega arith) (all_nil Small))))
 
-  pub flat-nest-encodable : FlatNestEncodable P → Encodable P.limits P.counts P.depth (extents_in P) (extents_in P) (sizes_in P) P.rules
-      P.constants (accessed_in P) (words_in P)
-  flat-nest-encodable p = record {
-    held = slices-in p.flat-nest;
-    small = subst (λ N. All Small (nest_words N)) (sym nest-same) (subst (All Small) (nest-sections (nest_of P))
-        (all_append Small (nest_sections (nest_of P)) (pos 0 ∷ []) (nest-small (nest_of P) (omega arith) (omega arith) p.ranges p.formed)
-        (all_cons Small (omega arith) (all_nil Small))));
-  }
-
-  pub flat-nest-encodes : (o o' : List ℕ) (r : Encoded) → Encodes (nest_at P.limits P.counts P.depth (extents_in P) (extents_in P) (sizes_in P)
-      P.rules P.constants (accessed_in P) (words_in P)) o o' r → Encodes (nest_of P) o o' r
+  pub flat-nest-encodes : (o o' : List ℕ) (r : Result ℕ TooShort) → Encodes (nest_at P.limits P.counts P.depth (extents_in P) (extents_in P)
+      (sizes_in P) P.rules P.constants (accessed_in P) (words_in P)) o o' r → Encodes (nest_of P) o o' r
   flat-nest-encodes o o' r h = subst (λ N. Encodes N o o' r) nest-same h

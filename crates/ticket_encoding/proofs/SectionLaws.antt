@@ -1,56 +1,94 @@
 -- Arrays and accesses on their slices: where each stands, and its words there.
-use mathlib.Core.Path.{◌≡◌, ap₂}
-use mathlib.Core.List.{List, ◌∷◌}
-use Prim.Native.Nat.{ℕ, ◌+◌, ◌*◌, ◌/◌, ◌≤◌, ◌<◌}
+use mathlib.Core.Path.{◌≡◌, refl, sym, ap₂}
+use mathlib.Core.List.{List, ◌∷◌, map}
+use Prim.Native.Nat.{ℕ, ◌+◌, ◌-◌, ◌*◌, ◌/◌, ◌≤◌, ◌<◌}
 use native.Mathlib.Omega.{arith}
 use lib.IntN.{ℤ, pos}
 use lib.ListN.{length, get_or, take, drop}
+use Rattle.std.proofs.lemmas.List.{map-id}
 use Rattle.model.specs.Encode.{counted, access_words}
 use Rattle.model.specs.Grammar.{most_accesses, most_extents}
-use Rattle.nest_flat.specs.Layout.{access_at, accesses_from}
-use Rattle.ticket_encoding_words.proofs.WritingLaws.{spans}
+use Rattle.ticket_encoding_words.specs.Writing.{Writable, Written}
+use Rattle.ticket_encoding_words.proofs.WritingLaws.{spans, part-room, part-written}
 use Rattle.ticket_lengths.specs.Lengths.{ArraysIn}
 use Rattle.ticket_lengths.proofs.SumLaws.{array-ends}
 use Rattle.ticket_lengths.proofs.SliceLaws.{access-spans, accesses-spans, accesses-length}
-use Rattle.ticket_encoding.specs.Encodable.{AccessesIn}
+use Rattle.ticket_encoding.specs.declared.NestSlices.{NestSlices}
+use Rattle.ticket_encoding.specs.Nests.{access_on, accesses_on}
 
--- array i
-pub array-room : (a : List ℕ) (i : ℕ) → ArraysIn a → i < length a / 4 → i * 4 + (get_or a (i * 4) 0 + 1) ≤ length a
-array-room a i p h = let e = array-ends a i h in let d = p.dimensions i h in omega arith
+-- ---- array i
 
--- access k
-module _ (w : List ℤ) (o a : List ℕ) (n k : ℕ) (p : AccessesIn w o a n k 1) where
-  pub access-there : k < length o
-  access-there = let h = p.there in omega arith
+module _ (a : List ℕ) (i : ℕ) where
+  abbrev its_numbers : List ℤ
+  its_numbers = map pos (take (get_or a (i * 4) 0 + 1) (drop (i * 4) a))
 
-  access-its-array : get_or o k 0 < length a / 4
-  access-its-array = p.accesses.there k access-there
+  abbrev its-part : List ℤ
+  its-part = map pos (take (i * 4 + get_or a (i * 4) 0 + 1 - i * 4) (drop (i * 4) a))
 
-  pub its-array-ends : get_or o k 0 * 4 + 4 ≤ length a
-  its-array-ends = array-ends a (get_or o k 0) access-its-array
+  array-end : i * 4 + get_or a (i * 4) 0 + 1 ≡ i * 4 + (get_or a (i * 4) 0 + 1)
+  array-end = omega arith
 
-  pub its-array-small : get_or o k 0 * 4 + 4 ≤ most_extents
-  its-array-small = let e = its-array-ends in let f = p.accesses.few in omega arith
+  pub array-writable : {o : List ℕ} {at : ℕ} → Writable o at its_numbers → Writable o at its-part
+  array-writable = part-room pos a _ _ _ array-end refl
 
-  pub access-small : (k < most_accesses) × (n ≤ 6)
-  access-small = let h = access-there in let m = p.accesses.many in (omega arith, p.accesses.shallow)
+  pub array-written : {o o' : List ℕ} {at r : ℕ} → Written o o' at its-part r → Written o o' at its_numbers r
+  array-written = part-written pos a _ _ _ array-end refl
 
-  pub access-flat : get_or a (get_or o k 0 * 4) 0 ≤ 3
-  access-flat = p.accesses.dimensions (get_or o k 0) access-its-array
+  pub array-room : ArraysIn a → i < length a / 4 → i * 4 + get_or a (i * 4) 0 + 1 ≤ length a
+  array-room p h = let e = array-ends a i h in let d = p.dimensions i h in omega arith
 
-  pub access-parts : access_words (access_at w o a n k) ≡ pos (get_or o k 0 + 1) ∷ spans (λ i. take (n + 1) (drop (i * 8) w)) (k * 3)
-      (get_or a (get_or o k 0 * 4) 0)
-  access-parts = access-spans w o a n k (let l = p.accesses.words in let h = access-there in omega arith) access-flat
+-- ---- access k
+
+module _ (S : NestSlices) (k : ℕ) (h : k < length S.accessed.now) where
+  abbrev array : ℕ
+  array = get_or S.accessed.now k 0
+
+  abbrev dimensions : ℕ
+  dimensions = get_or S.extents.now (array * 4) 0
+
+  its-array : array < length S.extents.now / 4
+  its-array = S.held.accesses.there k h
+
+  pub its-array-ends : array * 4 + 4 ≤ length S.extents.now
+  its-array-ends = array-ends S.extents.now array its-array
+
+  pub its-array-small : array * 4 + 4 ≤ most_extents
+  its-array-small = let e = its-array-ends in let f = S.held.accesses.few in omega arith
+
+  pub access-small : (k < most_accesses) × (S.depth ≤ 6)
+  access-small = let m = S.held.accesses.many in (omega arith, S.held.accesses.shallow)
+
+  pub access-flat : dimensions ≤ 3
+  access-flat = S.held.accesses.dimensions array its-array
+
+  pub access-parts : access_words (access_on S k) ≡ pos (array + 1) ∷ spans (λ i. take (S.depth + 1) (drop (i * 8) S.words.now)) (k * 3) dimensions
+  access-parts = access-spans S.words.now S.accessed.now S.extents.now S.depth k (let l = S.held.accesses.words in omega arith) access-flat
 
   -- subscript d of its own
-  pub form-room : (d : ℕ) → d < get_or a (get_or o k 0 * 4) 0 → (k * 3 + d) * 8 + (n + 1) ≤ length w
-  form-room d b = let l = p.accesses.words in let h = access-there in let f = access-flat in let s = p.accesses.shallow in omega arith
+  pub form-room : (d : ℕ) → d < dimensions → (k * 3 + d) * 8 + S.depth + 1 ≤ length S.words.now
+  form-room d b = let l = S.held.accesses.words in let f = access-flat in let s = S.held.accesses.shallow in omega arith
 
-pub accesses-parts : (w : List ℤ) (o a : List ℕ) (n k m : ℕ)
-    → counted access_words (accesses_from w o a n k m) ≡ pos m ∷ spans (λ i. access_words (access_at w o a n i)) k m
+-- the words of subscript j of all
+module _ (S : NestSlices) (j : ℕ) where
+  abbrev form-words : List ℤ
+  form-words = take (S.depth + 1) (drop (j * 8) S.words.now)
+
+  abbrev form-part : List ℤ
+  form-part = map (λ z. z) (take (j * 8 + S.depth + 1 - j * 8) (drop (j * 8) S.words.now))
+
+  form-end : j * 8 + S.depth + 1 ≡ j * 8 + (S.depth + 1)
+  form-end = omega arith
+
+  pub form-writable : {o : List ℕ} {at : ℕ} → Writable o at form-words → Writable o at form-part
+  form-writable = part-room (λ z. z) S.words.now _ _ _ form-end (sym (map-id form-words))
+
+  pub form-written : {o o' : List ℕ} {at r : ℕ} → Written o o' at form-part r → Written o o' at form-words r
+  form-written = part-written (λ z. z) S.words.now _ _ _ form-end (sym (map-id form-words))
+
+-- ---- m accesses from access k on
+
+pub accesses-parts : (S : NestSlices) (k m : ℕ)
+    → counted access_words (accesses_on S k m) ≡ pos m ∷ spans (λ i. access_words (access_on S i)) k m
 unfolding counted
-accesses-parts w o a n k m = ap₂ (λ j ws. pos j ∷ ws) (accesses-length w o a n k m) (accesses-spans w o a n k m)
-
--- one of m
-pub one-access : (w : List ℤ) (o a : List ℕ) (n k m i : ℕ) → AccessesIn w o a n k m → i < m → AccessesIn w o a n (k + i) 1
-one-access w o a n k m i p h = let t = p.there in record { accesses = p.accesses; there = omega arith }
+accesses-parts S k m = ap₂ (λ j ws. pos j ∷ ws) (accesses-length S.words.now S.accessed.now S.extents.now S.depth k m)
+    (accesses-spans S.words.now S.accessed.now S.extents.now S.depth k m)

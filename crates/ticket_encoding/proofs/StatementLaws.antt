@@ -10,13 +10,14 @@ use lib.Seq.{drop-cons, drop-length}
 use Rattle.lists.proofs.MembershipLaws.{all_get_d}
 use Rattle.lists.proofs.FlatMapLaws.{flat_map-one}
 use Rattle.model.specs.Encode.{counted, access_words, statement_words}
+use Rattle.model.specs.Ticket.{Statement}
 use Rattle.model.specs.Store.{sum}
 use Rattle.model.specs.Grammar.{most_accesses}
-use Rattle.nest_flat.specs.Layout.{access_at, accesses_from}
 use Rattle.ticket_encoding_words.specs.Writing.{Writable, Written}
 use Rattle.ticket_encoding_words.proofs.WritingLaws.{spans, writable-left, writable-right, written_both, Filling, front-next, front-more}
 use Rattle.ticket_lengths.specs.Slices.{statement_at, statements_at}
-use Rattle.ticket_encoding.specs.Encodable.{AccessesIn, StatementIn, StatementsIn}
+use Rattle.ticket_encoding.specs.declared.NestSlices.{NestSlices}
+use Rattle.ticket_encoding.specs.Nests.{access_on, accesses_on, statement_on, statements_on}
 
 -- ---- four parts
 
@@ -45,50 +46,52 @@ module _ {o : List ℕ} {at : ℕ} (as' bs cs ds : List ℤ) (h : Writable o at 
         pub four : {o₄ : List ℕ} {s : ℕ} → Written o₃ o₄ r ds s → Written o o₄ at (as' ++ (bs ++ (cs ++ ds))) s
         four v₄ = written_both as' (bs ++ (cs ++ ds)) h v₁ (written_both bs (cs ++ ds) rest v₂ (written_both cs ds rest₂ v₃ v₄))
 
--- ---- a statement
+-- ---- statement i, if its first access is access k
 
-module _ (w : List ℤ) (o a : List ℕ) (n k m r e : ℕ) where
+module _ (S : NestSlices) (i k : ℕ) where
+  abbrev rule : List ℤ
+  rule = pos (get_or S.rules.now i 0) ∷ []
+
+  abbrev constant : List ℤ
+  constant = pos (get_or S.constants.now i 0) ∷ []
+
   abbrev write : List ℤ
-  write = access_words (access_at w o a n k)
+  write = access_words (access_on S k)
 
   abbrev reads : List ℤ
-  reads = counted access_words (accesses_from w o a n (k + 1) (m - 1))
+  reads = counted access_words (accesses_on S (k + 1) (get_or S.sizes.now i 0 - 1))
 
-  statement-parts : statement_words (statement_at w o a n k m r e) ≡ (pos r ∷ []) ++ ((pos e ∷ []) ++ (write ++ reads))
+  statement-parts : statement_words (statement_on S i k) ≡ rule ++ (constant ++ (write ++ reads))
   unfolding statement_words statement_at
   statement-parts =
-      ap₂ (λ us j. pos r ∷ pos e ∷ (us ++ counted access_words (accesses_from w o a n j (m - 1)))) (flat_map-one access_words (access_at w o a n k))
-      (sym (add-one k))
+      ap₂ (λ us j. rule ++ (constant ++ (us ++ counted access_words (accesses_on S j (get_or S.sizes.now i 0 - 1)))))
+      (flat_map-one access_words (access_on S k)) (sym (add-one k))
 
-  module _ (p : StatementIn w o a n k m) where
-    pub write-in : AccessesIn w o a n k 1
-    write-in = let s = p.some in let t = p.all.there in record { accesses = p.all.accesses; there = omega arith }
+  pub some-accesses : i < length S.sizes.now → 1 ≤ get_or S.sizes.now i 0
+  some-accesses h = all_get_d (λ m. 1 ≤ m) S.sizes.now i 0 S.held.each h
 
-    pub reads_in : AccessesIn w o a n (k + 1) (m - 1)
-    reads_in = let s = p.some in let t = p.all.there in record { accesses = p.all.accesses; there = omega arith }
-
-  module _ {out : List ℕ} {at : ℕ} (h : Writable out at (statement_words (statement_at w o a n k m r e))) where
-    split : Writable out at ((pos r ∷ []) ++ ((pos e ∷ []) ++ (write ++ reads)))
+  module _ {out : List ℕ} {at : ℕ} (h : Writable out at (statement_words (statement_on S i k))) where
+    split : Writable out at (rule ++ (constant ++ (write ++ reads)))
     split = subst (Writable out at) statement-parts h
 
-    pub rule-room : Writable out at (pos r ∷ [])
-    rule-room = first (pos r ∷ []) (pos e ∷ []) write reads split
+    pub rule-room : Writable out at rule
+    rule-room = first rule constant write reads split
 
-    module _ {o₁ : List ℕ} {p : ℕ} (v₁ : Written out o₁ at (pos r ∷ []) p) where
-      pub constant-room : Writable o₁ p (pos e ∷ [])
-      constant-room = second (pos r ∷ []) (pos e ∷ []) write reads split v₁
+    module _ {o₁ : List ℕ} {p : ℕ} (v₁ : Written out o₁ at rule p) where
+      pub constant-room : Writable o₁ p constant
+      constant-room = second rule constant write reads split v₁
 
-      module _ {o₂ : List ℕ} {q : ℕ} (v₂ : Written o₁ o₂ p (pos e ∷ []) q) where
+      module _ {o₂ : List ℕ} {q : ℕ} (v₂ : Written o₁ o₂ p constant q) where
         pub write-room : Writable o₂ q write
-        write-room = third (pos r ∷ []) (pos e ∷ []) write reads split v₁ v₂
+        write-room = third rule constant write reads split v₁ v₂
 
         module _ {o₃ : List ℕ} {s : ℕ} (v₃ : Written o₂ o₃ q write s) where
           pub reads-room : Writable o₃ s reads
-          reads-room = fourth (pos r ∷ []) (pos e ∷ []) write reads split v₁ v₂ v₃
+          reads-room = fourth rule constant write reads split v₁ v₂ v₃
 
-          pub statement-written : {o₄ : List ℕ} {t : ℕ} → Written o₃ o₄ s reads t → Written out o₄ at (statement_words (statement_at w o a n k m r e)) t
+          pub statement-written : {o₄ : List ℕ} {t : ℕ} → Written o₃ o₄ s reads t → Written out o₄ at (statement_words (statement_on S i k)) t
           statement-written {o₄} {t} v₄ = subst (λ ws. Written out o₄ at ws t) (sym statement-parts)
-              (four (pos r ∷ []) (pos e ∷ []) write reads split v₁ v₂ v₃ v₄)
+              (four rule constant write reads split v₁ v₂ v₃ v₄)
 
 -- ---- all statements
 
@@ -106,64 +109,65 @@ sum-most [] i h = absurd (omega arith)
 sum-most (m ∷ ms) zero h = omega arith
 sum-most (m ∷ ms) (suc i) h = let e = sum-most ms i (omega arith) in omega arith
 
-module _ (w : List ℤ) (o a : List ℕ) (n : ℕ) (ms rs es : List ℕ) where
+module _ (S : NestSlices) where
   -- statement i of all
   abbrev pub part : ℕ → List ℤ
-  part i = statement_words (statement_at w o a n (sum (take i ms)) (get_or ms i 0) (get_or rs i 0) (get_or es i 0))
+  part i = statement_words (statement_on S i (sum (take i S.sizes.now)))
+
+  abbrev from : ℕ → ℕ → List Statement
+  from k i = statements_at S.words.now S.accessed.now S.extents.now S.depth S.rules.now S.constants.now k i (drop i S.sizes.now)
 
   -- j statements from statement i on
-  statements-flat : (j i k : ℕ) → i + j ≡ length ms → k ≡ sum (take i ms)
-      → flat_map statement_words (statements_at w o a n rs es k i (drop i ms)) ≡ spans part i j
+  statements-flat : (j i k : ℕ) → i + j ≡ length S.sizes.now → k ≡ sum (take i S.sizes.now) → flat_map statement_words (from k i) ≡ spans part i j
   unfolding statements_at spans flat_map
-  statements-flat zero i k e q = let f : i ≡ length ms = omega arith in
-      ap (λ l. flat_map statement_words (statements_at w o a n rs es k i l)) (ap (λ x. drop x ms) f ∙ drop-length ms)
+  statements-flat zero i k e q = let f : i ≡ length S.sizes.now = omega arith in
+      ap (λ l. flat_map statement_words (statements_at S.words.now S.accessed.now S.extents.now S.depth S.rules.now S.constants.now k i l))
+      (ap (λ x. drop x S.sizes.now) f ∙ drop-length S.sizes.now)
   statements-flat (suc j) i k e q =
-      let h : i < length ms = omega arith in
-      let s : k + get_or ms i 0 ≡ sum (take (suc i) ms) = ap (◌+ get_or ms i 0) q ∙ sym (sum-next ms i h) ∙ ap (λ x. sum (take x ms)) (add-one i) in
-      ap (λ l. flat_map statement_words (statements_at w o a n rs es k i l)) (drop-cons ms i 0 h)
-      ∙ ap₂ ◌++◌ (ap (λ x. statement_words (statement_at w o a n x (get_or ms i 0) (get_or rs i 0) (get_or es i 0))) q)
-      (statements-flat j (suc i) (k + get_or ms i 0) (omega arith) s)
+      let h : i < length S.sizes.now = omega arith in
+      let s : k + get_or S.sizes.now i 0 ≡ sum (take (suc i) S.sizes.now) = ap (◌+ get_or S.sizes.now i 0) q ∙ sym (sum-next S.sizes.now i h)
+      ∙ ap (λ x. sum (take x S.sizes.now)) (add-one i) in
+      ap (λ l. flat_map statement_words (statements_at S.words.now S.accessed.now S.extents.now S.depth S.rules.now S.constants.now k i l))
+      (drop-cons S.sizes.now i 0 h)
+      ∙ ap₂ ◌++◌ (ap (λ x. statement_words (statement_on S i x)) q)
+      (statements-flat j (suc i) (k + get_or S.sizes.now i 0) (omega arith) s)
 
-  statements-count : (k i : ℕ) (l : List ℕ) → length (statements_at w o a n rs es k i l) ≡ length l
+  statements-count : (k i : ℕ) (l : List ℕ)
+      → length (statements_at S.words.now S.accessed.now S.extents.now S.depth S.rules.now S.constants.now k i l) ≡ length l
   unfolding statements_at
   statements-count k i [] = refl
   statements-count k i (m ∷ l) = ap suc (statements-count (k + m) (suc i) l)
 
-  pub statements-parts : counted statement_words (statements_at w o a n rs es 0 0 ms) ≡ pos (length ms) ∷ spans part 0 (length ms)
+  pub statements-parts : counted statement_words (statements_on S) ≡ pos (length S.sizes.now) ∷ spans part 0 (length S.sizes.now)
   unfolding counted sum
-  statements-parts = ap₂ (λ j ws. pos j ∷ ws) (statements-count 0 0 ms) (statements-flat (length ms) 0 0 (omega arith) refl)
-
-  statement-in : (p : StatementsIn w o a n ms rs es) (i : ℕ) → i < length ms → StatementIn w o a n (sum (take i ms)) (get_or ms i 0)
-  statement-in p i h = let s = sum-most ms i h in let t = p.all-accesses in
-      record { all = record { accesses = p.accesses; there = omega arith }; some = all_get_d (λ m. 1 ≤ m) ms i 0 p.each h }
+  statements-parts = ap₂ (λ j ws. pos j ∷ ws) (statements-count 0 0 S.sizes.now) (statements-flat (length S.sizes.now) 0 0 (omega arith) refl)
 
 -- ---- a loop that writes them: after i of them, k accesses are written
 
-pub record Reached (w : List ℤ) (o a : List ℕ) (n : ℕ) (ms rs es out₀ : List ℕ) (at : ℕ) (out : List ℕ) (next k i : ℕ) : Type 0 where
-  pub filling : Filling (part w o a n ms rs es) out₀ at 0 (length ms) out next i
-  pub before-it : k ≡ sum (take i ms)
+pub record Reached (S : NestSlices) (out₀ : List ℕ) (at : ℕ) (out : List ℕ) (next k i : ℕ) : Type 0 where
+  pub filling : Filling (part S) out₀ at 0 (length S.sizes.now) out next i
+  pub before-it : k ≡ sum (take i S.sizes.now)
 
-module _ {w : List ℤ} {o a : List ℕ} {n : ℕ} {ms rs es out₀ : List ℕ} {at : ℕ} where
-  pub reach-start : Filling (part w o a n ms rs es) out₀ at 0 (length ms) out₀ at 0 → Reached w o a n ms rs es out₀ at out₀ at 0 0
+module _ {S : NestSlices} {out₀ : List ℕ} {at : ℕ} where
+  pub reach-start : Filling (part S) out₀ at 0 (length S.sizes.now) out₀ at 0 → Reached S out₀ at out₀ at 0 0
   unfolding sum
   reach-start f = record { filling = f; before-it = refl }
 
-  module _ {out : List ℕ} {next k i : ℕ} (l : Reached w o a n ms rs es out₀ at out next k i) (h : i < length ms) where
-    abbrev here : ℕ → List ℤ
-    here x = statement_words (statement_at w o a n x (get_or ms i 0) (get_or rs i 0) (get_or es i 0))
+  module _ {out : List ℕ} {next k i : ℕ} (l : Reached S out₀ at out next k i) (h : i < length S.sizes.now) where
+    pub reach-room : Writable out next (statement_words (statement_on S i k))
+    reach-room = subst (λ x. Writable out next (statement_words (statement_on S i x))) (sym l.before-it) (front-next l.filling h)
 
-    pub reach-room : Writable out next (here k)
-    reach-room = subst (λ x. Writable out next (here x)) (sym l.before-it) (front-next l.filling h)
-
-    pub reach-in : StatementsIn w o a n ms rs es → StatementIn w o a n k (get_or ms i 0)
-    reach-in p = subst (λ x. StatementIn w o a n x (get_or ms i 0)) (sym l.before-it) (statement-in w o a n ms rs es p i h)
+    -- its accesses are there
+    pub reach-there : k + get_or S.sizes.now i 0 ≤ length S.accessed.now
+    reach-there = let e = l.before-it in let s = sum-most S.sizes.now i h in let t = S.held.all-accesses in omega arith
 
     -- no sum is too large
-    pub reach-small : StatementsIn w o a n ms rs es → k + get_or ms i 0 ≤ most_accesses
-    reach-small p = let t = (reach-in p).all.there in let m = p.accesses.many in omega arith
+    pub reach-small : k + get_or S.sizes.now i 0 ≤ most_accesses
+    reach-small = let t = reach-there in let m = S.held.accesses.many in omega arith
 
-    pub reach-more : {out' : List ℕ} {q : ℕ} → Written out out' next (here k) q → Reached w o a n ms rs es out₀ at out' q (k + get_or ms i 0) (i + 1)
-    reach-more {out'} {q} v = let e = l.before-it in let s = sum-next ms i h in record {
-      filling = front-more l.filling h (subst (λ x. Written out out' next (here x) q) e v);
+    pub reach-more : {out' : List ℕ} {q : ℕ} → Written out out' next (statement_words (statement_on S i k)) q
+        → Reached S out₀ at out' q (k + get_or S.sizes.now i 0) (i + 1)
+    reach-more {out'} {q} v = let e = l.before-it in let s = sum-next S.sizes.now i h in record {
+      filling = front-more l.filling h (subst (λ x. Written out out' next (statement_words (statement_on S i x)) q) e v);
       before-it = omega arith;
     }

@@ -1,23 +1,45 @@
 // A nest as a ticket's bytes in a lent buffer. `at` is a place in the buffer, and a writer answers the place behind what it wrote.
 #![tactic(auto)]
 
+ghost use Rattle.std.specs.Prelude.{◌+◌, ◌≤◌, ◌<◌, length, get_or};
+ghost use Rattle.std.proofs.Props.{props};
+ghost use Rattle.lists.specs.Membership.{All};
 ghost use Rattle.model.specs.Encode.{counted, array_words, access_words, statement_words, nest_words};
-ghost use Rattle.nest_flat.specs.Layout.{arrays_of, access_at, accesses_from};
-ghost use Rattle.nest_flat.specs.FlatNests.{flat_nest, nest_of};
+ghost use Rattle.model.specs.Ranges.{Small};
+ghost use Rattle.nest_flat.specs.Layout.{arrays_of};
+ghost use Rattle.nest_flat.specs.FlatNests.{flat, nest_of};
 ghost use Rattle.ticket_encoding_words.specs.Writing.{Writable, Written};
-ghost use Rattle.ticket_lengths.specs.Slices.{statement_at, statements_at, nest_at, SlicesIn};
+ghost use Rattle.ticket_lengths.specs.Slices.{SlicesIn};
 ghost use Rattle.ticket_lengths.specs.Lengths.{ArraysIn};
-ghost use Rattle.ticket_encoding.specs.Encodable.{AccessesIn, StatementIn, StatementsIn, Encodable, FlatNestEncodable};
+ghost use Rattle.ticket_encoding.specs.Encodable.{FlatNestEncodable};
 ghost use Rattle.ticket_encoding.specs.Encoding.{Encodes};
+ghost use Rattle.ticket_encoding.specs.Facts.{within-prop};
 
 use model::{ACCESS_ROOM, ARRAY_ROOM, DIMENSIONS, ROW_ROOM};
-use nest_flat::Header;
+use nest_flat::FlatNest;
+use ticket_encoding_words::{write_loops, write_word, write_words};
 
-// How many bytes were written, or how many there would be.
+// The buffer is too short: the nest has this many bytes.
 #[derive(Clone, Copy)]
-pub enum Encoded {
-    Complete(usize),
-    TooShort(usize),
+pub struct TooShort {
+    pub needed: usize,
+}
+
+// A nest of `depth` loops on the slices that hold it. The arrays on `arrays` are written, and the extents on `extents` say how many subscripts an
+// access has.
+#[derive(Clone, Copy)]
+pub struct NestSlices<'a> {
+    pub limits: &'a [i16],
+    pub counts: &'a [usize],
+    pub depth: usize,
+    pub arrays: &'a [usize],
+    pub extents: &'a [usize],
+    pub sizes: &'a [usize],
+    pub rules: &'a [usize],
+    pub constants: &'a [usize],
+    pub accessed: &'a [usize],
+    pub words: &'a [i16],
+    ghost held: { SlicesIn limits.now counts.now depth arrays.now extents.now sizes.now rules.now constants.now accessed.now words.now } by { Prim.hlevel (props, within-prop) },
 }
 
 // All arrays behind their count, each as it stands: the number of its dimensions, its extents.
@@ -26,221 +48,119 @@ fn write_arrays(out: &mut [u8], at: usize, arrays: &[usize]) -> usize
     ensures { Written out.old out.new at (counted array_words (arrays_of arrays.now)) result }
 {
     let count = arrays.len() / ARRAY_ROOM;
-    let mut next = ticket_encoding_words::write_natural(out, at, count);
-    let mut i = 0;
-    while i < count {
-        let n = arrays[i * ARRAY_ROOM];
-        next = ticket_encoding_words::write_naturals(out, next, arrays, i * ARRAY_ROOM, n + 1);
-        i += 1;
+    let mut next = write_word(out, at, count);
+    for i in 0..count {
+        let first = i * ARRAY_ROOM;
+        let dimensions = arrays[first];
+        next = write_words(out, next, &arrays[first..first + dimensions + 1]);
     }
     next
 }
 
-// Access k of all, in a nest of n loops: its array's number, its subscripts.
-fn write_access(
-    out: &mut [u8],
-    at: usize,
-    words: &[i16],
-    accessed: &[usize],
-    extents: &[usize],
-    n: usize,
-    k: usize,
-) -> usize
-    requires { Writable out.old at (access_words (access_at words.now accessed.now extents.now n k))
-        × AccessesIn words.now accessed.now extents.now n k 1 }
-    ensures { Written out.old out.new at (access_words
-        (access_at words.now accessed.now extents.now n k)) result }
-{
-    let array = accessed[k];
-    let dimensions = extents[array * ARRAY_ROOM];
-    let mut next = ticket_encoding_words::write_natural(out, at, array + 1);
-    let mut d = 0;
-    while d < dimensions {
-        next = ticket_encoding_words::write_words(
-            out,
-            next,
-            words,
-            (k * DIMENSIONS + d) * ROW_ROOM,
-            n + 1,
+impl NestSlices<'_> {
+    ghost use Rattle.ticket_encoding.specs.Nests.{access_on, accesses_on, statement_on, statements_on, nest_on};
+
+    // Access k of all: its array's number, its subscripts.
+    fn write_access(&self, out: &mut [u8], at: usize, k: usize) -> usize
+        requires { Writable out.old at (access_words (access_on self.now k)) × (k < length self.now.accessed.now) }
+        ensures { Written out.old out.new at (access_words (access_on self.now k)) result }
+    {
+        let array = self.accessed[k];
+        let dimensions = self.extents[array * ARRAY_ROOM];
+        let mut next = write_word(out, at, array + 1);
+        for d in 0..dimensions {
+            let first = (k * DIMENSIONS + d) * ROW_ROOM;
+            next = write_words(out, next, &self.words[first..first + self.depth + 1]);
+        }
+        next
+    }
+
+    // m accesses from access k on behind their count.
+    fn write_accesses(&self, out: &mut [u8], at: usize, k: usize, m: usize) -> usize
+        requires { Writable out.old at (counted access_words (accesses_on self.now k m)) × (k + m ≤ length self.now.accessed.now) }
+        ensures { Written out.old out.new at (counted access_words (accesses_on self.now k m)) result }
+    {
+        let mut next = write_word(out, at, m);
+        for i in 0..m {
+            next = self.write_access(out, next, k + i);
+        }
+        next
+    }
+
+    // Statement i, whose first access is access k: its rule, its constant, the write, the reads.
+    fn write_statement(&self, out: &mut [u8], at: usize, i: usize, k: usize) -> usize
+        requires { Writable out.old at (statement_words (statement_on self.now i k)) × (i < length self.now.sizes.now)
+            × (k + get_or self.now.sizes.now i 0 ≤ length self.now.accessed.now) }
+        ensures { Written out.old out.new at (statement_words (statement_on self.now i k)) result }
+    {
+        let second = write_word(out, at, self.rules[i]);
+        let third = write_word(out, second, self.constants[i]);
+        let fourth = self.write_access(out, third, k);
+        self.write_accesses(out, fourth, k + 1, self.sizes[i] - 1)
+    }
+
+    // All statements behind their count. k is the first access of statement i.
+    fn write_statements(&self, out: &mut [u8], at: usize) -> usize
+        requires { Writable out.old at (counted statement_words (statements_on self.now)) }
+        ensures { Written out.old out.new at (counted statement_words (statements_on self.now)) result }
+    {
+        let mut next = write_word(out, at, self.sizes.len());
+        let mut k = 0;
+        for (i, &m) in self.sizes.iter().enumerate() {
+            next = self.write_statement(out, next, i, k);
+            k += m;
+        }
+        next
+    }
+
+    // The sections of the nest, and no steps.
+    fn write(&self, out: &mut [u8]) -> usize
+        requires { Writable out.old 0 (nest_words (nest_on self.now)) }
+        ensures { Written out.old out.new 0 (nest_words (nest_on self.now)) result }
+    {
+        let second = write_loops(out, 0, self.limits, self.counts, self.depth);
+        let third = write_arrays(out, second, self.arrays);
+        let fourth = self.write_statements(out, third);
+        write_word(out, fourth, 0usize)
+    }
+
+    // Its bytes, from the buffer's start on; where they do not fit, nothing is written. How many were written.
+    pub fn encode(&self, out: &mut [u8]) -> Result<usize, TooShort>
+        requires { All Small (nest_words (nest_on self.now)) }
+        ensures { Encodes (nest_on self.now) out.old out.new result }
+    {
+        let needed = ticket_lengths::encoded_length(
+            self.counts,
+            self.depth,
+            self.arrays,
+            self.extents,
+            self.accessed,
+            self.sizes.len(),
         );
-        d += 1;
+        if out.len() < needed {
+            return Err(TooShort { needed });
+        }
+        Ok(self.write(out))
     }
-    next
-}
-
-// m accesses from access k on behind their count.
-fn write_accesses(
-    out: &mut [u8],
-    at: usize,
-    words: &[i16],
-    accessed: &[usize],
-    extents: &[usize],
-    n: usize,
-    k: usize,
-    m: usize,
-) -> usize
-    requires { Writable out.old at (counted access_words (accesses_from words.now accessed.now extents.now n k m))
-        × AccessesIn words.now accessed.now extents.now n k m }
-    ensures { Written out.old out.new at (counted access_words
-        (accesses_from words.now accessed.now extents.now n k m)) result }
-{
-    let mut next = ticket_encoding_words::write_natural(out, at, m);
-    let mut i = 0;
-    while i < m {
-        next = write_access(out, next, words, accessed, extents, n, k + i);
-        i += 1;
-    }
-    next
-}
-
-// The statement of m accesses from access k on: its rule, its constant, the write, the reads.
-fn write_statement(
-    out: &mut [u8],
-    at: usize,
-    words: &[i16],
-    accessed: &[usize],
-    extents: &[usize],
-    n: usize,
-    k: usize,
-    m: usize,
-    rule: usize,
-    constant: usize,
-) -> usize
-    requires { Writable out.old at (statement_words (statement_at words.now accessed.now extents.now n k m rule constant))
-        × StatementIn words.now accessed.now extents.now n k m }
-    ensures { Written out.old out.new at (statement_words
-        (statement_at words.now accessed.now extents.now n k m rule constant)) result }
-{
-    let second = ticket_encoding_words::write_natural(out, at, rule);
-    let third = ticket_encoding_words::write_natural(out, second, constant);
-    let fourth = write_access(out, third, words, accessed, extents, n, k);
-    write_accesses(out, fourth, words, accessed, extents, n, k + 1, m - 1)
-}
-
-// All statements behind their count. k is the first access of statement i.
-fn write_statements(
-    out: &mut [u8],
-    at: usize,
-    words: &[i16],
-    accessed: &[usize],
-    extents: &[usize],
-    n: usize,
-    sizes: &[usize],
-    rules: &[usize],
-    constants: &[usize],
-) -> usize
-    requires { Writable out.old at (counted statement_words (statements_at words.now accessed.now extents.now n rules.now constants.now
-        0 0 sizes.now)) × StatementsIn words.now accessed.now extents.now n sizes.now rules.now constants.now }
-    ensures { Written out.old out.new at (counted statement_words
-        (statements_at words.now accessed.now extents.now n rules.now constants.now 0 0
-        sizes.now)) result }
-{
-    let mut next = ticket_encoding_words::write_natural(out, at, sizes.len());
-    let mut k = 0;
-    let mut i = 0;
-    while i < sizes.len() {
-        let m = sizes[i];
-        next = write_statement(
-            out,
-            next,
-            words,
-            accessed,
-            extents,
-            n,
-            k,
-            m,
-            rules[i],
-            constants[i],
-        );
-        k += m;
-        i += 1;
-    }
-    next
-}
-
-// The sections of a nest of n loops, and no steps.
-fn write_nest(
-    out: &mut [u8],
-    limits: &[i16],
-    counts: &[usize],
-    n: usize,
-    arrays: &[usize],
-    extents: &[usize],
-    sizes: &[usize],
-    rules: &[usize],
-    constants: &[usize],
-    accessed: &[usize],
-    words: &[i16],
-) -> usize
-    requires { Writable out.old 0 (nest_words (nest_at limits.now counts.now n arrays.now extents.now sizes.now rules.now
-        constants.now accessed.now words.now)) × SlicesIn limits.now counts.now n arrays.now extents.now sizes.now rules.now
-        constants.now accessed.now words.now }
-    ensures { Written out.old out.new 0 (nest_words (nest_at limits.now counts.now n
-        arrays.now extents.now sizes.now rules.now constants.now accessed.now
-        words.now)) result }
-{
-    let second = ticket_encoding_words::write_loops(out, 0, limits, counts, n);
-    let third = write_arrays(out, second, arrays);
-    let fourth = write_statements(
-        out, third, words, accessed, extents, n, sizes, rules, constants,
-    );
-    ticket_encoding_words::write_natural(out, fourth, 0)
-}
-
-// The bytes of a nest of n loops in which these arrays are written, from the buffer's start on; where they do not fit, nothing is written.
-// An array's extents say how many subscripts an access has.
-pub fn encode_slices(
-    limits: &[i16],
-    counts: &[usize],
-    n: usize,
-    arrays: &[usize],
-    extents: &[usize],
-    sizes: &[usize],
-    rules: &[usize],
-    constants: &[usize],
-    accessed: &[usize],
-    words: &[i16],
-    out: &mut [u8],
-) -> Encoded
-    requires { Encodable limits.now counts.now n arrays.now extents.now sizes.now rules.now constants.now accessed.now words.now }
-    ensures { Encodes (nest_at limits.now counts.now n arrays.now extents.now sizes.now
-        rules.now constants.now accessed.now words.now) out.old out.new result }
-{
-    let length = ticket_lengths::encoded_length(counts, n, arrays, extents, accessed, sizes.len());
-    if out.len() < length {
-        return Encoded::TooShort(length);
-    }
-    let end = write_nest(
-        out, limits, counts, n, arrays, extents, sizes, rules, constants, accessed, words,
-    );
-    Encoded::Complete(end)
 }
 
 // The bytes of the nest on a header.
-pub fn encode_flat_nest(header: Header, limits: &[i16], words: &[i16], out: &mut [u8]) -> Encoded
-    requires { FlatNestEncodable (flat_nest header limits.now words.now) }
-    ensures { Encodes (nest_of (flat_nest header limits.now words.now)) out.old out.new result }
+pub fn encode_flat_nest(nest: &FlatNest, out: &mut [u8]) -> Result<usize, TooShort>
+    requires { FlatNestEncodable (flat nest.now) }
+    ensures { Encodes (nest_of (flat nest.now)) out.old out.new result }
 {
-    let counts = header.counts;
-    let depth = header.depth;
-    let written = header.extents;
-    let extents = header.extents;
-    let sizes = header.sizes;
-    let rules = header.rules;
-    let constants = header.constants;
-    let accessed = header.accessed;
-    let accesses = header.accesses;
-    encode_slices(
-        limits,
-        &counts,
-        depth,
-        &written[..header.arrays * ARRAY_ROOM],
-        &extents[..header.arrays * ARRAY_ROOM],
-        &sizes[..header.statements],
-        &rules,
-        &constants,
-        &accessed[..accesses],
-        &words[..accesses * ACCESS_ROOM],
-        out,
-    )
+    let extents = &nest.header.extents[..nest.header.arrays * ARRAY_ROOM];
+    let nest = NestSlices {
+        limits: nest.limits,
+        counts: &nest.header.counts,
+        depth: nest.header.depth,
+        arrays: extents,
+        extents,
+        sizes: &nest.header.sizes[..nest.header.statements],
+        rules: &nest.header.rules,
+        constants: &nest.header.constants,
+        accessed: &nest.header.accessed[..nest.header.accesses],
+        words: &nest.words[..nest.header.accesses * ACCESS_ROOM],
+    };
+    nest.encode(out)
 }

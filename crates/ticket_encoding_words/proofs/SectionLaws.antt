@@ -1,36 +1,19 @@
--- The model's words as parts of the slices that are lent. In order: elements of a slice; the words of a limit; a side, a loop, all loops.
+-- The model's words as parts of the slices that are lent. In order: the words of a limit; a side, a loop, all loops.
 use mathlib.Core.Path.{◌≡◌, refl, sym, ap, ap₂, ◌∙◌, subst}
-use mathlib.Core.List.{List, [], ◌∷◌, ◌++◌, map, flat_map}
-use Prim.Native.Nat.{ℕ, zero, suc, ◌+◌, ◌*◌, ◌≤◌, ◌<◌}
+use mathlib.Core.List.{List, ◌∷◌, ◌++◌, map, flat_map}
+use Prim.Native.Nat.{ℕ, zero, suc, ◌+◌, ◌-◌, ◌*◌, ◌≤◌, ◌<◌}
 use native.Mathlib.Omega.{arith}
 use lib.IntN.{ℤ, pos, negsuc, nat_abs}
 use lib.Signed.{◌<ℤ◌}
 use lib.ListN.{length, get_or, take, drop}
 use lib.Seq.{drop-cons}
+use Rattle.std.proofs.lemmas.List.{map-id}
 use Rattle.integers.proofs.RingLaws.{zarith}
 use Rattle.model.specs.Encode.{counted, limit_words, loop_words}
 use Rattle.nest_flat.specs.Flat.{limit_at, limits_at, loop_at, loops_from}
 use Rattle.ticket_encoding_words.specs.Writing.{Writable, Written}
 use Rattle.ticket_encoding_words.specs.Loops.{LimitsIn, LoopIn}
-use Rattle.ticket_encoding_words.proofs.WritingLaws.{spans, writable-left, writable-right, written_both}
-
--- ---- elements of a slice
-
-next_place : (i n m : ℕ) → i + suc n ≤ m → suc i + n ≤ m
-next_place i n m h = omega arith
-
-pub words-spans : (l : List ℤ) (i n : ℕ) → i + n ≤ length l → take n (drop i l) ≡ spans (λ k. get_or l k (pos 0) ∷ []) i n
-unfolding spans
-words-spans l i zero h = refl
-words-spans l i (suc n) h =
-    ap (take (suc n)) (drop-cons l i (pos 0) (omega arith)) ∙ ap (get_or l i (pos 0) ∷◌) (words-spans l (suc i) n (next_place i n (length l) h))
-
-pub naturals-spans : (l : List ℕ) (i n : ℕ) → i + n ≤ length l → map pos (take n (drop i l)) ≡ spans (λ k. pos (get_or l k 0) ∷ []) i n
-unfolding spans
-naturals-spans l i zero h = refl
-naturals-spans l i (suc n) h =
-    ap (λ m. map pos (take (suc n) m)) (drop-cons l i 0 (omega arith))
-    ∙ ap (pos (get_or l i 0) ∷◌) (naturals-spans l (suc i) n (next_place i n (length l) h))
+use Rattle.ticket_encoding_words.proofs.WritingLaws.{spans, writable-left, writable-right, written_both, part-room, part-written}
 
 -- ---- a limit
 
@@ -72,19 +55,21 @@ side-spans s k j n = ap₂ (λ m ws. pos m ∷ ws) (limits-length s k j n) (limi
 
 -- the words of limit i of those
 module _ (s : List ℤ) (outer j n i : ℕ) (p : LimitsIn s outer j n) (h : i < n) where
-  pub limit-room : (j + i) * 8 + (outer + 2) ≤ length s
-  limit-room = let a = p.words in let b = p.inside in let d = p.outside in omega arith
+  limit-end : (j + i) * 8 + outer + 2 ≡ (j + i) * 8 + (outer + 2)
+  limit-end = omega arith
 
-  limit-same : limit_words (limit_at s outer (j + i)) ≡ take (outer + 2) (drop ((j + i) * 8) s)
-  limit-same = limit-words s outer (j + i) (let r = limit-room in omega arith) (p.positive i h)
+  limit-same : limit_words (limit_at s outer (j + i)) ≡ map (λ z. z) (take (outer + 2) (drop ((j + i) * 8) s))
+  limit-same = let a = p.words in let b = p.inside in let d = p.outside in
+      limit-words s outer (j + i) (omega arith) (p.positive i h) ∙ sym (map-id (take (outer + 2) (drop ((j + i) * 8) s)))
 
   pub limit-writable : {o : List ℕ} {at : ℕ} → Writable o at (limit_words (limit_at s outer (j + i)))
-      → Writable o at (take (outer + 2) (drop ((j + i) * 8) s))
-  limit-writable {o} {at} w = subst (Writable o at) limit-same w
+      → Writable o at (map (λ z. z) (take ((j + i) * 8 + outer + 2 - (j + i) * 8) (drop ((j + i) * 8) s)))
+  limit-writable = part-room (λ z. z) s _ _ _ limit-end limit-same
 
-  pub limit-written : {o o' : List ℕ} {at r : ℕ} → Written o o' at (take (outer + 2) (drop ((j + i) * 8) s)) r
+  pub limit-written : {o o' : List ℕ} {at r : ℕ}
+      → Written o o' at (map (λ z. z) (take ((j + i) * 8 + outer + 2 - (j + i) * 8) (drop ((j + i) * 8) s))) r
       → Written o o' at (limit_words (limit_at s outer (j + i))) r
-  limit-written {o} {o'} {at} {r} w = subst (λ ws. Written o o' at ws r) (sym limit-same) w
+  limit-written = part-written (λ z. z) s _ _ _ limit-end limit-same
 
 -- ---- a loop
 

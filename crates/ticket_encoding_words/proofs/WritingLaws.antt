@@ -1,20 +1,18 @@
 -- Words written one after another. In order: two parts; parts, each made from its number (`spans`); a loop that writes them (`Filling`); one
--- word.
+-- word; words of a slice.
 use mathlib.Core.Path.{◌≡◌, refl, sym, ap, ap₂, ◌∙◌, subst}
-use mathlib.Core.List.Memᴰ
-use mathlib.Core.List.{List, [], ◌∷◌, ◌++◌, flat_map, append_assoc, append-nil}
+use mathlib.Core.List.{List, [], ◌∷◌, ◌++◌, map, flat_map, append_assoc, append-nil}
 use Prim.Native.Nat.{ℕ, zero, suc, ◌+◌, ◌-◌, ◌/◌, ◌%◌, ◌≤◌, ◌<◌}
 use native.Mathlib.Nat.{add-zero, zero-add, add-suc, suc-add}
 use native.Mathlib.Omega.{arith}
-use lib.IntN.{ℤ, pos, negsuc}
-use lib.ListN.{length, set, length-append}
-use mir.Syntax.{w16, w32}
-use mir.Val.{to_z, of_z, SFits}
-use mir.Facts.{to_z-of_z}
+use lib.IntN.{ℤ, pos}
+use lib.ListN.{length, get_or, take, drop, length-append, length-map}
+use lib.Seq.{drop-cons, drop-drop, take-length}
+use borrow.Rule.Slice.PartMut.{put_mid}
+use Rattle.std.proofs.lemmas.List.{get_or-map}
 use Rattle.lists.specs.Parts.{put}
 use Rattle.lists.proofs.MembershipLaws.{all_left, all_right}
-use Rattle.lists.proofs.PartLaws.{put-nil, put-put, length-put, set-is-put, set-put}
-use Rattle.integers.proofs.RangeLaws.{sfits, sfits_up, sfits-down}
+use Rattle.lists.proofs.PartLaws.{put-nil, put-put, length-put}
 use Rattle.model.specs.Words.{bits, word_bytes, bytes_of}
 use Rattle.model.specs.Ranges.{Small}
 use Rattle.model.proofs.Grammar.WordLaws.{bytes-append, length-bytes}
@@ -136,32 +134,50 @@ module _ {f : ℕ → List ℤ} {o : List ℕ} {at j n : ℕ} {ws : List ℤ} (e
 
 -- ---- one word
 
-pub two-set : (o : List ℕ) (at a b : ℕ) → at + 2 ≤ length o → set (set o at a) (at + 1) b ≡ put o at (a ∷ b ∷ [])
-two-set o at a b h = ap (λ l. set l (at + 1) b) (set-is-put o at a (omega arith)) ∙ set-put o at (a ∷ []) b (omega arith)
+-- its two bytes in the place of those two
+pub word-written : (o : List ℕ) (at : ℕ) (w : ℤ) (v : ℕ) (ys bs : List ℕ) → v ≡ bits w → v < 65536
+    → bs ≡ v % 256 ∷ (v / 256) % 256 ∷ [] → ys ≡ bs
+    → Written o (put_mid at (at + 2 - at) o ys) at (w ∷ []) (at + 2)
+unfolding bytes_of word_bytes flat_map put
+word-written o at w v ys bs q h e f = let d : at + 2 - at ≡ 2 = omega arith in let m : (v / 256) % 256 ≡ v / 256 = omega arith in record {
+  same = rw (f, e, m, q, d, drop-drop);
+  next = refl;
+}
 
-pub word-written : (o o' : List ℕ) (at : ℕ) (w : ℤ) (v r : ℕ) → v ≡ bits w → o' ≡ put o at (v % 256 ∷ v / 256 ∷ []) → r ≡ at + 2
-    → Written o o' at (w ∷ []) r
-unfolding bytes_of word_bytes flat_map
-word-written o o' at w v r q e h = record { same = e ∙ ap (λ b. put o at (b % 256 ∷ b / 256 ∷ [])) q; next = h }
+-- ---- words of a slice
 
-pub small-fits : (z : ℤ) → Small z → SFits w32 z
-small-fits (pos n) s = record { sfits = omega arith }
-small-fits (negsuc n) s = record { sfits = omega arith }
+words-spans : (l : List ℤ) (i n : ℕ) → i + n ≤ length l → take n (drop i l) ≡ spans (λ k. get_or l k (pos 0) ∷ []) i n
+unfolding spans
+words-spans l i zero h = refl
+words-spans l i (suc n) h =
+    ap (take (suc n)) (drop-cons l i (pos 0) (omega arith)) ∙ ap (get_or l i (pos 0) ∷◌) (words-spans l (suc i) n (omega arith))
 
-pub word_wide : {z : ℤ} → SFits w16 z → SFits w32 z
-word_wide {z} h = let u = sfits_up w16 z h in let d = sfits-down w16 z h in sfits (omega arith)
+pub mapped-spans : {A : Type 0} (f : A → ℤ) (xs : List A) → map f xs ≡ spans (λ k. get_or (map f xs) k (pos 0) ∷ []) 0 (length xs)
+mapped-spans f xs = let e = length-map xs f in
+    sym (take-length (map f xs)) ∙ words-spans (map f xs) 0 (length (map f xs)) (omega arith)
+    ∙ ap (spans (λ k. get_or (map f xs) k (pos 0) ∷ []) 0) e
 
--- a word that was passed on as bits
-pub kept : {o : List ℕ} {at : ℕ} {rest : List ℤ} (z : ℤ) → Writable o at (z ∷ rest) → to_z w32 (of_z w32 z) ≡ z
-kept z h = to_z-of_z (small-fits z (h.small z (Memᴰ.head refl)))
+-- the next one, at the number that stands for each
+module _ {A : Type 0} (f : A → ℤ) (xs : List A) {k : ℕ} {x : A} (h : k < length xs) (e : x ≡ get_or xs k x) where
+  word-at : get_or (map f xs) k (pos 0) ≡ f x
+  word-at = get_or-map f xs k x (pos 0) h ∙ ap f (sym e)
 
--- a word that was read, and passed on as bits
-module _ {r z : ℤ} (e : r ≡ z) {o : List ℕ} {at : ℕ} (h : Writable o at (z ∷ [])) where
-  same : to_z w32 (of_z w32 r) ≡ z
-  same = ap (λ y. to_z w32 (of_z w32 y)) e ∙ kept z h
+  pub word_in : {o : List ℕ} {at : ℕ} → Writable o at (get_or (map f xs) k (pos 0) ∷ []) → Writable o at (f x ∷ [])
+  word_in {o} {at} w = subst (λ y. Writable o at (y ∷ [])) word-at w
 
-  pub kept-room : Writable o at (to_z w32 (of_z w32 r) ∷ [])
-  kept-room = subst (λ y. Writable o at (y ∷ [])) (sym same) h
+  pub word_out : {o o' : List ℕ} {at r : ℕ} → Written o o' at (f x ∷ []) r → Written o o' at (get_or (map f xs) k (pos 0) ∷ []) r
+  word_out {o} {o'} {at} {r} w = subst (λ y. Written o o' at (y ∷ []) r) (sym word-at) w
 
-  pub kept-written : {o' : List ℕ} {q : ℕ} → Written o o' at (to_z w32 (of_z w32 r) ∷ []) q → Written o o' at (z ∷ []) q
-  kept-written {o'} {q} w = subst (λ y. Written o o' at (y ∷ []) q) same w
+-- n words from word i on, up to word e
+module _ {A : Type 0} (f : A → ℤ) (xs : List A) (i n e : ℕ) (q : e ≡ i + n) {ws : List ℤ} (s : ws ≡ map f (take n (drop i xs))) where
+  abbrev part : List ℤ
+  part = map f (take (e - i) (drop i xs))
+
+  part-same : ws ≡ part
+  part-same = let r : e - i ≡ n = omega arith in s ∙ ap (λ m. map f (take m (drop i xs))) (sym r)
+
+  pub part-room : {o : List ℕ} {at : ℕ} → Writable o at ws → Writable o at part
+  part-room {o} {at} w = subst (Writable o at) part-same w
+
+  pub part-written : {o o' : List ℕ} {at r : ℕ} → Written o o' at part r → Written o o' at ws r
+  part-written {o} {o'} {at} {r} w = subst (λ us. Written o o' at us r) (sym part-same) w

@@ -21,10 +21,8 @@ fn loops_words(counts: &[usize], depth: usize) -> usize
     ensures { (result ≡ sums (loop_length counts.now) 0 depth) × (result ≤ most_loops * 258) }
 {
     let mut total = 0;
-    let mut k = 0;
-    while k < depth {
+    for k in 0..depth {
         total += loop_words(counts, k);
-        k += 1;
     }
     total
 }
@@ -35,33 +33,21 @@ fn arrays_words(extents: &[usize]) -> usize
 {
     let count = extents.len() / ARRAY_ROOM;
     let mut total = 0;
-    let mut i = 0;
-    while i < count {
+    for i in 0..count {
         total += extents[i * ARRAY_ROOM] + 1;
-        i += 1;
     }
     total
 }
 
-// Access k of all, in a nest of n loops.
-fn access_words(accessed: &[usize], extents: &[usize], n: usize, k: usize) -> usize
-    requires { AccessedIn accessed.now extents.now n × (k < length accessed.now) }
-    ensures { (result ≡ access_length accessed.now extents.now n k) × (result ≤ 22) }
-{
-    let array = accessed[k];
-    extents[array * ARRAY_ROOM] * (n + 1) + 1
-}
-
+// The accesses, in a nest of n loops.
 fn accesses_words(accessed: &[usize], extents: &[usize], n: usize) -> usize
     requires { AccessedIn accessed.now extents.now n }
     ensures { (result ≡ sums (access_length accessed.now extents.now n) 0 (length accessed.now))
         × (result ≤ most_accesses * 22) }
 {
     let mut total = 0;
-    let mut k = 0;
-    while k < accessed.len() {
-        total += access_words(accessed, extents, n, k);
-        k += 1;
+    for &array in accessed {
+        total += extents[array * ARRAY_ROOM] * (n + 1) + 1;
     }
     total
 }

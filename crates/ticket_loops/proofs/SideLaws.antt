@@ -1,107 +1,79 @@
--- Limits read and laid one after another: a side under way, then its end.
+-- Limits read and laid one after another: a side under way.
 use mathlib.Core.Path.{◌≡◌, refl, sym, ap, ap₂, ◌∙◌}
 use mathlib.Core.List.{List, [], ◌∷◌, ◌++◌}
 use Prim.Native.Nat.{ℕ, ◌+◌, ◌*◌, ◌-◌, ◌≤◌, ◌<◌}
 use native.Mathlib.Omega.{arith}
 use lib.IntN.{ℤ}
 use lib.ListN.{length, length-append}
+use Rattle.std.specs.Prelude.{Ok}
 use Rattle.lists.specs.Membership.{All}
 use Rattle.lists.specs.Parts.{put}
 use Rattle.lists.proofs.MembershipLaws.{all_nil, all_cons, all_append}
-use Rattle.model.specs.Answer.{accepted, refused}
 use Rattle.model.specs.Ticket as Model
-use Rattle.model.specs.Grammar.{count, times, limit, side, ticket_limits}
+use Rattle.model.specs.Grammar.{times, limit, ticket_limits}
 use Rattle.model.specs.Encode.{limit_words}
 use Rattle.model.specs.Shape.{Sized}
 use Rattle.model.specs.Ranges.{LimitRanges}
 use Rattle.model.proofs.Answers.AnswerLaws.{leads-accepted}
 use Rattle.model.proofs.Grammar.LoopReading.{LimitRead, limit-meets}
-use Rattle.ticket_words.specs.Reads.{Reached}
-use Rattle.ticket_words.proofs.ReaderLaws.{after-value, after-refusal, before, times-start, times_more, times-no, times-done}
+use Rattle.ticket_words.specs.Reads.{Reads}
+use Rattle.ticket_words.specs.declared.Words.{Words}
+use Rattle.ticket_words.proofs.ReaderLaws.{Underway, read-value, times-begin, times-next}
 use Rattle.ticket_loops.specs.Laid.{lay_limits}
 use Rattle.ticket_loops.specs.LoopReads.{limit_of, LimitIn, LayLimitIn, SideIn}
 use Rattle.ticket_loops.specs.declared.Limit.{Limit}
 use Rattle.ticket_loops.proofs.LimitLaws.{lay-more, lay-length}
 
 -- what the grammar says of a limit
-pub limit-read : (outer : ℕ) (b : List ℕ) (k : ℕ) (l : Model.Limit) (next : ℕ) → Reached b k
-    → limit outer b k ≡ accepted (record { value = l; next = next }) → LimitRead outer l
-limit-read outer b k l next r e = (leads-accepted _ _ ((limit-meets outer).from b k (record { first = r.counted; there = r.there })).leads
-    e).holds.holds
+pub limit-read : (outer : ℕ) {o e : Words} {l : Limit} → Reads (limit_of outer) (limit outer) o (Ok l) e → LimitRead outer (limit_of outer l)
+limit-read outer {o} h = let r = o.reached in
+    (leads-accepted _ _ ((limit-meets outer).from o.bytes.now o.next (record { first = r.counted; there = r.there })).leads (read-value h)).holds.holds
 
-module _ (outer : ℕ) (b : List ℕ) (k : ℕ) where
-  pub no-count : (n p : ℕ) → count 1 ticket_limits b k ≡ refused n p → side ticket_limits outer b k ≡ refused n p
-  unfolding side
-  no-count n p e = after-refusal (count 1 ticket_limits) _ b k n p e
-
-  counted : (n : ℕ) → count 1 ticket_limits b k ≡ accepted (record { value = n; next = k + 1 }) → side ticket_limits outer b k ≡ times n (limit outer) b (k + 1)
-  unfolding side
-  counted n e = after-value (count 1 ticket_limits) _ b k n (k + 1) e
-
--- k of n limits are read and laid, and the rest goes on from `next`
-pub record Filling (b : List ℕ) (at outer j n : ℕ) (o w : List ℤ) (next k : ℕ) : Type 0 where
+-- k of n limits are read and laid
+pub record Filling (outer j n : ℕ) (o e : Words) (w w' : List ℤ) (k : ℕ) : Type 0 where
   pub limits : List Model.Limit
   pub number : length limits ≡ k
   pub low : k ≤ n
-  pub few : n ≤ ticket_limits
-  pub reached : Reached b next
-  pub laid : w ≡ lay_limits o j limits
+  pub laid : w' ≡ lay_limits w j limits
   pub sized : Sized outer limits
   pub ranges : All LimitRanges limits
-  pub so : side ticket_limits outer b at ≡ before limits (times (n - k) (limit outer) b next)
+  pub underway : Underway (times n (limit outer)) o limits (times (n - k) (limit outer)) e
 
-module _ (b : List ℕ) (at outer j n : ℕ) (o : List ℤ) (p : SideIn b at outer j (length o)) where
-  pub filling-starts : count 1 ticket_limits b at ≡ accepted (record { value = n; next = at + 1 }) → n ≤ ticket_limits → Reached b (at + 1)
-      → Filling b at outer j n o o (at + 1) 0
+module _ (outer j n : ℕ) (o : Words) (w : List ℤ) where
+  pub filling-starts : Filling outer j n o o w w 0
   unfolding lay_limits
-  filling-starts e h r = record {
+  filling-starts = record {
     limits = [];
     number = refl;
     low = omega arith;
-    few = h;
-    reached = r;
     laid = refl;
-    sized = all_nil (λ (l : Model.Limit). length l.coefficients ≡ outer);
+    sized = all_nil _;
     ranges = all_nil LimitRanges;
-    so = counted outer b at n e ∙ times-start (limit outer) b n (at + 1);
+    underway = times-begin (limit outer) n o;
   }
 
-  module _ (w : List ℤ) (next k : ℕ) (f : Filling b at outer j n o w next k) where
-    pub filling-length : length w ≡ length o
+  module _ (p : SideIn outer j (length w)) (few : n ≤ ticket_limits) (e : Words) (w' : List ℤ) (k : ℕ) (f : Filling outer j n o e w w' k) where
+    filling-length : length w' ≡ length w
     filling-length =
-        let g = p.fits in let m = f.number in let a = f.low in let c = f.few in
-        ap length f.laid ∙ lay-length outer p.shallow o j f.limits f.sized (omega arith)
+        let g = p.fits in let m = f.number in let a = f.low in
+        ap length f.laid ∙ lay-length outer p.shallow w j f.limits f.sized (omega arith)
 
-    module _ (l : Limit) (to : ℕ) (h : k < n) (e : limit outer b next ≡ accepted (record { value = limit_of outer l; next = to })) where
-      pub next-in : LimitIn l → LayLimitIn (length w) (j + k) outer l
+    module _ {l : Limit} {e' : Words} (h : k < n) (t : Reads (limit_of outer) (limit outer) e (Ok l) e') where
+      pub next-in : LimitIn l → LayLimitIn (length w') (j + k) outer l
       next-in i =
-          let g = p.fits in let m = filling-length in let c = f.few in
-          record {
-            fits = omega arith;
-            shallow = p.shallow;
-            within = i;
-            ranges = (limit-read outer b next (limit_of outer l) to f.reached
-                e).ranges;
-          }
+          let g = p.fits in let m = filling-length in
+          record { fits = omega arith; shallow = p.shallow; within = i; ranges = (limit-read outer t).ranges }
 
-      pub filling-more : (v : List ℤ) → v ≡ put w ((j + k) * 8) (limit_words (limit_of outer l)) → Reached b to → Filling b at outer j n o v to (k + 1)
-      filling-more v q r =
+      pub filling-more : (v : List ℤ) → v ≡ put w' ((j + k) * 8) (limit_words (limit_of outer l)) → Filling outer j n o e' w v (k + 1)
+      filling-more v q =
           let x = limit_of outer l in
-          let t = limit-read outer b next x to f.reached e in
+          let r = limit-read outer t in
           record {
             limits = f.limits ++ (x ∷ []);
             number = let m = f.number in let a = length-append f.limits (x ∷ []) in omega arith;
             low = omega arith;
-            few = f.few;
-            reached = r;
-            laid = q ∙ ap₂ (λ y m. put y ((j + m) * 8) (limit_words x)) f.laid (sym f.number) ∙ sym (lay-more o j f.limits x);
-            sized = all_append _ f.limits (x ∷ []) f.sized (all_cons _ t.sized (all_nil _));
-            ranges = all_append LimitRanges f.limits (x ∷ []) f.ranges (all_cons LimitRanges t.ranges (all_nil LimitRanges));
-            so = f.so ∙ times_more (limit outer) b n k next f.limits x to h e;
+            laid = q ∙ ap₂ (λ y m. put y ((j + m) * 8) (limit_words x)) f.laid (sym f.number) ∙ sym (lay-more w j f.limits x);
+            sized = all_append _ f.limits (x ∷ []) f.sized (all_cons _ r.sized (all_nil _));
+            ranges = all_append LimitRanges f.limits (x ∷ []) f.ranges (all_cons LimitRanges r.ranges (all_nil LimitRanges));
+            underway = times-next (limit outer) n k f.underway h t refl;
           }
-
-    pub filling-no : (q a : ℕ) → k < n → limit outer b next ≡ refused q a → side ticket_limits outer b at ≡ refused q a
-    filling-no q a h e = f.so ∙ times-no (limit outer) b n k next f.limits q a h e
-
-    pub filling-done : n ≤ k → side ticket_limits outer b at ≡ accepted (record { value = f.limits; next = next })
-    filling-done h = f.so ∙ times-done (limit outer) b n k next f.limits h

@@ -10,7 +10,7 @@ use mir.Syntax.{w16, w32}
 use mir.Val.{SFits, to_z, of_z}
 use mir.Facts.{to_z_pos}
 use Rattle.lists.specs.Parts.{put}
-use Rattle.lists.proofs.PartLaws.{put-put, set-is-put, length-put}
+use Rattle.lists.proofs.PartLaws.{put-put, set-is-put}
 use Rattle.integers.specs.Difference.{size}
 use Rattle.integers.specs.Affine.{Within}
 use Rattle.integers.proofs.RangeLaws.{size-nat_abs, word_fits}
@@ -48,10 +48,6 @@ module _ (o : List ℤ) (at n : ℕ) (f : Affine) (p : LayAffineIn (length o) at
       q ∙ ap (λ a. put (set o at a) (at + 1) (take n f.coefficients)) (number-written f.constant constant-small)
       ∙ one-and-rest o at f.constant (take n f.coefficients) (omega arith)
 
-  pub affine-length : (e : List ℤ) → e ≡ put o at (affine_words (affine_of n f)) → length e ≡ length o
-  unfolding affine_words affine_of
-  affine-length e q = let h = p.fits in let m = row-length in ap length q ∙ length-put o at (affine_words (affine_of n f)) (omega arith)
-
 module _ (o : List ℤ) (j outer : ℕ) (l : Limit) (p : LayLimitIn (length o) j outer l) where
   small-multiplier : l.multiplier ≤ 32767
   unfolding limit_of
@@ -80,9 +76,3 @@ module _ (o : List ℤ) (j outer : ℕ) (l : Limit) (p : LayLimitIn (length o) j
   wrote c d e q = let h = p.fits in let g = small-multiplier in
       q ∙ ap₂ (λ a z. put (set o (j * 8) a) (j * 8 + 1) (affine_words (affine_of outer (rest z)))) (to_z_pos w16 (omega arith)) d
       ∙ one-and-rest o (j * 8) (pos l.multiplier) (affine_words (affine_of outer (rest l.constant))) (omega arith)
-
-  pub wrote-length : (e : List ℤ) → e ≡ put o (j * 8) (limit_words (limit_of outer l)) → length e ≡ length o
-  unfolding limit_words limit_of
-  wrote-length e q = let h = p.fits in let g = p.shallow in let r = p.within.room in let n = length-take-le outer l.coefficients
-      (omega arith) in
-      ap length q ∙ length-put o (j * 8) (limit_words (limit_of outer l)) (omega arith)

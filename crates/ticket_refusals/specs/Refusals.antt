@@ -1,9 +1,8 @@
--- Document 01's number and place of a refusal.
-use Rattle.std.specs.Prelude.{ℕ}
-use Rattle.model.specs.Answer.{Answer, refused}
+-- Document 01's number and place of a refusal, and the answer that a result stands for.
+use Rattle.std.specs.Prelude.{ℕ, Result, Ok, Err}
+use Rattle.model.specs.Answer.{Answer, accepted, refused}
 use Rattle.ticket_refusals.specs.declared.Refusal.{Refusal}
 use Rattle.ticket_refusals.specs.declared.Refusal.TheVariants.{Truncated, TrailingBytes, CountOutOfRange, WordOutOfRange, TooManyElements, LoopOutOfNest, IndexOutOfRange, TooManyPoints, SubscriptOutOfBounds, DependenceReversed, TooManyLimits, NumberOutOfRange, NewNestTooLarge, BufferTooShort, OpaqueRule, WrongStoreLength}
-use Rattle.ticket_refusals.specs.declared.Status.{Status}
 
 -- torn, overhang, bad count, bad word, overfull, off the nest; far index, crowded, off the array; out of order, limits full, big number; sprawl;
 -- short buffer, opaque, wrong store
@@ -46,7 +45,7 @@ place_of WrongStoreLength = 0
 abbrev pub refusal : {A : Type 0} → Refusal → Answer A
 refusal r = refused (number_of r) (place_of r)
 
--- the first that is a refusal
-abbrev pub first_of : Status → Status → Status
-first_of Status.Fine b = b
-first_of (Status.Refused r) b = Status.Refused r
+-- what a result stands for: the value, or the number and the place of the refusal
+abbrev pub answer_of : {A : Type 0} → Result A Refusal → Answer A
+answer_of (Ok a) = accepted a
+answer_of (Err r) = refusal r

@@ -1,103 +1,104 @@
--- A statement, from its parts.
-use mathlib.Core.Path.{◌≡◌, refl, sym, ap, ap₂, ◌∙◌, subst, fun_ext}
-use mathlib.Core.Bool.{cond}
-use mathlib.Core.List.{List, [], ◌∷◌}
-use Prim.Native.Nat.{ℕ, ◌+◌, ◌<◌}
+-- Statements one after another, and the reads at the end of one.
+use mathlib.Core.Path.{◌≡◌, refl, sym, ap, ap₂, ◌∙◌}
+use mathlib.Core.List.{List, [], ◌∷◌, ◌++◌, map, flat_map, map-append}
+use Prim.Native.Nat.{ℕ, ◌+◌, ◌*◌, ◌-◌, ◌≤◌, ◌<◌}
 use native.Mathlib.Omega.{arith}
 use native.Mathlib.Numerals.{add-one}
-use lib.Dec.{eqb}
 use lib.IntN.{ℤ}
-use lib.ListN.{length, set}
-use Rattle.lists.specs.Parts.{put}
-use Rattle.lists.proofs.PartLaws.{set-is-put, put-put}
-use Rattle.model.specs.Answer.{accepted, refused}
-use Rattle.model.specs.Ticket.{Access, Statement}
+use lib.ListN.{length, take, set, length-append, length-set}
+use lib.Seq.{take-suc-set}
+use Rattle.std.specs.Prelude.{Result, Ok}
+use Rattle.ticket_refusals.specs.declared.Refusal.{Refusal}
+use Rattle.lists.proofs.FlatMapLaws.{flat_map-snoc}
+use Rattle.model.specs.Ticket as Model
 use Rattle.model.specs.Bounds.{accesses_of}
-use Rattle.model.specs.Grammar.{Reader, ◌>>=◌, count, natural, times, done, access, statement, most_reads}
-use Rattle.ticket_refusals.specs.Refusals.{first_of}
-use Rattle.ticket_words.specs.Reads.{answer}
-use Rattle.ticket_refusals.specs.declared.Status.{Status}
-use Rattle.ticket_refusals.proofs.StatusLaws.{first_fine}
-use Rattle.ticket_words.proofs.ReaderLaws.{after-value, after-refusal, both_read, regrouped}
+use Rattle.model.specs.Grammar.{◌>>=◌, count, times, done, access, statement, most_writes, most_reads}
+use Rattle.ticket_words.specs.Reads.{Reads}
+use Rattle.ticket_words.specs.declared.Words.{Words}
+use Rattle.ticket_words.proofs.ReaderLaws.{Underway, regrouped, times-begin, times-next}
 use Rattle.nest_flat.specs.Layout.{arrays_of}
-use Rattle.ticket_statements.specs.Laid.{lay_access, lay_accesses, array_numbers}
-use Rattle.ticket_statements.specs.Statements.{Laid, accesses, ReadsAccess, ReadsAccesses, ReadsStatement}
-use Rattle.ticket_statements.specs.declared.AccessRead.{AccessRead}
-use Rattle.ticket_statements.specs.declared.AccessesRead.{AccessesRead}
+use Rattle.ticket_statements.specs.Laid.{accesses_in, size_of}
+use Rattle.ticket_statements.specs.Statements.{Lays, accesses, ReadsStatement}
+use Rattle.ticket_statements.specs.declared.Statement.{Statement}
+use Rattle.ticket_statements.specs.declared.accesses.Nest.{Nest}
+use Rattle.ticket_statements.specs.declared.accesses.Accesses.{Accesses}
+use Rattle.ticket_statements.proofs.AccessLaws.{lays-none, lays-more}
 
--- ---- the reader
-
-module _ (n : ℕ) (as' : List (List ℕ)) (b : List ℕ) (k : ℕ) where
-  pub no-rule : (q p : ℕ) → natural 0 3 b k ≡ refused q p → statement n as' b k ≡ refused q p
-  unfolding statement
-  no-rule q p e = after-refusal (natural 0 3) _ b k q p e
-
-  -- m is the most that the rule allows for the constant
-  module _ (v m : ℕ) (s : m ≡ cond (eqb v 3) 0 32767) (e : natural 0 3 b k ≡ accepted (record { value = v; next = k + 1 })) where
-    pub no-constant : (q p : ℕ) → natural 0 m b (k + 1) ≡ refused q p → statement n as' b k ≡ refused q p
-    unfolding statement
-    no-constant q p f =
-        after-value (natural 0 3) _ b k v (k + 1) e
-        ∙ after-refusal (natural 0 (cond (eqb v 3) 0 32767)) _ b (k + 1) q p (subst (λ x. natural 0 x b (k + 1) ≡ refused q p) s f)
-
-    module _ (c : ℕ) (f : natural 0 m b (k + 1) ≡ accepted (record { value = c; next = k + 1 + 1 })) where
-      constant-read : natural 0 (cond (eqb v 3) 0 32767) b (k + 1) ≡ accepted (record { value = c; next = k + 2 })
-      constant-read =
-          let z : k + 1 + 1 ≡ k + 2 = omega arith in
-          subst (λ x. natural 0 x b (k + 1) ≡ accepted (record { value = c; next = k + 2 })) s
-          (f ∙ ap (λ j. accepted (record { value = c; next = j })) z)
-
-      abbrev made : Access → List Access → Statement
-      made w l = record { rule = v; constant = c; writes = w ∷ []; reads = l }
-
-      -- lo is the least number of reads that the rule allows; the first refusal decides
-      pub joined : (s₁ s₂ : Status) (w : Access) (l : List Access) (lo j i : ℕ) → lo ≡ cond (eqb v 3) 1 0 → answer s₁ w j ≡ access n as' b (k + 2)
-          → answer s₂ l i ≡ accesses lo n as' b j
-          → answer (first_of s₁ s₂) (made w l) i ≡ statement n as' b k
-      unfolding statement accesses
-      joined s₁ s₂ w l lo j i t g h =
-          both_read (access n as') (λ _. accesses lo n as') made b (k + 2) s₁ s₂ w l j i g h
-          ∙ ap (λ (r : Access → Reader Statement). (access n as' >>= r) b (k + 2))
-          (fun_ext (λ x. fun_ext (λ a. fun_ext (λ q. sym (regrouped (count lo most_reads) (λ m. times m (access n as')) (λ y. done (made x y)) a q)))))
-          ∙ ap (λ y. (access n as' >>= (λ x. count y most_reads >>= (λ m. times m (access n as') >>= (λ rs. done (made x rs))))) b (k + 2)) t
-          ∙ sym (after-value (natural 0 3) _ b k v (k + 1) e ∙ after-value (natural 0 (cond (eqb v 3) 0 32767)) _ b (k + 1) c (k + 2) constant-read)
-
--- ---- its accesses, the written one first
-
-module _ (k r c : ℕ) (a : Access) (l : List Access) (w v u : List ℤ) (o p q : List ℕ) where
-  pub statement-laid : k < length o → v ≡ lay_access w k a → p ≡ set o k a.array → Laid (k + 1) l v u p q
-      → Laid k (accesses_of (record { rule = r; constant = c; writes = a ∷ []; reads = l })) w u o q
-  unfolding accesses_of lay_accesses
-  statement-laid h e f g = record {
-    words = g.words ∙ ap₂ (λ x m. lay_accesses x m l) e (add-one k);
-    named = g.named ∙ ap (λ x. put x (k + 1) (array_numbers l)) (f ∙ set-is-put o k a.array h)
-        ∙ put-put o k (a.array ∷ []) (array_numbers l) (omega arith);
+-- the reads of a statement, which f makes
+module _ (lo n : ℕ) (as' : List (List ℕ)) (f : List Model.Access → Model.Statement) {T : Type 0} {shown : T → Model.Statement} {o e : Words}
+    {r : Result T Refusal} where
+  pub then-reads : Reads shown (accesses lo n as' >>= (λ rs. done (f rs))) o r e
+      → Reads shown (count lo most_reads >>= (λ m. times m (access n as') >>= (λ rs. done (f rs)))) o r e
+  unfolding accesses
+  then-reads g = record {
+    same = g.same ∙ sym (regrouped (count lo most_reads) (λ m. times m (access n as')) (λ rs. done (f rs)) o.bytes.now o.next);
+    bytes = g.bytes;
   }
 
-module _ (b : List ℕ) (at n : ℕ) (e : List ℕ) (k : ℕ) (w v u : List ℤ) (o p q : List ℕ) (x : AccessRead) (y : AccessesRead) where
-  pub statement-reads : (rule constant m lo : ℕ) (z : Status) → m ≡ cond (eqb rule 3) 0 32767
-      → natural 0 3 b at ≡ accepted (record { value = rule; next = at + 1 })
-      → natural 0 m b (at + 1) ≡ accepted (record { value = constant; next = at + 1 + 1 }) → lo ≡ cond (eqb rule 3) 1 0 → k < length o
-      → ReadsAccess b (at + 2) n e k w v o p x → ReadsAccesses b x.next lo n e (k + 1) v u p q y → z ≡ first_of x.status y.status
-      → ReadsStatement b at n e k w u o q (record { status = z; rule = rule; constant = constant; size = y.count + 1; next = y.next })
-  unfolding accesses_of
-  statement-reads rule constant m lo z s f g t h A R d =
-      let S : Statement = record { rule = rule; constant = constant; writes = A.access ∷ []; reads = R.list } in
-      record {
-        statement = S;
-        reads = record {
-          same = ap (λ i. answer i S y.next) d ∙ joined n (arrays_of e) b at rule m s f constant g x.status y.status A.access R.list
-              lo x.next y.next t A.reads.same R.reads.same;
-          reached = R.reads.reached;
-        };
-        few = let l = R.few in omega arith;
-        laid = λ a.
-            let h₂ = first_fine x.status y.status (sym d ∙ a) in
-            let c = R.count h₂.1 in
-            record {
-              laid = statement-laid k rule constant A.access R.list w v u o p q h (A.words h₂.0) (A.named h₂.0) (R.laid h₂.1);
-              size = omega arith;
-              rule = refl;
-              constant = refl;
-            };
-      }
+-- the access written, and those read
+pub statement_lays : (rule constant : ℕ) {x : Model.Access} {rs : List Model.Access} {w v u : List ℤ} {a b c : Accesses} → Lays (x ∷ []) w v a b
+    → Lays rs v u b c → Lays (accesses_of (record { rule = rule; constant = constant; writes = x ∷ []; reads = rs })) w u a c
+unfolding accesses_of
+statement_lays rule constant p q = lays-more p q
+
+-- one number more for each statement
+column-more : (f : Model.Statement → ℕ) (ss : List Model.Statement) (s : Model.Statement) (x : ℕ) (l : List ℕ) (i : ℕ) → i < length l → x ≡ f s
+    → take i l ≡ map f ss → take (i + 1) (set l i x) ≡ map f (ss ++ (s ∷ []))
+column-more f ss s x l i h e q =
+    ap (λ k. take k (set l i x)) (add-one i) ∙ take-suc-set l i x h ∙ ap₂ (λ a y. a ++ (y ∷ [])) q e ∙ sym (map-append f ss (s ∷ []))
+
+-- i of m statements are read and laid
+pub record Filling (n : Nest) (m : ℕ) (o e : Words) (w w' : List ℤ) (a b : Accesses) (ms rs cs : List ℕ) (i : ℕ) : Type 0 where
+  pub list : List Model.Statement
+  pub number : length list ≡ i
+  pub low : i ≤ m
+  pub bounded : b.count ≤ a.count + i * (most_writes + most_reads)
+  pub sizes-room : length ms ≡ 4
+  pub rules-room : length rs ≡ 4
+  pub constants-room : length cs ≡ 4
+  pub lays : Lays (accesses_in list) w w' a b
+  pub sizes : take i ms ≡ map size_of list
+  pub rules : take i rs ≡ map (λ (s : Model.Statement). s.rule) list
+  pub constants : take i cs ≡ map (λ (s : Model.Statement). s.constant) list
+  pub underway : Underway (times m (statement n.depth (arrays_of n.extents.now))) o list (times (m - i) (statement n.depth (arrays_of n.extents.now))) e
+
+module _ (n : Nest) (m : ℕ) (o : Words) (w : List ℤ) (a : Accesses) where
+  pub filling-starts : (ms rs cs : List ℕ) → length ms ≡ 4 → length rs ≡ 4 → length cs ≡ 4 → Filling n m o o w w a a ms rs cs 0
+  unfolding accesses_in flat_map
+  filling-starts ms rs cs x y z = record {
+    list = [];
+    number = refl;
+    low = omega arith;
+    bounded = omega arith;
+    sizes-room = x;
+    rules-room = y;
+    constants-room = z;
+    lays = lays-none w a;
+    sizes = refl;
+    rules = refl;
+    constants = refl;
+    underway = times-begin (statement n.depth (arrays_of n.extents.now)) m o;
+  }
+
+  module _ (e : Words) (w' : List ℤ) (b : Accesses) (ms rs cs : List ℕ) (i : ℕ) (f : Filling n m o e w w' a b ms rs cs i) where
+    pub filling-more : i < m → m ≤ 4 → {v : List ℤ} {c : Accesses} {x : Statement} {e' : Words} → ReadsStatement n e w' v b c (Ok x) e'
+        → Filling n m o e' w v a c (set ms i x.size) (set rs i x.rule) (set cs i x.constant) (i + 1)
+    unfolding accesses_in
+    filling-more h few {v} {c} {x} t =
+        let s = t.statement in
+        let l = t.laid in
+        let snoc : accesses_in (f.list ++ (s ∷ [])) ≡ accesses_in f.list ++ accesses_of s = flat_map-snoc accesses_of f.list s in
+        record {
+          list = f.list ++ (s ∷ []);
+          number = let k = f.number in let u = length-append f.list (s ∷ []) in omega arith;
+          low = omega arith;
+          bounded = omega (arith, f.bounded, l.laid.count, l.few, l.size);
+          sizes-room = simp length-set f.sizes-room;
+          rules-room = simp length-set f.rules-room;
+          constants-room = simp length-set f.constants-room;
+          lays = rw snoc (lays-more f.lays l.laid);
+          sizes = column-more size_of f.list s x.size ms i (omega (arith, f.sizes-room)) l.size f.sizes;
+          rules = column-more (λ (s : Model.Statement). s.rule) f.list s x.rule rs i (omega (arith, f.rules-room)) l.rule f.rules;
+          constants = column-more (λ (s : Model.Statement). s.constant) f.list s x.constant cs i (omega (arith, f.constants-room)) l.constant f.constants;
+          underway = times-next (statement n.depth (arrays_of n.extents.now)) m i f.underway h t.reads refl;
+        }

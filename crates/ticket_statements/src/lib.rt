@@ -1,163 +1,73 @@
-// The statements of a ticket, read onto flat slices (`nest_flat`, specs/Layout). `at` is the number of a word, from 1.
+// The statements of a ticket, read onto flat slices (`nest_flat`, specs/Layout).
 #![tactic(auto)]
 
-ghost use Rattle.std.specs.Prelude.{◌≡◌, ◌+◌, ◌*◌, ◌<◌, ◌≤◌, cond, eqb, length};
-ghost use Rattle.model.specs.Grammar.{most_statements, most_writes, most_reads, most_accesses};
-ghost use Rattle.ticket_words.specs.Reads.{Reached};
-ghost use Rattle.ticket_refusals.specs.declared.Status.TheVariants.{Refused};
-ghost use Rattle.ticket_statements.specs.Statements.{Room, ReadsAccess, ReadsAccesses, ReadsStatement, ReadsStatements};
+ghost use Rattle.std.specs.Prelude.{◌≡◌, ◌+◌, ◌<◌, ◌≤◌, cond, eqb, length};
+ghost use Rattle.model.specs.Grammar.{most_writes, most_reads, most_accesses, most_words};
+ghost use Rattle.ticket_statements.specs.Statements.{ReadsAccess, ReadsAccesses, ReadsStatement, ReadsStatements};
 
-use model::{ARRAY_ROOM, DIMENSIONS, READS, ROW_ROOM, STATEMENTS};
-use ticket_refusals::{Refusal, Status};
-use ticket_words::Natural;
+pub mod accesses;
 
-#[derive(Clone, Copy)]
-pub struct AccessRead {
-    pub status: Status,
-    pub next: usize,
-}
-
-#[derive(Clone, Copy)]
-pub struct AccessesRead {
-    pub status: Status,
-    pub count: usize,
-    pub next: usize,
-}
+use accesses::{Accesses, Nest};
+use model::{ACCESSES, ARRAY_ROOM, DIMENSIONS, READS, ROW_ROOM, STATEMENTS};
+use ticket_refusals::Refusal;
+use ticket_words::Words;
 
 // With the number of its accesses.
 #[derive(Clone, Copy)]
-pub struct StatementRead {
-    pub status: Status,
-    pub rule: usize,
-    pub constant: usize,
-    pub size: usize,
-    pub next: usize,
+struct Statement {
+    rule: usize,
+    constant: usize,
+    size: usize,
 }
 
-// With the number of the accesses of all statements.
+// The first `count` statements, and of the first `accesses` accesses of all of them the numbers of their arrays, as `nest_flat::Header` has them.
 #[derive(Clone, Copy)]
 pub struct StatementsRead {
-    pub status: Status,
     pub count: usize,
+    pub sizes: [usize; STATEMENTS],
+    pub rules: [usize; STATEMENTS],
+    pub constants: [usize; STATEMENTS],
     pub accesses: usize,
-    pub next: usize,
+    pub accessed: [usize; ACCESSES],
 }
 
-// Access k: the number of an array, from 1, and a subscript for each of its dimensions.
+// The number of an array, from 1, and a subscript for each of its dimensions.
 fn read_access(
-    s: &[u8],
-    at: usize,
-    depth: usize,
-    extents: &[usize],
-    arrays: usize,
-    words: &mut [i16],
-    accessed: &mut [usize],
-    k: usize,
-) -> AccessRead
-    requires { Room s.now at depth extents.now arrays (length words.old) (length accessed.old) × (k < most_accesses) }
-    ensures { ReadsAccess s.now at depth extents.now k words.old words.new accessed.old
-        accessed.new result }
+    words: &mut Words,
+    nest: Nest,
+    laid: &mut [i16],
+    accesses: &mut Accesses,
+) -> Result<(), Refusal>
+    requires { (length laid.old ≡ most_words) × (accesses.old.count < most_accesses) }
+    ensures { ReadsAccess nest.entry words.old laid.old laid.new accesses.old accesses.new result words.new }
 {
-    let number = match ticket_words::read_natural(s, at, 1, arrays) {
-        Natural::Value(v) => v,
-        Natural::Refused(r) => {
-            return AccessRead {
-                status: Status::Refused(r),
-                next: at,
-            };
-        }
-    };
-    let array = number - 1;
-    let dimensions = extents[array * ARRAY_ROOM];
-    accessed[k] = array;
-    let mut next = at + 1;
-    let mut d = 0;
-    while d < dimensions {
-        let one = ticket_loops::read_affine(s, next, depth);
-        let status = one.status;
-        match status {
-            Status::Fine => {
-                let subscript = one.affine;
-                ticket_loops::lay_affine(words, (k * DIMENSIONS + d) * ROW_ROOM, subscript, depth);
-                next = one.next;
-                d += 1;
-            }
-            Status::Refused(r) => {
-                return AccessRead {
-                    status: Status::Refused(r),
-                    next: at,
-                };
-            }
-        }
+    let array = words.natural(1, nest.extents.len() / ARRAY_ROOM)? - 1;
+    let k = accesses.count;
+    for d in 0..nest.extents[array * ARRAY_ROOM] {
+        let subscript = ticket_loops::read_affine(words, nest.depth)?;
+        ticket_loops::lay_affine(laid, (k * DIMENSIONS + d) * ROW_ROOM, subscript, nest.depth);
     }
-    AccessRead {
-        status: Status::Fine,
-        next: next,
-    }
+    accesses.accessed[k] = array;
+    accesses.count += 1;
+    Ok(())
 }
 
-// A count from `least` on and as many accesses, from access k on.
+// A count from `least` on and as many accesses. It answers how many.
 fn read_accesses(
-    s: &[u8],
-    at: usize,
+    words: &mut Words,
     least: usize,
-    depth: usize,
-    extents: &[usize],
-    arrays: usize,
-    words: &mut [i16],
-    accessed: &mut [usize],
-    k: usize,
-) -> AccessesRead
-    requires { Room s.now at depth extents.now arrays (length words.old) (length accessed.old) × (k + most_reads ≤ most_accesses) }
-    ensures { ReadsAccesses s.now at least depth extents.now k words.old words.new
-        accessed.old accessed.new result }
+    nest: Nest,
+    laid: &mut [i16],
+    accesses: &mut Accesses,
+) -> Result<usize, Refusal>
+    requires { (length laid.old ≡ most_words) × (accesses.old.count + most_reads ≤ most_accesses) }
+    ensures { ReadsAccesses least nest.entry words.old laid.old laid.new accesses.old accesses.new result words.new }
 {
-    let count = match ticket_words::read_count(s, at, least, READS) {
-        Natural::Value(v) => v,
-        Natural::Refused(r) => {
-            return AccessesRead {
-                status: Status::Refused(r),
-                count: 0,
-                next: at,
-            };
-        }
-    };
-    let mut next = at + 1;
-    let mut i = 0;
-    while i < count {
-        let one = read_access(s, next, depth, extents, arrays, words, accessed, k + i);
-        let status = one.status;
-        match status {
-            Status::Fine => {
-                next = one.next;
-                i += 1;
-            }
-            Status::Refused(r) => {
-                return AccessesRead {
-                    status: Status::Refused(r),
-                    count: i,
-                    next: at,
-                };
-            }
-        }
+    let count = words.count(least, READS)?;
+    for i in 0..count {
+        read_access(words, nest, laid, accesses)?;
     }
-    AccessesRead {
-        status: Status::Fine,
-        count: i,
-        next: next,
-    }
-}
-
-fn no_statement(r: Refusal, at: usize) -> StatementRead
-    ensures { (result.status ≡ Refused r) × (result.next ≡ at) × (result.size ≡ 0) }
-{
-    StatementRead {
-        status: Status::Refused(r),
-        rule: 0,
-        constant: 0,
-        size: 0,
-        next: at,
-    }
+    Ok(count)
 }
 
 // Under rule 3 the constant must be 0, and there must be a read.
@@ -173,115 +83,57 @@ fn least_reads(rule: usize) -> usize
     if rule == 3 { 1 } else { 0 }
 }
 
-// Rule, constant, the access written, and those read, from access k on. Reads are read from where the write was refused too, and not
-// looked at.
+// Rule, constant, the access written, and those read.
 fn read_statement(
-    s: &[u8],
-    at: usize,
-    depth: usize,
-    extents: &[usize],
-    arrays: usize,
-    words: &mut [i16],
-    accessed: &mut [usize],
-    k: usize,
-) -> StatementRead
-    requires { Room s.now at depth extents.now arrays (length words.old) (length accessed.old)
-        × (k + (most_writes + most_reads) ≤ most_accesses) }
-    ensures { ReadsStatement s.now at depth extents.now k words.old words.new
-        accessed.old accessed.new result }
+    words: &mut Words,
+    nest: Nest,
+    laid: &mut [i16],
+    accesses: &mut Accesses,
+) -> Result<Statement, Refusal>
+    requires { (length laid.old ≡ most_words) × (accesses.old.count + (most_writes + most_reads) ≤ most_accesses) }
+    ensures { ReadsStatement nest.entry words.old laid.old laid.new accesses.old accesses.new result words.new }
 {
-    let rule = match ticket_words::read_natural(s, at, 0, 3) {
-        Natural::Value(v) => v,
-        Natural::Refused(r) => return no_statement(r, at),
-    };
-    let constant = match ticket_words::read_natural(s, at + 1, 0, most_constant(rule)) {
-        Natural::Value(v) => v,
-        Natural::Refused(r) => return no_statement(r, at),
-    };
-    let first = read_access(s, at + 2, depth, extents, arrays, words, accessed, k);
-    let middle = first.next;
-    let least = least_reads(rule);
-    let others = read_accesses(
-        s,
-        middle,
-        least,
-        depth,
-        extents,
-        arrays,
-        words,
-        accessed,
-        k + 1,
-    );
-    let a = first.status;
-    let b = others.status;
-    let status = ticket_refusals::first_refusal(a, b);
-    StatementRead {
-        status: status,
-        rule: rule,
-        constant: constant,
-        size: others.count + 1,
-        next: others.next,
-    }
+    let rule = words.natural(0, 3)?;
+    let constant = words.natural(0, most_constant(rule))?;
+    read_access(words, nest, laid, accesses)?;
+    let reads = read_accesses(words, least_reads(rule), nest, laid, accesses)?;
+    Ok(Statement {
+        rule,
+        constant,
+        size: reads + 1,
+    })
 }
 
 // The section: a count and as many statements, in body order.
 pub fn read_statements(
-    s: &[u8],
-    at: usize,
-    depth: usize,
-    extents: &[usize],
-    arrays: usize,
-    words: &mut [i16],
-    accessed: &mut [usize],
-    sizes: &mut [usize],
-    rules: &mut [usize],
-    constants: &mut [usize],
-) -> StatementsRead
-    requires { Room s.now at depth extents.now arrays (length words.old) (length accessed.old) × (length sizes.old ≡ most_statements)
-        × (length rules.old ≡ most_statements) × (length constants.old ≡ most_statements) }
-    ensures { ReadsStatements s.now at depth extents.now words.old words.new
-        accessed.old accessed.new sizes.new rules.new constants.new result }
+    words: &mut Words,
+    nest: Nest,
+    laid: &mut [i16],
+) -> Result<StatementsRead, Refusal>
+    requires { length laid.old ≡ most_words }
+    ensures { ReadsStatements nest.entry words.old laid.old laid.new result words.new }
 {
-    let count = match ticket_words::read_count(s, at, 1, STATEMENTS) {
-        Natural::Value(v) => v,
-        Natural::Refused(r) => {
-            return StatementsRead {
-                status: Status::Refused(r),
-                count: 0,
-                accesses: 0,
-                next: at,
-            };
-        }
+    let count = words.count(1, STATEMENTS)?;
+    let mut accesses = Accesses {
+        accessed: [0usize; ACCESSES],
+        count: 0,
     };
-    let mut accesses = 0;
-    let mut next = at + 1;
-    let mut i = 0;
-    while i < count {
-        let one = read_statement(s, next, depth, extents, arrays, words, accessed, accesses);
-        let status = one.status;
-        match status {
-            Status::Fine => {
-                sizes[i] = one.size;
-                rules[i] = one.rule;
-                constants[i] = one.constant;
-                accesses = accesses + one.size;
-                next = one.next;
-                i += 1;
-            }
-            Status::Refused(r) => {
-                return StatementsRead {
-                    status: Status::Refused(r),
-                    count: i,
-                    accesses: accesses,
-                    next: at,
-                };
-            }
-        }
+    let mut sizes = [0usize; STATEMENTS];
+    let mut rules = [0usize; STATEMENTS];
+    let mut constants = [0usize; STATEMENTS];
+    for i in 0..count {
+        let statement = read_statement(words, nest, laid, &mut accesses)?;
+        sizes[i] = statement.size;
+        rules[i] = statement.rule;
+        constants[i] = statement.constant;
     }
-    StatementsRead {
-        status: Status::Fine,
-        count: i,
-        accesses: accesses,
-        next: next,
-    }
+    let accessed = accesses.accessed;
+    Ok(StatementsRead {
+        count,
+        sizes,
+        rules,
+        constants,
+        accesses: accesses.count,
+        accessed,
+    })
 }

@@ -1,15 +1,23 @@
 -- A loop number with a test more: what the first test refuses, and what it lets through. For the loop that a circulation does not move.
 use mathlib.Core.Path.{◌≡◌, refl, sym, ap, ap₂, ◌∙◌, subst}
-use mathlib.Core.Bool.{Bool, true, false, ◌&&◌}
+use mathlib.Core.Bool.{Bool, true, false, ◌&&◌, not}
 use mathlib.Core.List.{List}
 use Prim.Native.Nat.{ℕ}
+use borrow.Author.Tests.{eq-eqb, ne_eqb}
 use lib.Dec.{T}
 use lib.IntN.{ℤ, pos, negsuc, nat_abs}
+use Rattle.integers.specs.Sign.{eq_z}
 use Rattle.model.specs.Answer as Answer
 use Rattle.model.specs.Answer.{Answer, accepted, refused, require}
 use Rattle.model.specs.Grammar.{Read, ◌>>=◌, ◌>>◌, done, must_at, between, number, loop_number}
 use Rattle.model.proofs.Answers.AnswerLaws.{not-both, accepted-same}
-use Rattle.ticket_words.proofs.ReaderLaws.{after-value, after-refusal}
+use Rattle.std.specs.Prelude.{Ok, Err}
+use Rattle.ticket_refusals.specs.declared.Refusal.{Refusal}
+use Rattle.ticket_refusals.specs.declared.Refusal.TheVariants.{LoopOutOfNest}
+use Rattle.ticket_words.specs.Reads.{Reads, plain}
+use Rattle.ticket_words.specs.declared.Words.{Words}
+use Rattle.ticket_words.proofs.ReaderLaws.{read-value, read-refusal, after-value, after-refusal}
+use Rattle.ticket_steps.specs.Steps.{other_loop}
 
 -- a loop number by its word and its test
 module _ (step : ℕ) (ok : ℤ → Bool) (b : List ℕ) (k : ℕ) where
@@ -31,7 +39,7 @@ module _ (step : ℕ) (ok : ℤ → Bool) (b : List ℕ) (k : ℕ) where
   bad-word w j e = rw e
 
 -- where it comes from
-pub data Read-loop (step : ℕ) (ok : ℤ → Bool) (b : List ℕ) (k : ℕ) : Type 0 where
+data Read-loop (step : ℕ) (ok : ℤ → Bool) (b : List ℕ) (k : ℕ) : Type 0 where
   truncated : (q p : ℕ) → number b k ≡ refused q p → Read-loop step ok b k
   good : (w : ℤ) (j : ℕ) → number b k ≡ accepted (record { value = w; next = j }) → ok w ≡ true → Read-loop step ok b k
   bad : (w : ℤ) (j : ℕ) → number b k ≡ accepted (record { value = w; next = j }) → ok w ≡ false → Read-loop step ok b k
@@ -52,7 +60,7 @@ module _ (step : ℕ) (f g : ℤ → Bool) (whole : (w : ℤ) → f w ≡ true �
   abbrev both : ℤ → Bool
   both w = f w && g w
 
-  pub further-no : (q p : ℕ) → loop_number step f b k ≡ refused q p → loop_number step both b k ≡ refused q p
+  further-no : (q p : ℕ) → loop_number step f b k ≡ refused q p → loop_number step both b k ≡ refused q p
   further-no q p e = by (read-loop step f b k)
     where
       by : Read-loop step f b k → loop_number step both b k ≡ refused q p
@@ -72,14 +80,37 @@ module _ (step : ℕ) (f g : ℤ → Bool) (whole : (w : ℤ) → f w ≡ true �
             (w, i, h, t, whole w t ∙ ap (λ (x : Read ℕ). pos x.value) r, ap (λ (x : Read ℕ). x.next) r)
         by (bad w i h t) = not-both (sym e ∙ judged-word step f b k w i h ∙ bad-word step f b k w i t)
 
-    pub further_same : g (pos v) ≡ false → loop_number step both b k ≡ refused 6 step
+    further_same : g (pos v) ≡ false → loop_number step both b k ≡ refused 6 step
     further_same t = let r = found in judged-word step both b k r.0 r.1 r.2 ∙ bad-word step both b k r.0 r.1 (rw (r.3, r.4, t) refl)
 
-    pub further-fine : g (pos v) ≡ true → loop_number step both b k ≡ accepted (record { value = v; next = j })
+    further-fine : g (pos v) ≡ true → loop_number step both b k ≡ accepted (record { value = v; next = j })
     further-fine t = let r = found in judged-word step both b k r.0 r.1 r.2 ∙ good-word step both b k r.0 r.1 (rw (r.3, r.4, t) refl)
         ∙ ap₂ (λ (x : ℤ) i. accepted (record { value = nat_abs x; next = i })) r.4 r.5
 
-pub between-whole : (m : ℕ) (w : ℤ) → between (pos 1) (pos m) w ≡ true → w ≡ pos (nat_abs w)
+between-whole : (m : ℕ) (w : ℤ) → between (pos 1) (pos m) w ≡ true → w ≡ pos (nat_abs w)
 unfolding between
 between-whole m (pos n) e = refl
 between-whole m (negsuc n) e = absurd (subst T (sym e) tt)
+
+-- ---- a loop other than loop a
+
+module _ (step m a : ℕ) {o e : Words} where
+  pub other-refused : {r : Refusal} → Reads plain (loop_number step (between (pos 1) (pos m))) o (Err r) e
+      → Reads plain (loop_number step (other_loop m a)) o (Err r) e
+  other-refused h = record {
+    same = sym (further-no step (between (pos 1) (pos m)) (λ w. not (eq_z w (pos a))) (between-whole m) _ _ _ _ (read-refusal h));
+    bytes = h.bytes;
+  }
+
+  module _ {v : ℕ} (h : Reads plain (loop_number step (between (pos 1) (pos m))) o (Ok v) e) where
+    pub other-itself : v ≡ a → Reads plain (loop_number step (other_loop m a)) o (Err (LoopOutOfNest step)) e
+    other-itself p = record {
+      same = sym (further_same step (between (pos 1) (pos m)) (λ w. not (eq_z w (pos a))) (between-whole m) _ _ v _ (read-value h) (ap not (eq-eqb v a p)));
+      bytes = h.bytes;
+    }
+
+    pub other-read : (v ≡ a → ⊥) → Reads plain (loop_number step (other_loop m a)) o (Ok v) e
+    other-read p = record {
+      same = sym (further-fine step (between (pos 1) (pos m)) (λ w. not (eq_z w (pos a))) (between-whole m) _ _ v _ (read-value h) (ap not (ne_eqb v a p)));
+      bytes = h.bytes;
+    }

@@ -1,20 +1,18 @@
-// The steps section of a ticket. `at` is the number of a word, from 1.
+// The steps section of a ticket.
 #![tactic(auto)]
 
-ghost use Rattle.std.specs.Prelude.{◌≡◌, ◌+◌, ◌≤◌, length};
-ghost use Rattle.model.specs.Words.{signed};
+ghost use Rattle.std.specs.Prelude.{◌≡◌, ◌≢◌, ◌≤◌, nat_abs, IfOk};
 ghost use Rattle.model.specs.Grammar as Grammar;
-ghost use Rattle.model.specs.Grammar.{most_loops};
-ghost use Rattle.ticket_words.specs.Reads.{Reached};
-ghost use Rattle.ticket_words.specs.Words.{ReadNatural};
-ghost use Rattle.ticket_steps.specs.Steps.{ReadsStep, ReadsFactor, ReadsSteps, StepsIn, next_loop, sectionable, one_step, is_factor};
-ghost use Rattle.ticket_steps.specs.Steps.{other_loop, OnOther};
-ghost use Rattle.ticket_refusals.specs.declared.Status.TheVariants.{Refused};
+ghost use Rattle.model.specs.Grammar.{most_loops, most_factor};
+ghost use Rattle.model.specs.Ranges.{InRange};
+ghost use Rattle.ticket_words.specs.Reads.{Reads, plain};
+ghost use Rattle.step_kinds.specs.Kinds.{step_of};
+ghost use Rattle.ticket_steps.specs.Steps.{steps_of, StepsIn, sectionable, one_step, factor, other_loop};
 
 use model::{LOOPS, STEP_KINDS};
 use step_kinds::{Circulation, Exchange, Reversal, Section, Skew, Step};
-use ticket_refusals::{Refusal, Status};
-use ticket_words::{Bits, Natural, Number};
+use ticket_refusals::Refusal;
+use ticket_words::Words;
 
 // A step with its number, from 1.
 #[derive(Clone, Copy)]
@@ -23,115 +21,70 @@ pub struct Numbered {
     pub step: Step,
 }
 
+// The first `count` steps, in an array of the most that there are, since the library has no heap.
 #[derive(Clone, Copy)]
 pub struct Steps {
     pub count: usize,
     pub steps: [Numbered; 8],
 }
 
-#[derive(Clone, Copy)]
-pub enum StepRead {
-    Taken(Step),
-    Refused(Refusal),
-}
-
 // Each step is read after its kind: number is the step's, depth that of the nest when it is reached.
-pub fn read_exchange(s: &[u8], at: usize, number: usize, depth: usize) -> StepRead
-    requires { Reached s.now at × (depth ≤ most_loops) }
-    ensures { ReadsStep (Grammar.exchange_step number depth s.now at) s.now at depth result }
+pub fn read_exchange(words: &mut Words, number: usize, depth: usize) -> Result<Step, Refusal>
+    requires { depth ≤ most_loops }
+    ensures reads { Reads step_of (Grammar.exchange_step number depth) words.old result words.new }
+    ensures few { IfOk result (λ x. Grammar.depth_after (step_of x) depth ≤ most_loops) }
 {
-    let a = match ticket_words::read_loop_number(s, at, number, 1, depth) {
-        Natural::Value(v) => v,
-        Natural::Refused(r) => return StepRead::Refused(r),
-    };
-    match ticket_words::read_loop_number(s, at + 1, number, a + 1, inner_most(a, depth)) {
-        Natural::Value(_) => {}
-        Natural::Refused(r) => return StepRead::Refused(r),
-    }
-    match ticket_words::read_natural(s, at + 2, 0, 0) {
-        Natural::Value(_) => StepRead::Taken(Step::Exchange(Exchange { outer: a - 1 })),
-        Natural::Refused(r) => StepRead::Refused(r),
-    }
+    let a = words.loop_number(number, 1, depth)?;
+    // the next loop, or none inside the last
+    words.loop_number(number, a + 1, depth.min(a + 1))?;
+    words.natural(0, 0)?;
+    Ok(Step::Exchange(Exchange { outer: a - 1 }))
 }
 
-// The next loop, or none inside the last.
-fn inner_most(a: usize, depth: usize) -> usize
-    requires { a ≤ depth × (depth ≤ most_loops) }
-    ensures { (result ≡ next_loop a depth) × (result ≤ most_loops) }
+pub fn read_reversal(words: &mut Words, number: usize, depth: usize) -> Result<Step, Refusal>
+    requires { depth ≤ most_loops }
+    ensures reads { Reads step_of (Grammar.reversal_step number depth) words.old result words.new }
+    ensures few { IfOk result (λ x. Grammar.depth_after (step_of x) depth ≤ most_loops) }
 {
-    if a < depth { a + 1 } else { a }
-}
-
-pub fn read_reversal(s: &[u8], at: usize, number: usize, depth: usize) -> StepRead
-    requires { Reached s.now at × (depth ≤ most_loops) }
-    ensures { ReadsStep (Grammar.reversal_step number depth s.now at) s.now at depth result }
-{
-    let a = match ticket_words::read_loop_number(s, at, number, 1, depth) {
-        Natural::Value(v) => v,
-        Natural::Refused(r) => return StepRead::Refused(r),
-    };
-    match ticket_words::read_natural(s, at + 1, 0, 0) {
-        Natural::Value(_) => {}
-        Natural::Refused(r) => return StepRead::Refused(r),
-    }
-    match ticket_words::read_natural(s, at + 2, 0, 0) {
-        Natural::Value(_) => StepRead::Taken(Step::Reversal(Reversal { target: a - 1 })),
-        Natural::Refused(r) => StepRead::Refused(r),
-    }
+    let a = words.loop_number(number, 1, depth)?;
+    words.natural(0, 0)?;
+    words.natural(0, 0)?;
+    Ok(Step::Reversal(Reversal { target: a - 1 }))
 }
 
 // The greatest factor of a skew, on either side of 0.
-pub const MOST_FACTOR: u16 = 1;
+pub const MOST_FACTOR: u32 = 1;
 
-// Whether the bits of a word are those of a factor, which is not 0.
-fn is_factor(v: u16) -> bool
-    ensures { result ≡ is_factor (signed v) }
+// The factor of a skew, which is not 0.
+pub fn read_factor(words: &mut Words) -> Result<i32, Refusal>
+    ensures reads { Reads plain factor words.old result words.new }
+    ensures near { IfOk result (λ c. InRange 1 most_factor (nat_abs c)) }
 {
-    if v == 0 {
-        return false;
+    let at = words.next;
+    let c = words.number()?;
+    let size = c.unsigned_abs();
+    if size == 0 {
+        return Err(Refusal::WordOutOfRange(at));
     }
-    if v <= MOST_FACTOR {
-        return true;
+    if MOST_FACTOR < size {
+        return Err(Refusal::WordOutOfRange(at));
     }
-    65535 - MOST_FACTOR < v
+    Ok(c)
 }
 
-// The factor of a skew.
-pub fn read_factor(s: &[u8], at: usize) -> Number
-    requires { Reached s.now at }
-    ensures { ReadsFactor s.now at result }
+pub fn read_skew(words: &mut Words, number: usize, depth: usize) -> Result<Step, Refusal>
+    requires { depth ≤ most_loops }
+    ensures reads { Reads step_of (Grammar.skew_step number depth) words.old result words.new }
+    ensures few { IfOk result (λ x. Grammar.depth_after (step_of x) depth ≤ most_loops) }
 {
-    match ticket_words::bits_at(s, at) {
-        Bits::Value(v) => {
-            if is_factor(v) {
-                return Number::Value(ticket_words::signed_of(v));
-            }
-            Number::Refused(Refusal::WordOutOfRange(at))
-        }
-        Bits::Truncated => Number::Refused(Refusal::Truncated(at)),
-    }
-}
-
-pub fn read_skew(s: &[u8], at: usize, number: usize, depth: usize) -> StepRead
-    requires { Reached s.now at × (depth ≤ most_loops) }
-    ensures { ReadsStep (Grammar.skew_step number depth s.now at) s.now at depth result }
-{
-    let a = match ticket_words::read_loop_number(s, at, number, 1, depth) {
-        Natural::Value(v) => v,
-        Natural::Refused(r) => return StepRead::Refused(r),
-    };
-    let b = match ticket_words::read_loop_number(s, at + 1, number, a + 1, depth) {
-        Natural::Value(v) => v,
-        Natural::Refused(r) => return StepRead::Refused(r),
-    };
-    match read_factor(s, at + 2) {
-        Number::Value(c) => StepRead::Taken(Step::Skew(Skew {
-            outer: a - 1,
-            distance: b - a - 1,
-            factor: c,
-        })),
-        Number::Refused(r) => StepRead::Refused(r),
-    }
+    let a = words.loop_number(number, 1, depth)?;
+    let b = words.loop_number(number, a + 1, depth)?;
+    let factor = read_factor(words)?;
+    Ok(Step::Skew(Skew {
+        outer: a - 1,
+        distance: b - a - 1,
+        factor,
+    }))
 }
 
 // No loop of a nest of six can be sectioned.
@@ -142,145 +95,87 @@ fn sectioned_most(depth: usize) -> usize
     if depth < LOOPS { depth } else { 0 }
 }
 
-pub fn read_section(s: &[u8], at: usize, number: usize, depth: usize) -> StepRead
-    requires { Reached s.now at × (depth ≤ most_loops) }
-    ensures { ReadsStep (Grammar.section_step number depth s.now at) s.now at depth result }
+pub fn read_section(words: &mut Words, number: usize, depth: usize) -> Result<Step, Refusal>
+    requires { depth ≤ most_loops }
+    ensures reads { Reads step_of (Grammar.section_step number depth) words.old result words.new }
+    ensures few { IfOk result (λ x. Grammar.depth_after (step_of x) depth ≤ most_loops) }
 {
-    let a = match ticket_words::read_loop_number(s, at, number, 1, sectioned_most(depth)) {
-        Natural::Value(v) => v,
-        Natural::Refused(r) => return StepRead::Refused(r),
-    };
-    let width = match ticket_words::read_natural(s, at + 1, 2, 256) {
-        Natural::Value(v) => v,
-        Natural::Refused(r) => return StepRead::Refused(r),
-    };
-    match ticket_words::read_natural(s, at + 2, 0, 0) {
-        Natural::Value(_) => StepRead::Taken(Step::Section(Section {
-            target: a - 1,
-            width: width,
-        })),
-        Natural::Refused(r) => StepRead::Refused(r),
-    }
+    let a = words.loop_number(number, 1, sectioned_most(depth))?;
+    let width = words.natural(2, 256)?;
+    words.natural(0, 0)?;
+    Ok(Step::Section(Section {
+        target: a - 1,
+        width,
+    }))
 }
 
 // The number of a loop other than loop a.
-fn read_other_loop(s: &[u8], at: usize, number: usize, depth: usize, a: usize) -> Natural
-    requires { Reached s.now at × (depth ≤ most_loops) }
-    ensures { ReadNatural (Grammar.loop_number number (other_loop depth a) s.now at) 1 depth s.now at result × OnOther a result }
+fn read_other_loop(
+    words: &mut Words,
+    number: usize,
+    depth: usize,
+    a: usize,
+) -> Result<usize, Refusal>
+    requires { depth ≤ most_loops }
+    ensures reads { Reads plain (Grammar.loop_number number (other_loop depth a)) words.old result words.new }
+    ensures within { IfOk result (λ b. (1 ≤ b) × (b ≤ depth)) }
+    ensures other { IfOk result (λ b. b ≢ a) }
 {
-    match ticket_words::read_loop_number(s, at, number, 1, depth) {
-        Natural::Value(v) => {
-            if v == a {
-                return Natural::Refused(Refusal::LoopOutOfNest(number));
-            }
-            Natural::Value(v)
-        }
-        Natural::Refused(r) => Natural::Refused(r),
+    let b = words.loop_number(number, 1, depth)?;
+    if b == a {
+        return Err(Refusal::LoopOutOfNest(number));
     }
+    Ok(b)
 }
 
-pub fn read_circulation(s: &[u8], at: usize, number: usize, depth: usize) -> StepRead
-    requires { Reached s.now at × (depth ≤ most_loops) }
-    ensures { ReadsStep (Grammar.circulation_step number depth s.now at) s.now at depth result }
+pub fn read_circulation(words: &mut Words, number: usize, depth: usize) -> Result<Step, Refusal>
+    requires { depth ≤ most_loops }
+    ensures reads { Reads step_of (Grammar.circulation_step number depth) words.old result words.new }
+    ensures few { IfOk result (λ x. Grammar.depth_after (step_of x) depth ≤ most_loops) }
 {
-    let a = match ticket_words::read_loop_number(s, at, number, 1, depth) {
-        Natural::Value(v) => v,
-        Natural::Refused(r) => return StepRead::Refused(r),
-    };
-    let b = match read_other_loop(s, at + 1, number, depth, a) {
-        Natural::Value(v) => v,
-        Natural::Refused(r) => return StepRead::Refused(r),
-    };
-    match ticket_words::read_natural(s, at + 2, 0, 0) {
-        Natural::Value(_) => StepRead::Taken(Step::Circulation(Circulation {
-            from: a - 1,
-            to: b - 1,
-        })),
-        Natural::Refused(r) => StepRead::Refused(r),
-    }
+    let a = words.loop_number(number, 1, depth)?;
+    let b = read_other_loop(words, number, depth, a)?;
+    words.natural(0, 0)?;
+    Ok(Step::Circulation(Circulation {
+        from: a - 1,
+        to: b - 1,
+    }))
 }
 
-pub fn read_step(s: &[u8], at: usize, number: usize, depth: usize) -> StepRead
-    requires { Reached s.now at × (depth ≤ most_loops) }
-    ensures { ReadsStep (one_step number depth s.now at) s.now (at + 1) depth result }
+pub fn read_step(words: &mut Words, number: usize, depth: usize) -> Result<Step, Refusal>
+    requires { depth ≤ most_loops }
+    ensures reads { Reads step_of (one_step number depth) words.old result words.new }
+    ensures few { IfOk result (λ x. Grammar.depth_after (step_of x) depth ≤ most_loops) }
 {
-    let kind = match ticket_words::read_natural(s, at, 1, STEP_KINDS) {
-        Natural::Value(v) => v,
-        Natural::Refused(r) => return StepRead::Refused(r),
-    };
+    let kind = words.natural(1, STEP_KINDS)?;
     match kind {
-        1 => read_exchange(s, at + 1, number, depth),
-        2 => read_reversal(s, at + 1, number, depth),
-        3 => read_skew(s, at + 1, number, depth),
-        4 => read_section(s, at + 1, number, depth),
-        _ => read_circulation(s, at + 1, number, depth),
-    }
-}
-
-#[derive(Clone, Copy)]
-pub struct StepsRead {
-    pub status: Status,
-    pub steps: Steps,
-    pub next: usize,
-}
-
-fn blank_steps() -> [Numbered; 8]
-    ensures { length result ≡ 8 }
-{
-    let blank = Numbered {
-        number: 0,
-        step: Step::Reversal(Reversal { target: 0 }),
-    };
-    [blank; 8]
-}
-
-fn no_steps(r: Refusal, at: usize) -> StepsRead
-    ensures { (result.status ≡ Refused r) × (result.next ≡ at) × StepsIn result.steps }
-{
-    let blank = blank_steps();
-    StepsRead {
-        status: Status::Refused(r),
-        steps: Steps {
-            count: 0,
-            steps: blank,
-        },
-        next: at,
+        1 => read_exchange(words, number, depth),
+        2 => read_reversal(words, number, depth),
+        3 => read_skew(words, number, depth),
+        4 => read_section(words, number, depth),
+        _ => read_circulation(words, number, depth),
     }
 }
 
 // The section: a count from 0 to 8 and as many steps of a nest that has `depth` loops.
-pub fn read_steps(s: &[u8], at: usize, depth: usize) -> StepsRead
-    requires { Reached s.now at × (depth ≤ most_loops) }
-    ensures { ReadsSteps s.now at depth result }
+pub fn read_steps(words: &mut Words, depth: usize) -> Result<Steps, Refusal>
+    requires { depth ≤ most_loops }
+    ensures reads { Reads steps_of (Grammar.steps depth) words.old result words.new }
+    ensures within { IfOk result StepsIn }
 {
-    let count = match ticket_words::read_count(s, at, 0, 8) {
-        Natural::Value(v) => v,
-        Natural::Refused(r) => return no_steps(r, at),
-    };
-    let mut all = blank_steps();
-    let mut next = at + 1;
+    let count = words.count(0, 8)?;
+    let mut steps = [Numbered {
+        number: 0,
+        step: Step::Reversal(Reversal { target: 0 }),
+    }; 8];
     let mut loops = depth;
-    let mut k = 0;
-    while k < count {
-        match read_step(s, next, k + 1, loops) {
-            StepRead::Taken(step) => {
-                loops = step_kinds::depth_after(step, loops);
-                all[k] = Numbered {
-                    number: k + 1,
-                    step: step,
-                };
-                next += 4;
-                k += 1;
-            }
-            StepRead::Refused(r) => return no_steps(r, at),
-        }
+    for k in 0..count {
+        let step = read_step(words, k + 1, loops)?;
+        loops = step_kinds::depth_after(step, loops);
+        steps[k] = Numbered {
+            number: k + 1,
+            step,
+        };
     }
-    StepsRead {
-        status: Status::Fine,
-        steps: Steps {
-            count: count,
-            steps: all,
-        },
-        next: next,
-    }
+    Ok(Steps { count, steps })
 }

@@ -12,31 +12,18 @@ use Rattle.lists.proofs.MembershipLaws.{all_nil, all_cons, all_append}
 use Rattle.model.specs.Answer as Answer
 use Rattle.model.specs.Answer.{Answer, accepted, refused}
 use Rattle.model.specs.Grammar.{Read, Reader, ◌>>=◌, done, times}
-use Rattle.ticket_refusals.specs.Refusals.{refusal, first_of}
-use Rattle.ticket_words.specs.Reads.{answer, Reached, Reads}
+use Rattle.std.specs.Prelude.{Result, Ok, Err}
+use Rattle.ticket_refusals.specs.Refusals.{refusal}
 use Rattle.ticket_refusals.specs.declared.Refusal.{Refusal}
-use Rattle.ticket_refusals.specs.declared.Status.{Status}
+use Rattle.ticket_words.specs.declared.Words.{Words}
+use Rattle.ticket_words.specs.Reads.{answer, Reads}
 
--- a code's answer g that is x stands for what x stands for
-pub seen : {G : Type 0} {A : Type 0} (out : G → Answer A) {g x : G} {m : Answer A} → g ≡ x → out g ≡ m → m ≡ out x
-seen out e h = sym h ∙ ap out e
+module _ {T A : Type 0} {view : T → A} {m : Reader A} {o e : Words} where
+  pub read-value : {v : T} → Reads view m o (Ok v) e → m o.bytes.now o.next ≡ accepted (record { value = view v; next = e.next })
+  read-value h = sym h.same
 
--- and what is known of it is known of x
-pub known_of : {G : Type 0} (P : G → Type 0) {g x : G} → g ≡ x → P g → P x
-known_of P e h = subst P e h
-
--- a value with a status beside it
-module _ {A : Type 0} {m : Answer (Read A)} {b : List ℕ} {status : Status} {value : A} {next : ℕ} where
-  pub read-value : status ≡ Status.Fine → Reads m b status value next → m ≡ accepted (record { value = value; next = next })
-  read-value e h = seen (λ t. answer t value next) e h.same
-
-  pub read-refusal : {r : Refusal} → status ≡ Status.Refused r → Reads m b status value next → m ≡ refusal r
-  read-refusal e h = seen (λ t. answer t value next) e h.same
-
--- a refusal with any value
-pub refused-here : {A : Type 0} {m : Answer (Read A)} {b : List ℕ} {status : Status} (value : A) {next at : ℕ} {r : Refusal}
-    → status ≡ Status.Refused r → next ≡ at → m ≡ refusal r → Reached b at → Reads m b status value next
-refused-here value {next} e p h q = record { same = ap (λ t. answer t value next) e ∙ sym h; reached = subst (Reached _) (sym p) q }
+  pub read-refusal : {r : Refusal} → Reads view m o (Err r) e → m o.bytes.now o.next ≡ refusal r
+  read-refusal h = sym h.same
 
 -- ---- one after another
 
@@ -48,6 +35,24 @@ module _ {A B : Type 0} (m : Reader A) (f : A → Reader B) (b : List ℕ) (k : 
   pub after-refusal : (n p : ℕ) → m b k ≡ refused n p → (m >>= f) b k ≡ refused n p
   unfolding ◌>>=◌ Answer.◌>>=◌
   after-refusal n p e = rw e
+
+module _ {T A S B : Type 0} {view : T → A} {shown : S → B} {m : Reader A} (f : A → Reader B) {o e : Words} where
+  -- the first is refused
+  pub refused-first : {r : Refusal} → Reads view m o (Err r) e → Reads shown (m >>= f) o (Err r) e
+  refused-first h = record { same = sym (after-refusal m f _ _ _ _ (read-refusal h)); bytes = h.bytes }
+
+  -- the first is read, and the second decides
+  pub read-then : {i : Words} {v : T} {r : Result S Refusal} → Reads view m o (Ok v) i → Reads shown (f (view v)) i r e
+      → Reads shown (m >>= f) o r e
+  read-then {i} {v} {r} h g = record {
+    same = subst (λ b. answer shown r e.next ≡ f (view v) b i.next) h.bytes g.same ∙ sym (after-value m f _ _ _ _ (read-value h));
+    bytes = g.bytes ∙ h.bytes;
+  }
+
+-- no more is read
+pub read-done : {S B : Type 0} {shown : S → B} {b : B} {s : S} (o : Words) → shown s ≡ b → Reads shown (done b) o (Ok s) o
+unfolding done
+read-done o p = record { same = ap (λ v. accepted (record { value = v; next = o.next })) p; bytes = refl }
 
 module _ {A B C : Type 0} (m : Reader A) (f : A → Reader B) (g : B → Reader C) (b : List ℕ) where
   goes_on : (a : Answer (Read A)) → Answer.◌>>=◌ (Answer.◌>>=◌ a (λ r. f r.value b r.next)) (λ r. g r.value b r.next)
@@ -63,14 +68,6 @@ module _ {A B C : Type 0} (m : Reader A) (f : A → Reader B) (g : B → Reader 
 
 -- two readers and a value made of theirs
 module _ {A B C : Type 0} (m : Reader A) (f : A → Reader B) (h : A → B → C) (b : List ℕ) where
-  -- where both are read, the first refusal decides
-  pub both_read : (k : ℕ) (s t : Status) (a : A) (c : B) (j i : ℕ) → answer s a j ≡ m b k → answer t c i ≡ f a b j
-      → answer (first_of s t) (h a c) i ≡ (m >>= (λ x. f x >>= (λ y. done (h x y)))) b k
-  unfolding done
-  both_read k (Status.Refused r) t a c j i p q = sym (after-refusal m _ b k _ _ (sym p))
-  both_read k Status.Fine (Status.Refused r) a c j i p q = sym (after-value m _ b k a j (sym p) ∙ after-refusal (f a) _ b j _ _ (sym q))
-  both_read k Status.Fine Status.Fine a c j i p q = sym (after-value m _ b k a j (sym p) ∙ after-value (f a) _ b j c i (sym q))
-
   made_of : {D : Type 0} (g : C → D) (a : A) (x : Answer (Read B))
       → Answer.◌>>=◌ (Answer.◌>>=◌ x (λ r. done (h a r.value) b r.next)) (λ r. done (g r.value) b r.next) ≡ Answer.◌>>=◌ x
       (λ r. done (g (h a r.value)) b r.next)
@@ -157,34 +154,72 @@ module _ {A : Type 0} (r : Reader A) (b : List ℕ) (n i k : ℕ) (vs : List A) 
 pub times-start : {A : Type 0} (r : Reader A) (b : List ℕ) (n k : ℕ) → times n r b k ≡ before [] (times (n - 0) r b k)
 times-start r b n k = rw (sub-zero n) (sym (before-none _))
 
+-- ---- a reader under way
+
+-- on the words o, m goes on from the words e as `rest` does, behind the values vs
+pub record Underway {A : Type 0} (m : Reader (List A)) (o : Words) (vs : List A) (rest : Reader (List A)) (e : Words) : Type 0 where
+  pub bytes : e.bytes.now ≡ o.bytes.now
+  pub so : m o.bytes.now o.next ≡ before vs (rest e.bytes.now e.next)
+
+-- a reader repeated, with a state
+module _ {S A : Type 0} (r : S → Reader A) (to : S → A → S) (n : ℕ) where
+  pub repeat-begin : (s : S) (o : Words) → Underway (repeated r to n s) o [] (repeated r to (n - 0) s) o
+  repeat-begin s o = record { bytes = refl; so = repeated-start r to o.bytes.now n o.next s }
+
+  module _ (i : ℕ) (s : S) {m : Reader (List A)} {o e : Words} {vs : List A} (u : Underway m o vs (repeated r to (n - i) s) e) where
+    pub repeat-more : {T : Type 0} {view : T → A} {e' : Words} {ws : List A} {a : T} → i < n → Reads view (r s) e (Ok a) e'
+        → vs ++ (view a ∷ []) ≡ ws → Underway m o ws (repeated r to (n - (i + 1)) (to s (view a))) e'
+    repeat-more {view} {e'} {ws} {a} h g p = record {
+      bytes = g.bytes ∙ u.bytes;
+      so = u.so ∙ repeated-more r to e.bytes.now n i e.next s vs (view a) e'.next h (read-value g)
+          ∙ ap (λ b. before (vs ++ (view a ∷ [])) (repeated r to (n - (i + 1)) (to s (view a)) b e'.next)) (sym g.bytes)
+          ∙ ap (λ v. before v (repeated r to (n - (i + 1)) (to s (view a)) e'.bytes.now e'.next)) p;
+    }
+
+    pub repeat-no : {T L : Type 0} {view : T → A} {shown : L → List A} {e' : Words} {x : Refusal} → i < n → Reads view (r s) e (Err x) e'
+        → Reads shown m o (Err x) e'
+    repeat-no h g = record { same = sym (u.so ∙ repeated-no r to e.bytes.now n i e.next s vs _ _ h (read-refusal g)); bytes = g.bytes ∙ u.bytes }
+
+    pub repeat-end : {L : Type 0} {shown : L → List A} {l : L} → n ≤ i → vs ≡ shown l → Reads shown m o (Ok l) e
+    repeat-end h p = record {
+      same = sym (u.so ∙ repeated-done r to e.bytes.now n i e.next s vs h ∙ ap (λ v. accepted (record { value = v; next = e.next })) p);
+      bytes = u.bytes;
+    }
+
+-- the same reader each time
+module _ {A : Type 0} (r : Reader A) (n : ℕ) where
+  pub times-begin : (o : Words) → Underway (times n r) o [] (times (n - 0) r) o
+  times-begin o = record { bytes = refl; so = times-start r o.bytes.now n o.next }
+
+  module _ (i : ℕ) {m : Reader (List A)} {o e : Words} {vs : List A} (u : Underway m o vs (times (n - i) r) e) where
+    pub times-next : {T : Type 0} {view : T → A} {e' : Words} {ws : List A} {a : T} → i < n → Reads view r e (Ok a) e'
+        → vs ++ (view a ∷ []) ≡ ws → Underway m o ws (times (n - (i + 1)) r) e'
+    times-next {view} {e'} {ws} {a} h g p = record {
+      bytes = g.bytes ∙ u.bytes;
+      so = u.so ∙ times_more r e.bytes.now n i e.next vs (view a) e'.next h (read-value g)
+          ∙ ap (λ b. before (vs ++ (view a ∷ [])) (times (n - (i + 1)) r b e'.next)) (sym g.bytes)
+          ∙ ap (λ v. before v (times (n - (i + 1)) r e'.bytes.now e'.next)) p;
+    }
+
+    pub times-stop : {T L : Type 0} {view : T → A} {shown : L → List A} {e' : Words} {x : Refusal} → i < n → Reads view r e (Err x) e'
+        → Reads shown m o (Err x) e'
+    times-stop h g = record { same = sym (u.so ∙ times-no r e.bytes.now n i e.next vs _ _ h (read-refusal g)); bytes = g.bytes ∙ u.bytes }
+
+    pub times-end : {L : Type 0} {shown : L → List A} {l : L} → n ≤ i → vs ≡ shown l → Reads shown m o (Ok l) e
+    times-end h p = record {
+      same = sym (u.so ∙ times-done r e.bytes.now n i e.next vs h ∙ ap (λ v. accepted (record { value = v; next = e.next })) p);
+      bytes = u.bytes;
+    }
+
 -- ---- an array that is filled from the front, one value a turn
 
 module _ {A B : Type 0} (f : A → B) (l : List A) (i : ℕ) where
   pub filled_more : (a : A) (y : B) → y ≡ f a → i < length l → map f (take i l) ++ (y ∷ []) ≡ map f (take (i + 1) (set l i a))
   filled_more a y e h = rw (e, add-one, take-suc-set l i a h, map-append)
 
-  module _ (r : Reader B) (b : List ℕ) (n k : ℕ) where
-    pub fill_more : (a : A) (y : B) (j : ℕ) → i < n → i < length l → y ≡ f a → r b k ≡ accepted (record { value = y; next = j })
-        → before (map f (take i l)) (times (n - i) r b k) ≡ before (map f (take (i + 1) (set l i a))) (times (n - (i + 1)) r b j)
-    fill_more a y j h p q e = times_more r b n i k (map f (take i l)) y j h e ∙ ap (λ vs. before vs (times (n - (i + 1)) r b j)) (filled_more a y q p)
-
-    pub fill_done : i ≤ n → n ≤ i → before (map f (take i l)) (times (n - i) r b k) ≡ accepted (record { value = map f (take n l); next = k })
-    fill_done p q =
-        let z : i ≡ n = omega arith in
-        times-done r b n i k (map f (take i l)) q ∙ ap (λ m. accepted (record { value = map f (take m l); next = k })) z
-
 -- the values themselves
-module _ {A : Type 0} (l : List A) (i : ℕ) (r : Reader A) (b : List ℕ) (n k : ℕ) where
-  pub row_more : (a y : A) (j : ℕ) → i < n → i < length l → y ≡ a → r b k ≡ accepted (record { value = y; next = j })
-      → before (take i l) (times (n - i) r b k) ≡ before (take (i + 1) (set l i a)) (times (n - (i + 1)) r b j)
-  row_more a y j h p q e =
-      let s : take i l ++ (y ∷ []) ≡ take (i + 1) (set l i a) = rw (q, add-one, take-suc-set l i a p) in
-      times_more r b n i k (take i l) y j h e ∙ ap (λ vs. before vs (times (n - (i + 1)) r b j)) s
-
-  pub row_done : i ≤ n → n ≤ i → before (take i l) (times (n - i) r b k) ≡ accepted (record { value = take n l; next = k })
-  row_done p q =
-      let z : i ≡ n = omega arith in
-      times-done r b n i k (take i l) q ∙ ap (λ m. accepted (record { value = take m l; next = k })) z
+pub taken_more : {A : Type 0} (l : List A) (i : ℕ) (a y : A) → i < length l → a ≡ y → take i l ++ (a ∷ []) ≡ take (i + 1) (set l i y)
+taken_more l i a y h p = rw (p, add-one, take-suc-set l i y h)
 
 -- what holds of every element so far, and of the next
 pub all_more : {A : Type 0} (P : A → Type 0) (l : List A) (i : ℕ) (a : A) → i < length l → P a → All P (take i l) → All P (take (i + 1) (set l i a))

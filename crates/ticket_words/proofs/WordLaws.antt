@@ -16,10 +16,10 @@ use Rattle.model.specs.Answer.{Answer, accepted, refused, require}
 use Rattle.model.specs.Words.{signed, first_word, word_at}
 use Rattle.model.specs.Grammar.{Read, ◌>>=◌, ◌>>◌, done, word, must, must_at, between, count, within, natural, number, loop_number}
 use Rattle.ticket_refusals.specs.Refusals.{refusal}
-use Rattle.ticket_words.specs.Reads.{Reached}
-use Rattle.ticket_words.specs.Words.{Ranged, ReadNatural}
+use Rattle.ticket_words.specs.Reads.{answer, plain}
+use Rattle.ticket_words.specs.Ranges.{Ranged}
 use Rattle.ticket_refusals.specs.declared.Refusal.{Refusal}
-use Rattle.ticket_words.specs.declared.Natural.{Natural}
+use Rattle.std.specs.Prelude.{Result, Ok, Err}
 
 -- ---- a word is there, or truncated
 
@@ -139,34 +139,30 @@ module _ (b : List ℕ) (k : ℕ) (w : ℤ) (e : word_at b k ≡ accepted w) whe
   unfolding loop_number number ◌>>=◌ Answer.◌>>=◌
   loop-bad step ok t = rw (within-no (negsuc 32766) (pos 32767) t)
 
--- a reader that begins with a truncated word
-module _ (b : List ℕ) (k : ℕ) (e : word_at b k ≡ refused 1 k) where
-  pub count-truncated : (lo hi : ℕ) → count lo hi b k ≡ refused 1 k
+-- a reader that begins with a word that is refused
+module _ (b : List ℕ) (k n p : ℕ) (e : word_at b k ≡ refused n p) where
+  pub count-refused : (lo hi : ℕ) → count lo hi b k ≡ refused n p
   unfolding count ◌>>=◌ word Answer.◌>>=◌
-  count-truncated lo hi = rw e
+  count-refused lo hi = rw e
 
-  pub within-truncated : (lo hi : ℤ) → within lo hi b k ≡ refused 1 k
+  pub within-refused : (lo hi : ℤ) → within lo hi b k ≡ refused n p
   unfolding within ◌>>=◌ word Answer.◌>>=◌
-  within-truncated lo hi = rw e
+  within-refused lo hi = rw e
 
-  pub natural-truncated : (lo hi : ℕ) → natural lo hi b k ≡ refused 1 k
+  pub natural-refused : (lo hi : ℕ) → natural lo hi b k ≡ refused n p
   unfolding natural ◌>>=◌ Answer.◌>>=◌
-  natural-truncated lo hi = rw (within-truncated (pos lo) (pos hi))
+  natural-refused lo hi = rw (within-refused (pos lo) (pos hi))
 
-  pub loop-truncated : (step : ℕ) (ok : ℤ → Bool) → loop_number step ok b k ≡ refused 1 k
+  pub loop-refused : (step : ℕ) (ok : ℤ → Bool) → loop_number step ok b k ≡ refused n p
   unfolding loop_number number ◌>>=◌ Answer.◌>>=◌
-  loop-truncated step ok = rw (within-truncated (negsuc 32766) (pos 32767))
+  loop-refused step ok = rw (within-refused (negsuc 32766) (pos 32767))
 
 -- ---- a number by the bits of its word
 
-module _ (v : ℕ) (outside : Refusal) {m : Answer (Read ℕ)} {b : List ℕ} {k lo hi : ℕ} where
-  -- m answers what `in_range` does
-  pub ranged-read : ((n : ℕ) → nat_abs (signed v) ≡ n → between (pos lo) (pos hi) (signed v) ≡ true
-      → m ≡ accepted (record { value = n; next = k + 1 }))
-      → (between (pos lo) (pos hi) (signed v) ≡ false → m ≡ refusal outside)
-      → Reached b (k + 1) → (r : Natural) → Ranged v lo hi outside r → ReadNatural m lo hi b k r
-  ranged-read inside beyond h (Natural.Value n) t = record {
-    same = sym (inside n (sym t.0) t.3);
-    known = record { low = t.1; high = t.2; reached = h };
-  }
-  ranged-read inside beyond h (Natural.Refused r) t = record { same = ap refusal t.0 ∙ sym (beyond t.1); known = tt }
+-- m answers what `in_range` does
+pub ranged-read : (v : ℕ) (outside : Refusal) (lo hi : ℕ) {m : Answer (Read ℕ)} {k : ℕ}
+    → ((n : ℕ) → nat_abs (signed v) ≡ n → between (pos lo) (pos hi) (signed v) ≡ true → m ≡ accepted (record { value = n; next = k }))
+    → (between (pos lo) (pos hi) (signed v) ≡ false → m ≡ refusal outside)
+    → (r : Result ℕ Refusal) → Ranged v lo hi outside r → answer plain r k ≡ m
+ranged-read v outside lo hi inside beyond (Ok n) t = sym (inside n (sym t.0) t.3)
+ranged-read v outside lo hi inside beyond (Err r) t = ap refusal t.0 ∙ sym (beyond t.1)

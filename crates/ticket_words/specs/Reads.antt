@@ -1,21 +1,35 @@
--- What a reader answers, and the words that it may ask for.
-use Rattle.std.specs.Prelude.{◌≡◌, List, ℕ, ◌-◌, ◌*◌, ◌<◌, ◌≤◌, length}
+-- What a reader answers.
+use Rattle.std.specs.Prelude.{◌≡◌, ℕ, ◌+◌, ℤ, Result, Ok, Err, IfOk}
 use Rattle.model.specs.Answer.{Answer, accepted}
-use Rattle.model.specs.Grammar.{Read}
-use Rattle.ticket_refusals.specs.declared.Status.{Status}
+use Rattle.model.specs.Words.{signed, word_at}
+use Rattle.model.specs.Grammar.{Read, Reader}
 use Rattle.ticket_refusals.specs.Refusals.{refusal}
+use Rattle.ticket_refusals.specs.declared.Refusal.{Refusal}
+use Rattle.ticket_words.specs.declared.Words.{Words}
 
--- a value with the word after it, unless a refusal stands beside them
-abbrev pub answer : {A : Type 0} → Status → A → ℕ → Answer (Read A)
-answer Status.Fine a k = accepted (record { value = a; next = k })
-answer (Status.Refused r) a k = refusal r
+-- ---- a word as its bits
 
--- the words before word k are there
-pub record Reached (b : List ℕ) (k : ℕ) : Type 0 where
-  pub counted : 0 < k
-  pub there : (k - 1) * 2 ≤ length b
+abbrev pub bits_answer : Result ℕ Refusal → Answer ℤ
+bits_answer (Ok v) = accepted (signed v)
+bits_answer (Err r) = refusal r
 
--- m is the model's answer, and the next word to ask for is within reach
-pub record Reads {A : Type 0} (m : Answer (Read A)) (b : List ℕ) (status : Status) (value : A) (next : ℕ) : Type 0 where
-  pub same : answer status value next ≡ m
-  pub reached : Reached b next
+-- the next of the words o answers r, and leaves the words e
+pub record ReadsBits (o : Words) (r : Result ℕ Refusal) (e : Words) : Type 0 where
+  pub same : bits_answer r ≡ word_at o.bytes.now o.next
+  pub next : IfOk r (λ v. e.next ≡ o.next + 1)
+  pub bytes : e.bytes.now ≡ o.bytes.now
+
+-- ---- any value
+
+abbrev pub plain : {A : Type 0} → A → A
+plain a = a
+
+-- a value, seen by `view`, with the number of the word after it; or the refusal
+abbrev pub answer : {T A : Type 0} → (T → A) → Result T Refusal → ℕ → Answer (Read A)
+answer view (Ok v) k = accepted (record { value = view v; next = k })
+answer view (Err r) k = refusal r
+
+-- the model's reader m on the words o answers r, and leaves the words e
+pub record Reads {T A : Type 0} (view : T → A) (m : Reader A) (o : Words) (r : Result T Refusal) (e : Words) : Type 0 where
+  pub same : answer view r e.next ≡ m o.bytes.now o.next
+  pub bytes : e.bytes.now ≡ o.bytes.now

@@ -3,9 +3,8 @@ use Prim.Native.Nat.{◌+◌, ◌*◌, ◌-◌, ◌/◌, ◌≤◌, ◌<◌}
 use native.Mathlib.Omega.{arith}
 use lib.ListN.{length}
 use Rattle.dependence_vectors.proofs.NumberLaws.{stride-positive}
-use Rattle.dependence_banerjee.proofs.CoverLaws.{covered_none, one-marked, one-impossible, mark-there, region-in, all-covered}
+use Rattle.dependence_banerjee.proofs.CoverLaws.{covered_none, mark-there, region-in, all-covered}
 use Rattle.dependence_banerjee.proofs.covers_vectors.Goals as goal
-use Rattle.dependence_banerjee.proofs.covers_vectors.Goals.{then-not-marks-base+else-not-impossible, else-not-marks-base}
 
 pub stride-step-requires : goal.stride-step-requires
 stride-step-requires c = c.requires.ranges.few
@@ -75,30 +74,6 @@ impossible-requires c = let a = c.args in region-in a.words.now a.a
 
 pub returns-then-not-impossible : goal.returns-then-not-impossible
 returns-then-not-impossible c = λ e. absurd (false≢true e)
-
-pub overflow_add-u : goal.overflow_add-u
-overflow_add-u c =
-    let there : (let a = c.args
-    in let t = c.stride-step.result in
-    (a.base + c.loop-u.u * t + (t - 1) / 2 < length a.marks.now) × (c.loop-u.u ≤ 364)) = let a = c.args in
-    mark-there a.words.now a.a a.b a.d a.n a.ranges a.own a.base a.marks.now c.requires
-    c.stride-step.result c.loop-u.u c.candidates-end.result
-    c.stride-step.ensures.0 c.candidates-end.ensures c.loop-u-test.true in
-    let i = there in omega arith
-
-pub loop-u-smaller : goal.loop-u-smaller
-loop-u-smaller c = let h = c.loop-u-test.true in omega arith
-
-pub loop-u-preserved : goal.loop-u-preserved
-loop-u-preserved c = let a = c.args in let l = c.loop-u in let h = c.loop-u-test.true in (
-  omega arith,
-  elim c.if-not-marks-base.branch [
-    | then-not-marks-base+else-not-impossible w ↦ one-impossible a.words.now a.a a.b a.d a.n a.ranges a.base a.marks.now
-        c.stride-step.result l.u l.invariant.1 (w.impossible.ensures w.if-not-impossible.false)
-    | else-not-marks-base w ↦ one-marked a.words.now a.a a.b a.d a.n a.ranges a.base a.marks.now
-        c.stride-step.result l.u l.invariant.1 w.if-not-marks-base.false
-  ],
-)
 
 pub returns : goal.returns
 returns c = let a = c.args in let l = c.loop-u in let f = c.candidates-end.ensures in let h = c.loop-u-test.false in

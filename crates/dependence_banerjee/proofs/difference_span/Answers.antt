@@ -1,3 +1,6 @@
+-- `difference_span`: one loop's terms more.
+use mathlib.Core.Path.{◌≡◌}
+use Prim.Native.Nat.{◌+◌, ◌-◌}
 use native.Mathlib.Omega.{arith}
 use Rattle.dependence_banerjee.proofs.ExtentLaws.{inward-none, term_in, pair-in, inward-next, inward-all}
 use Rattle.dependence_banerjee.proofs.difference_span.Goals as goal
@@ -9,36 +12,19 @@ pub loop-k-init : goal.loop-k-init
 loop-k-init c = let a = c.args in inward-none a.words.now a.i a.j a.m a.n a.ranges c.requires a.u
     c.constant-r.result c.constant-r.ensures
 
-pub overflow_sub-k : goal.overflow_sub-k
-overflow_sub-k c = let h = c.loop-k-test.true in omega arith
-
-pub offset_bounds-ranges-k : goal.offset_bounds-ranges-k
-offset_bounds-ranges-k c = let f = c.requires.ranges.few in let h = c.loop-k-test.true in let g = c.loop-k.invariant.few
-    in omega arith
-
-pub bounds-ranges-k : goal.bounds-ranges-k
-bounds-ranges-k c = let f = c.requires.ranges.few in let x = c.requires.ranges.six
-    in let h = c.loop-k-test.true in let g = c.loop-k.invariant.few in omega arith
-
 pub term-requires : goal.term-requires
-term-requires c = let a = c.args in let l = c.loop-k in term_in a.words.now
-    a.i a.j a.m a.n a.ranges c.requires a.u l.k l.v l.r l.invariant c.loop-k-test.true
+term-requires c = let a = c.args in let l = c.loop-k in let e : l.k - 1 + 1 ≡ l.k = omega arith in rw e (term_in a.words.now
+    a.i a.j a.m a.n a.ranges c.requires a.u l.k l.v l.r l.invariant (omega arith))
 
 pub sum-r-requires : goal.sum-r-requires
-sum-r-requires c = let a = c.args in let l = c.loop-k in pair-in
-    a.words.now a.i a.j a.m a.n a.ranges c.requires a.u l.k l.v l.r l.invariant c.loop-k-test.true
-    c.term.result c.term.ensures
-
-pub overflow_sub-k-in-loop-k : goal.overflow_sub-k-in-loop-k
-overflow_sub-k-in-loop-k c = let h = c.loop-k-test.true in omega arith
-
-pub loop-k-smaller : goal.loop-k-smaller
-loop-k-smaller c = let h = c.loop-k-test.true in omega arith
+sum-r-requires c = let a = c.args in let l = c.loop-k in let e : l.k - 1 + 1 ≡ l.k = omega arith in pair-in
+    a.words.now a.i a.j a.m a.n a.ranges c.requires a.u l.k l.v l.r l.invariant (omega arith)
+    c.term.result (rw e at c.term.ensures)
 
 pub loop-k-preserved : goal.loop-k-preserved
-loop-k-preserved c = let a = c.args in let l = c.loop-k in inward-next a.words.now a.i a.j a.m a.n a.ranges c.requires a.u l.k l.v l.r l.invariant
-    c.loop-k-test.true c.term.result c.term.ensures c.sum-r.result c.sum-r.ensures
+loop-k-preserved c = let a = c.args in let l = c.loop-k in let e : l.k - 1 + 1 ≡ l.k = omega arith in inward-next a.words.now a.i a.j a.m a.n a.ranges
+    c.requires a.u l.k l.v l.r l.invariant (omega arith) c.term.result (rw e at c.term.ensures) c.sum-r.result c.sum-r.ensures
 
 pub returns : goal.returns
-returns c = let a = c.args in let l = c.loop-k in let h = c.loop-k-test.false in inward-all
+returns c = let a = c.args in let l = c.loop-k in inward-all
     a.words.now a.i a.j a.m a.n a.ranges c.requires a.u l.k l.v l.r l.invariant (omega arith)

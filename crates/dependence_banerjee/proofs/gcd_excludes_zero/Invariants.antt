@@ -4,6 +4,3 @@ use Rattle.dependence_banerjee.proofs.gcd_excludes_zero.Given as goal
 
 abbrev pub invariant-loop-k : goal.invariant-loop-k
 invariant-loop-k l = Inward l.words l.i l.j 1 l.n l.ranges l.u l.k l.v l.r
-
-abbrev pub decreases-loop-k : goal.decreases-loop-k
-decreases-loop-k l = l.k

@@ -26,13 +26,6 @@ returns-then-span_excludes_zero c = let a = c.args in λ _. dimension-excluded a
     a.d a.n a.ranges c.requires a.u c.loop-t.t c.loop-t-test.true
     (c.span_excludes_zero.ensures c.if-span_excludes_zero.true)
 
-pub overflow_add-t : goal.overflow_add-t
-overflow_add-t c = let f = c.requires.sums.source.few in let h = c.loop-t-test.true in omega
-    arith
-
-pub loop-t-smaller : goal.loop-t-smaller
-loop-t-smaller c = let h = c.loop-t-test.true in omega arith
-
 pub loop-t-preserved : goal.loop-t-preserved
 loop-t-preserved c = let h = c.loop-t-test.true in omega arith
 

@@ -2,7 +2,8 @@ use mathlib.Core.Path.{◌≡◌}
 use Prim.Native.Nat.{ℕ}
 use native.Mathlib.Omega.{arith}
 use lib.ListN.{length}
-use Rattle.dependence_bounds.specs.Covered.{pairs, CoveredFrom}
+use Rattle.dependence_bounds.specs.AccessPairs.{pairs_in}
+use Rattle.dependence_bounds.specs.Covered.{CoveredFrom}
 use Rattle.dependence_bounds.proofs.PairLaws.{none_yet, one_more, all_done}
 use Rattle.dependence_bounds.proofs.pairs_covered.Goals as goal
 
@@ -10,8 +11,7 @@ pub loop-a-init : goal.loop-a-init
 loop-a-init c = (
   omega arith,
   none_yet
-      (λ i. CoveredFrom (pairs c.args.words.now c.args.accessed.now c.args.arrays.now c.args.depth c.args.ranges
-      c.args.statements.now c.args.writes.now c.args.body) c.args.marks.now i (length c.args.accessed.now)),
+      (λ i. CoveredFrom (pairs_in c.args.lent.now) c.args.marks.now i (length c.args.lent.now.accessed.now)),
 )
 
 pub source_covered-requires : goal.source_covered-requires
@@ -24,13 +24,11 @@ pub loop-a-preserved : goal.loop-a-preserved
 loop-a-preserved c = let l = c.loop-a in let m = c.source_covered in (
   omega arith,
   one_more (λ i. CoveredFrom
-      (pairs c.args.words.now c.args.accessed.now c.args.arrays.now c.args.depth c.args.ranges c.args.statements.now
-      c.args.writes.now c.args.body) c.args.marks.now i (length c.args.accessed.now)) l.a l.invariant.1
+      (pairs_in c.args.lent.now) c.args.marks.now i (length c.args.lent.now.accessed.now)) l.a l.invariant.1
       (m.ensures c.if-not-source_covered.false),
 )
 
 pub returns : goal.returns
 returns c = let l = c.loop-a in λ _. all_done
-    (λ i. CoveredFrom (pairs c.args.words.now c.args.accessed.now c.args.arrays.now c.args.depth c.args.ranges
-    c.args.statements.now c.args.writes.now c.args.body) c.args.marks.now i (length c.args.accessed.now)) l.a
-    (length c.args.accessed.now) (omega arith) l.invariant.1
+    (λ i. CoveredFrom (pairs_in c.args.lent.now) c.args.marks.now i (length c.args.lent.now.accessed.now)) l.a
+    (length c.args.lent.now.accessed.now) (omega arith) l.invariant.1

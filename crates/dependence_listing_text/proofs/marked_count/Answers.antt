@@ -23,12 +23,6 @@ pub overflow_add-k : goal.overflow_add-k
 overflow_add-k c = let f = c.loop-i.invariant.few in let t = c.loop-i-test.true
     in let h = c.line_count-total.ensures.1 in omega arith
 
-pub overflow_add-i : goal.overflow_add-i
-overflow_add-i c = let t = c.loop-i-test.true in let h = c.line_count-total.ensures.1 in omega arith
-
-pub loop-i-smaller : goal.loop-i-smaller
-loop-i-smaller c = let t = c.loop-i-test.true in omega arith
-
 pub loop-i-preserved : goal.loop-i-preserved
 loop-i-preserved c =
     let below : (c.loop-i.i < line_count c.args.n

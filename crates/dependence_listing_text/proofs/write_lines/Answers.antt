@@ -45,12 +45,6 @@ overflow_add-p-then-is_marked c =
     let r = room in let e = long
     in let g = c.well_formed.1.1.1.0.0 in omega arith
 
-pub overflow_add-i : goal.overflow_add-i
-overflow_add-i c = let t = c.loop-i-test.true in let h = c.line_count-total.ensures.1 in omega arith
-
-pub loop-i-smaller : goal.loop-i-smaller
-loop-i-smaller c = let t = c.loop-i-test.true in omega arith
-
 pub loop-i-preserved : goal.loop-i-preserved
 loop-i-preserved c =
     let below : (c.loop-i.i < line_count c.args.n

@@ -5,6 +5,3 @@ use Rattle.dependence_marks.proofs.enter.Given as goal
 
 abbrev pub invariant-loop-k : goal.invariant-loop-k
 invariant-loop-k l = Entering l.initial.statements l.statements l.initial.writes l.writes l.first l.size l.s l.k
-
-abbrev pub decreases-loop-k : goal.decreases-loop-k
-decreases-loop-k l = l.size - l.k

@@ -9,20 +9,3 @@ list_points-count-requires c = c.requires.1
 pub overflow_mul-needed : goal.overflow_mul-needed
 overflow_mul-needed c = let f = few-numbers _ _ _ _ (lines-in _ _ c.requires.0 _ _
     c.list_points-count.ensures.0) in omega arith
-
-pub mark_using_numbers-requires : goal.mark_using_numbers-requires
-mark_using_numbers-requires c = (
-  lines-in _ _ c.requires.0 _ _
-      c.list_points-count.ensures.0,
-  omega (arith, c.if-needed-le-FEW_NUMBERS.true),
-)
-
-pub mark_using_numbers-requires-then-needed-le-MORE_NUMBERS : goal.mark_using_numbers-requires-then-needed-le-MORE_NUMBERS
-mark_using_numbers-requires-then-needed-le-MORE_NUMBERS c = (
-  lines-in _ _ c.requires.0 _ _
-      c.list_points-count.ensures.0,
-  omega (arith, c.if-needed-le-MORE_NUMBERS.true),
-)
-
-pub mark_using_numbers-requires-2 : goal.mark_using_numbers-requires-2
-mark_using_numbers-requires-2 c = let h = lines-in _ _ c.requires.0 _ _ c.list_points-count.ensures.0 in (h, few-numbers _ _ _ _ h)

@@ -35,13 +35,6 @@ overflow_mul-b-in-loop-b c =
     c.loop-b-test.true in
     let f = ends.0 in omega arith
 
-pub overflow_add-b : goal.overflow_add-b
-overflow_add-b c =
-    let ends : (c.loop-b.b < most_statements * most_statements * kind_count)
-    × (c.loop-b.b * vector_count + vector_count ≤ length c.args.marks.now) = row_ends c.args.marks.now c.args.n c.args.depth c.requires.0 c.loop-b.b
-    c.loop-b-test.true in
-    let f = ends.0 in omega arith
-
 pub merge-requires : goal.merge-requires
 merge-requires c = (
   record { room = c.loop-b.invariant.room; few = c.requires.0.shallow },

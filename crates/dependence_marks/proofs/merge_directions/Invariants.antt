@@ -5,6 +5,3 @@ use Rattle.dependence_marks.proofs.merge_directions.Given as goal
 
 abbrev pub invariant-loop-b : goal.invariant-loop-b
 invariant-loop-b l = Merging l.marks l.depth l.blocks l.set l.b
-
-abbrev pub decreases-loop-b : goal.decreases-loop-b
-decreases-loop-b l = l.blocks - l.b

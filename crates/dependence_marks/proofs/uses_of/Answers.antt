@@ -1,11 +1,11 @@
 use mathlib.Core.Path.{refl}
 use native.Mathlib.Omega.{arith}
-use Rattle.nest_flat.specs.FlatNests.{flat_nest, sizes_in}
+use Rattle.nest_flat.specs.FlatNests.{sizes_in, flat}
 use Rattle.dependence_marks.proofs.UseLaws.{entered-none, use-fits, use-in, use-next, uses-are}
 use Rattle.dependence_marks.proofs.uses_of.Goals as goal
 
 pub loop-s-init : goal.loop-s-init
-loop-s-init c = let P = flat_nest c.args.header c.args.limits.now c.args.words.now in entered-none (sizes_in P) _ _
+loop-s-init c = let P = flat c.args.nest.now in entered-none (sizes_in P) _ _
 
 pub enter-requires : goal.enter-requires
 enter-requires c = let l = c.loop-s in use-in _

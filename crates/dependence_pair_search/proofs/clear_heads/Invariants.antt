@@ -7,6 +7,3 @@ use Rattle.dependence_pair_search.proofs.clear_heads.Given as goal
 
 abbrev pub invariant-loop-y : goal.invariant-loop-y
 invariant-loop-y l = (l.y ≤ length l.from) × (length l.head ≡ length l.initial.head) × ClearElse l.from l.head l.y
-
-abbrev pub decreases-loop-y : goal.decreases-loop-y
-decreases-loop-y l = l.y

@@ -8,6 +8,3 @@ use Rattle.dependence_pair_search.proofs.find_varying.Given as goal
 abbrev pub invariant-loop-k : goal.invariant-loop-k
 invariant-loop-k l = (l.k ≤ l.depth) × (length l.varying ≡ length l.initial.varying)
     × LevelElse l.depth l.points l.count l.next l.start l.k l.varying
-
-abbrev pub decreases-loop-k : goal.decreases-loop-k
-decreases-loop-k l = l.depth - l.k

@@ -64,12 +64,6 @@ overflow_mul-x c =
     let f = fits c.loop-x.x
     c.loop-x-test.true in omega arith
 
-pub overflow_add-x : goal.overflow_add-x
-overflow_add-x c =
-    let fits : (x : ℕ) → x < c.args.count → x * c.args.depth + c.args.k < length c.args.points.now = λ x h. let p = c.requires.1.stored in let k = c.requires.0 in let a = row_fits c.args.depth x c.args.count h in omega arith in
-    let f = fits c.loop-x.x
-    c.loop-x-test.true in omega arith
-
 pub offset_bounds-points-x : goal.offset_bounds-points-x
 offset_bounds-points-x c =
     let fits : (x : ℕ) → x < c.args.count → x * c.args.depth + c.args.k < length c.args.points.now = λ x h. let p = c.requires.1.stored in let k = c.requires.0 in let a = row_fits c.args.depth x c.args.count h in omega arith in

@@ -5,6 +5,3 @@ use Rattle.dependence_pair_search.proofs.index_changes.Given as goal
 
 abbrev pub invariant-loop-x : goal.invariant-loop-x
 invariant-loop-x l = Level l.depth l.points l.x l.links l.k
-
-abbrev pub decreases-loop-x : goal.decreases-loop-x
-decreases-loop-x l = l.count - l.x

@@ -11,6 +11,3 @@ use Rattle.dependence_pair_search.proofs.link.Given as goal
 abbrev pub invariant-loop-y : goal.invariant-loop-y
 invariant-loop-y l = (l.y ≤ length l.from) × (length l.head ≡ length l.initial.head) × (length l.out ≡ length l.initial.out)
     × Heads l.from l.head l.y × ((k : ℕ) → k < l.y → get_or l.out k 0 ≡ latest l.from (get_or l.to k 0) (up_to l.own k)) × (l.any ≡ false → Unlinked l.y l.out)
-
-abbrev pub decreases-loop-y : goal.decreases-loop-y
-decreases-loop-y l = length l.from - l.y

@@ -1,61 +1,25 @@
-use native.Mathlib.Omega.{arith}
-use Rattle.dependence_search.specs.Flat.{Flat, flat}
-use Rattle.dependence_search.proofs.FlatLaws.{part-fits, call-ready, call-linked, call_below, call-sets, no_call}
+-- `mark_pair`: the search, where one of the two accesses writes.
+use Rattle.dependence_search.specs.Nests.{flat_of}
+use Rattle.dependence_search.proofs.FlatLaws.{ready, searchable, numbers-below, pair-sets, reads-set-none}
 use Rattle.dependence_search.proofs.mark_pair.Goals as goal
 
-pub overflow_mul-i : goal.overflow_mul-i
-overflow_mul-i c = let q = part-fits _ _
-    c.args.count c.requires.1 c.requires.0.table in omega arith
-
-pub overflow_mul-j : goal.overflow_mul-j
-overflow_mul-j c = let q = part-fits _ _
-    c.args.count c.requires.2 c.requires.0.table in omega arith
-
-pub overflow_add-i : goal.overflow_add-i
-overflow_add-i c = let q = part-fits _ _ c.args.count c.requires.1 c.requires.0.table in omega arith
-
-pub offset_bounds-numbers-i : goal.offset_bounds-numbers-i
-offset_bounds-numbers-i c = let q = part-fits _ _ c.args.count c.requires.1 c.requires.0.table in omega arith
-
-pub overflow_add-j : goal.overflow_add-j
-overflow_add-j c = let q = part-fits _ _ c.args.count c.requires.2 c.requires.0.table in omega arith
-
-pub offset_bounds-numbers-j : goal.offset_bounds-numbers-j
-offset_bounds-numbers-j c = let q = part-fits _ _ c.args.count c.requires.2 c.requires.0.table in omega arith
-
-pub block-requires : goal.block-requires
-block-requires c = let r = c.requires.0.room in let g = c.well_formed.1.1.1.1.1.1.1.1.1.1.1.0.0 in (
-  omega arith,
-  c.requires.0.in_body c.args.a c.requires.1,
-  c.requires.0.in_body c.args.b c.requires.2,
-  (let t = c.if-k-lt-KINDS.true in omega arith),
-)
-
 pub search-requires : goal.search-requires
-search-requires c =
-    let nest : Flat = flat c.args.points.now c.args.depth c.args.count c.args.numbers.now c.args.statements.now c.args.writes.now
-    c.args.body in
-    let k = c.block in (
-      call-ready nest c.args.marks.now c.requires.0 c.args.a c.args.b k.result c.requires.1 c.requires.2 k.ensures.1,
-      call-linked nest c.args.marks.now c.requires.0 c.args.a c.args.next.now c.args.head.now c.args.start.now c.requires.3,
-      call_below nest c.args.marks.now c.requires.0 c.args.b _ c.requires.2 c.requires.4,
+search-requires c = let n = c.args.nest.now in let F = flat_of n in let m = c.args.marks.now in
+    let ok = ready F m n.flat_in n.rising c.requires.0 in
+    rw (c.numbers_of.ensures, c.numbers_of-in-Some.ensures) (
+      searchable F m ok c.args.a c.args.b c.block.result c.requires.1 c.requires.2 c.block.ensures.1,
+      c.requires.3,
+      numbers-below F m ok _ c.args.b c.requires.4 c.requires.2,
     )
 
-pub returns-then-k-lt-KINDS : goal.returns-then-k-lt-KINDS
-returns-then-k-lt-KINDS c =
-    let nest : Flat = flat c.args.points.now c.args.depth c.args.count c.args.numbers.now c.args.statements.now c.args.writes.now
-    c.args.body in
-    let k = c.kind-k in let b = c.block in let r = c.search in (
-      call-sets nest c.args.marks.now c.requires.0 r.new.marks c.args.a c.args.b k.result b.result
-          c.requires.1 k.ensures (let t = c.if-k-lt-KINDS.true in omega arith) b.ensures.0 r.ensures.0,
-      r.ensures.1,
+pub returns-in-Some : goal.returns-in-Some
+returns-in-Some c = let n = c.args.nest.now in let F = flat_of n in let m = c.args.marks.now in
+    let ok = ready F m n.flat_in n.rising c.requires.0 in let k = c.in-Some.ensures in
+    let e = rw (c.numbers_of.ensures, c.numbers_of-in-Some.ensures) at c.search.ensures.0 in (
+      pair-sets F m ok c.search.new.marks c.args.a c.args.b c.in-Some.k c.block.result c.requires.1 k.0 k.1 c.block.ensures.0 e,
+      c.search.ensures.1,
     )
 
-pub returns-else-k-lt-KINDS : goal.returns-else-k-lt-KINDS
-returns-else-k-lt-KINDS c =
-    let nest : Flat = flat c.args.points.now c.args.depth c.args.count c.args.numbers.now c.args.statements.now c.args.writes.now
-    c.args.body in (
-      no_call nest c.args.marks.now c.requires.0 c.args.a c.args.b c.kind-k.result c.kind-k.ensures
-          c.if-k-lt-KINDS.false,
-      c.requires.3.clear,
-    )
+pub returns-in_default : goal.returns-in_default
+returns-in_default c = let n = c.args.nest.now in let F = flat_of n in let m = c.args.marks.now in
+    (reads-set-none F m (ready F m n.flat_in n.rising c.requires.0) c.args.a c.args.b c.in_default.ensures, c.requires.3.clear)

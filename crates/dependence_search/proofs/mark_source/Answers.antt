@@ -1,109 +1,71 @@
 use mathlib.Core.Path.{◌≡◌, refl, sym, ap, ◌∙◌, subst}
 use mathlib.Core.Logic.{inl, inr}
-use Prim.Native.Nat.{◌+◌, ◌<◌}
+use Prim.Native.Nat.{◌+◌}
 use native.Mathlib.Omega.{arith}
 use lib.ListN.{length}
-use Rattle.dependence_search.specs.Flat.{Flat, flat, NumbersBelow, numbers_of, set_by, set_from}
+use Rattle.dependence_search.specs.Flat.{NumbersBelow, numbers_of, set_by, set_from}
+use Rattle.dependence_search.specs.Nests.{flat_of}
 use Rattle.dependence_pair_search.specs.Search.{Clear}
 use Rattle.dependence_pair_search.proofs.SomeLaws.{Gathered, gathered_none, Done, gathered-turn}
-use Rattle.dependence_search.proofs.FlatLaws.{part-fits, listed, ready-still, alike-sink, call-linkable, linked, linked-still}
-use Rattle.dependence_search.proofs.mark_source.Goals.{else-first_like-b, then-first_like-b}
+use Rattle.dependence_search.proofs.FlatLaws.{ready, alike-sink, linkable, linked, linked-still}
+use Rattle.dependence_search.proofs.mark_source.Goals.{else-not-repeats_earlier, then-not-repeats_earlier}
 use Rattle.dependence_search.proofs.mark_source.Goals as goal
 
-pub overflow_mul-i : goal.overflow_mul-i
-overflow_mul-i c = let q = part-fits _ _ c.args.count c.requires.1 c.requires.0.table
-    in omega arith
-
-pub overflow_add-i : goal.overflow_add-i
-overflow_add-i c = let q = part-fits _ _ c.args.count c.requires.1
-    c.requires.0.table in omega arith
-
-pub offset_bounds-numbers-i : goal.offset_bounds-numbers-i
-offset_bounds-numbers-i c = let q = part-fits _ _ c.args.count c.requires.1
-    c.requires.0.table in omega arith
-
-pub overflow_add-i-2 : goal.overflow_add-i-2
-overflow_add-i-2 c = let q = part-fits _ _ c.args.count c.requires.1
-    c.requires.0.table in omega arith
-
-pub offset_bounds-numbers-i-2 : goal.offset_bounds-numbers-i-2
-offset_bounds-numbers-i-2 c = let q = part-fits _ _ c.args.count c.requires.1
-    c.requires.0.table in omega arith
-
 pub link-requires : goal.link-requires
-link-requires c =
-    let nest : Flat = flat c.args.points.now c.args.depth c.args.count c.args.numbers.now c.args.statements.now c.args.writes.now
-    c.args.body in
-    call-linkable nest
-    c.args.marks.now c.requires.0 c.args.a c.args.next.now c.args.head.now c.args.start.now c.requires.1 c.requires.2
+link-requires c = let n = c.args.nest.now in let F = flat_of n in let m = c.args.marks.now in
+    rw c.numbers_of-numbers.ensures (linkable F m (ready F m n.flat_in n.rising c.requires.0) c.args.a c.args.next.now c.args.head.now c.args.start.now
+    c.requires.1 c.requires.2)
 
 pub loop-b-init : goal.loop-b-init
-loop-b-init c =
-    let nest : Flat = flat c.args.points.now c.args.depth c.args.count c.args.numbers.now c.args.statements.now c.args.writes.now
-    c.args.body in
+loop-b-init c = let n = c.args.nest.now in let F = flat_of n in let m = c.args.marks.now in
     let k = c.link in (
       omega arith,
       refl,
-      gathered_none c.args.marks.now (set_by nest c.args.a),
+      gathered_none m (set_by F c.args.a),
       refl,
       refl,
-      linked nest c.args.marks.now c.requires.0 c.args.a c.args.next.now c.args.head.now c.args.start.now
-          k.new.out k.new.head c.requires.1 c.requires.2 k.ensures.0 k.auto.out k.auto.head
+      linked F m (ready F m n.flat_in n.rising c.requires.0) c.args.a c.args.next.now c.args.head.now c.args.start.now
+          k.new.out k.new.head c.requires.1 c.requires.2 (rw c.numbers_of-numbers.ensures at k.ensures.0) k.auto.out k.auto.head
           k.ensures.1,
     )
 
-pub first_like-requires : goal.first_like-requires
-first_like-requires c =
-    let nest : Flat = flat c.args.points.now c.args.depth c.args.count c.args.numbers.now c.args.statements.now c.args.writes.now
-    c.args.body in
-    (listed nest c.args.marks.now c.requires.0, c.loop-b-test.true)
-
 pub mark_pair-requires : goal.mark_pair-requires
-mark_pair-requires c =
-    let nest : Flat = flat c.args.points.now c.args.depth c.args.count c.args.numbers.now c.args.statements.now c.args.writes.now
-    c.args.body in
-    let l = c.loop-b in (
-      ready-still nest c.args.marks.now l.marks l.invariant.1
-          c.requires.0,
+mark_pair-requires c = let F = flat_of c.args.nest.now in
+    let l = c.loop-b in let r = c.requires.0 in let i = l.invariant.1 in (
+      omega arith,
       c.requires.1,
       c.loop-b-test.true,
       l.invariant.5,
-      subst (λ m. NumbersBelow m nest)
-          (sym (l.invariant.3 ∙ c.link.auto.head))
-          c.requires.2.heads,
+      subst (λ m. NumbersBelow m F) (sym (l.invariant.3 ∙ c.link.auto.head)) c.requires.2.heads,
     )
 
 pub loop-b-preserved : goal.loop-b-preserved
 loop-b-preserved c =
-    let nest : Flat = flat c.args.points.now c.args.depth c.args.count c.args.numbers.now c.args.statements.now c.args.writes.now
-    c.args.body in
-    let turn : (let l = c.loop-b in
-    (length c.if-first_like-b.marks ≡ length c.args.marks.now) × Gathered c.args.marks.now c.if-first_like-b.marks (l.b + 1) (set_by nest c.args.a)) = let l = c.loop-b in let f = c.first_like in
-    gathered-turn c.args.marks.now l.marks c.if-first_like-b.marks l.b f.result (set_by nest c.args.a) l.invariant.2 l.invariant.1
-    (elim c.if-first_like-b.branch [
-      | then-first_like-b w ↦ inl (subst (λ m. Done l.marks m (set_by nest c.args.a l.b)) (sym w.marks-is)
-          (record { same_length = w.mark_pair.auto.marks; adds = w.mark_pair.ensures.0 }))
-      | else-first_like-b w ↦ let n = w.if-first_like-b.false in let h = f.ensures.earlier in let k : f.result < l.b = omega arith in inr
-          (w.marks-is, k, alike-sink nest f.result l.b (f.ensures.alike k) c.args.a)
-    ]) in
-    let kept : (let l = c.loop-b in (length c.if-first_like-b.head ≡ length l.head)
-    × Clear c.if-first_like-b.head × (length c.if-first_like-b.start ≡ length l.start)) = let l = c.loop-b in
-    elim c.if-first_like-b.branch [
-      | then-first_like-b w ↦ (
+    let n = c.args.nest.now in let F = flat_of n in let l = c.loop-b in let t = c.loop-b-test.true in
+    let i = c.if-not-repeats_earlier in
+    let turn : (length i.marks ≡ length c.args.marks.now) × Gathered c.args.marks.now i.marks (l.b + 1) (set_by F c.args.a) = elim i.branch [
+      | then-not-repeats_earlier w ↦ gathered-turn c.args.marks.now l.marks i.marks l.b 0 (set_by F c.args.a) l.invariant.2 l.invariant.1
+          (inl (subst (λ m. Done l.marks m (set_by F c.args.a l.b)) (sym w.marks-is)
+          (record { same_length = w.mark_pair.auto.marks; adds = w.mark_pair.ensures.0 })))
+      | else-not-repeats_earlier w ↦ let r = c.repeats_earlier.ensures w.if-not-repeats_earlier.false in
+          gathered-turn c.args.marks.now l.marks i.marks l.b r.0 (set_by F c.args.a) l.invariant.2 l.invariant.1
+          (inr (w.marks-is, r.1, alike-sink F r.0 l.b r.2 c.args.a))
+    ] in
+    let kept : (length i.head ≡ length l.head) × Clear i.head × (length i.start ≡ length l.start) =
+    elim i.branch [
+      | then-not-repeats_earlier w ↦ (
         ap length w.head-is ∙ w.mark_pair.auto.head,
         subst Clear (sym w.head-is) w.mark_pair.ensures.1,
         ap length w.start-is ∙ w.mark_pair.auto.start,
       )
-      | else-first_like-b w ↦ (ap length w.head-is, subst Clear (sym w.head-is) l.invariant.5.clear, ap length w.start-is)
-    ] in
-    let s = c.args in let l = c.loop-b in let t = c.loop-b-test.true
-    in let k = kept in (
+      | else-not-repeats_earlier w ↦ (ap length w.head-is, subst Clear (sym w.head-is) l.invariant.5.clear, ap length w.start-is)
+    ] in (
       omega arith,
       turn.0,
       turn.1,
-      k.0 ∙ l.invariant.3,
-      k.2 ∙ l.invariant.4,
-      linked-still (numbers_of s.count s.numbers.now s.a) c.link.new.out l.head l.start c.if-first_like-b.head c.if-first_like-b.start k.0 k.1 k.2 l.invariant.5,
+      kept.0 ∙ l.invariant.3,
+      kept.2 ∙ l.invariant.4,
+      linked-still (numbers_of n.count n.numbers.now c.args.a) c.link.new.out l.head l.start i.head i.start kept.0 kept.1 kept.2 l.invariant.5,
     )
 
 pub shape_of-next : goal.shape_of-next
@@ -121,8 +83,6 @@ shape_of-marks c = c.loop-b.invariant.1
 pub returns : goal.returns
 unfolding set_from
 returns c =
-    let nest : Flat = flat c.args.points.now c.args.depth c.args.count c.args.numbers.now c.args.statements.now c.args.writes.now
-    c.args.body in
-    let l = c.loop-b in let t = c.loop-b-test.false in let i = l.invariant.0 in let e : l.b ≡ length
-    c.args.statements.now = omega arith in
-    (subst (λ n. Gathered c.args.marks.now l.marks n (set_by nest c.args.a)) e l.invariant.2, l.invariant.5.clear)
+    let F = flat_of c.args.nest.now in
+    let l = c.loop-b in let t = c.loop-b-test.false in let i = l.invariant.0 in let e : l.b ≡ length F.statements = omega arith in
+    (subst (λ n. Gathered c.args.marks.now l.marks n (set_by F c.args.a)) e l.invariant.2, l.invariant.5.clear)

@@ -1,10 +1,7 @@
 -- `restrict_nest`: the loops before k are shortened.
-use Prim.Native.Nat.{◌-◌, ◌≤◌}
+use Prim.Native.Nat.{◌≤◌}
 use Rattle.dependence_subspace.specs.Subspaces.{Narrower}
 use Rattle.dependence_subspace.proofs.restrict_nest.Given as goal
 
 abbrev pub invariant-loop-k : goal.invariant-loop-k
 invariant-loop-k l = (l.k ≤ l.depth) × Narrower l.initial.limits l.initial.counts l.depth l.limits l.counts
-
-abbrev pub decreases-loop-k : goal.decreases-loop-k
-decreases-loop-k l = l.depth - l.k

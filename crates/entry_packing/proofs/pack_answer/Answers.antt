@@ -2,8 +2,8 @@
 use Rattle.entry_packing.proofs.PackLaws.{accepted-packed, refused-packed}
 use Rattle.entry_packing.proofs.pack_answer.Goals as goal
 
-pub returns-in-Accepted : goal.returns-in-Accepted
-returns-in-Accepted c = accepted-packed _ _ _ c.pack.ensures c.in-Accepted.is
+pub returns-in-Ok : goal.returns-in-Ok
+returns-in-Ok c = accepted-packed _ _ _ c.pack.ensures c.in-Ok.is
 
-pub returns-in-Refused : goal.returns-in-Refused
-returns-in-Refused c = refused-packed _ _ _ c.pack_refusal.ensures c.in-Refused.is
+pub returns-in-Err : goal.returns-in-Err
+returns-in-Err c = refused-packed _ _ _ c.pack_refusal.ensures c.in-Err.is

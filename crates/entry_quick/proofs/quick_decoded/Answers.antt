@@ -1,16 +1,17 @@
 -- `quick_decoded`: 1 to 8, then the nest.
 use Rattle.ticket_admission.proofs.AdmitLaws.{points-counted}
-use Rattle.entry_quick.proofs.TestLaws.{not_tested, tested-whole}
+use Rattle.ticket_admission.proofs.CountedTicketLaws.{laid-ticket}
+use Rattle.entry_quick.proofs.TestLaws.{not_read, not_tested, tested-whole, said}
 use Rattle.entry_quick.proofs.quick_decoded.Goals as goal
 
+pub returns-in_err-ticket : goal.returns-in_err-ticket
+returns-in_err-ticket c = said _ _ c.from_residual.ensures.1 (not_read _ _ _ c.args.first c.args.second _ c.in_err-ticket.was)
+
+pub returns-in_err-count : goal.returns-in_err-count
+returns-in_err-count c = said _ _ c.from_residual-in_err-count.ensures.1 (not_tested _ _ _ c.args.first c.args.second _ c.in_err-count.ensures)
+
 pub test_nest-requires : goal.test_nest-requires
-test_nest-requires c = points-counted _ c.args.read.steps _
-    (c.count_ticket_points.ensures.laid _ c.in-Points.is)
+test_nest-requires c = points-counted _ c.in_ok-ticket.ticket.steps _ (laid-ticket c.in_ok-count.ensures c.in_ok-ticket.was)
 
-pub returns-in-Points : goal.returns-in-Points
-returns-in-Points c = let k = c.count_ticket_points in let g = c.test_nest in tested-whole c.args.read _ _ k.result k.ensures c.args.first c.args.second _
-    c.in-Points.is g.result g.ensures
-
-pub returns-in-Refused : goal.returns-in-Refused
-returns-in-Refused c = let k = c.count_ticket_points in not_tested
-    c.args.read _ _ k.result k.ensures c.args.first c.args.second c.in-Refused.r c.in-Refused.is
+pub returns : goal.returns
+returns c = let g = c.test_nest in tested-whole c.args.read _ _ c.args.first c.args.second _ c.in_ok-ticket.was g.result g.ensures

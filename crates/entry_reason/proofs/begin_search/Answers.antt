@@ -18,4 +18,4 @@ returns c = let t = c.requires in
     let w = c.search_ticket-walked in let e = (w.ensures t).window.left in let f = few_words t in
     begun t c.args.lent (4294967296 - w.result.window.skip) _ _ _ _ (let q : 4294967296 - w.result.window.skip ≡ length
     (all_words t) = omega arith in q)
-    c.pack.ensures c.least.ensures (w.ensures t).window.room
+    c.pack.ensures c.min.ensures (w.ensures t).window.room

@@ -2,25 +2,24 @@
 use Rattle.ticket_decoding.proofs.DecodeLaws.{zeros-lent}
 use Rattle.ticket_judgement.proofs.VerdictLaws.{of-bytes}
 use Rattle.entry_run.proofs.EntryLaws.{run-refused, run_in, ran_out}
+use Rattle.entry_answers.proofs.AnswerLaws.{outcome-on}
 use Rattle.entry_answers.proofs.DemandLaws.{run-keeps}
 use Rattle.entry_run.proofs.run.Goals as goal
 
 pub decode-read-requires : goal.decode-read-requires
 decode-read-requires c = zeros-lent
 
-pub decide-decided-requires : goal.decide-decided-requires
-decide-decided-requires c = c.decode-read.ensures.within
+pub decide-requires : goal.decide-requires
+decide-requires c = c.decode-read.ensures.within
 
-pub returns-in-Refused : goal.returns-in-Refused
-returns-in-Refused c = run-keeps _ _ _ _ (let d = c.decode-read in let v = c.decide-decided in run-refused _
-    c.args.store.now
-    v.result _ _ (of-bytes _ d.result _ _ d.ensures v.result _ _ v.ensures) _ c.in-Refused.is)
+pub returns-in_err-decided : goal.returns-in_err-decided
+returns-in_err-decided c = let d = c.decode-read in run-keeps _ _ _ _ (outcome-on _ _ c.from_residual.ensures.1
+    (run-refused _ c.args.store.now _ _ _ (of-bytes _ d.result _ _ d.ensures _ _ _ c.in_err-decided.ensures)))
 
 pub run_judged-requires : goal.run_judged-requires
-run_judged-requires c = let d = c.decode-read in let v = c.decide-decided in run_in _
-    c.args.store.now v.result _ _ (of-bytes _ d.result _ _ d.ensures v.result _ _ v.ensures)
-    c.in-Fine.is
+run_judged-requires c = let d = c.decode-read in run_in _ c.args.store.now _ _ _
+    (of-bytes _ d.result _ _ d.ensures _ _ _ c.in_ok-decided.ensures)
 
 pub returns : goal.returns
-returns c = run-keeps _ _ _ _ (let d = c.decode-read in let v = c.decide-decided in let g = c.run_judged in ran_out _ c.args.store.now v.result _ _
-    (of-bytes _ d.result _ _ d.ensures v.result _ _ v.ensures) c.in-Fine.is g.result _ g.ensures)
+returns c = let d = c.decode-read in let g = c.run_judged in run-keeps _ _ _ _ (ran_out _ c.args.store.now _ _ _
+    (of-bytes _ d.result _ _ d.ensures _ _ _ c.in_ok-decided.ensures) g.result _ g.ensures)

@@ -19,6 +19,3 @@ pub record Filled (b : List ℕ) (ys : List Pair) (n k : ℕ) (f : Finder) (zs :
 
 abbrev pub invariant-loop-k : goal.invariant-loop-k
 invariant-loop-k l = Filled l.ticket l.initial.list l.n l.k l.f l.list
-
-abbrev pub decreases-loop-k : goal.decreases-loop-k
-decreases-loop-k l = l.n - l.k

@@ -1,36 +1,21 @@
+-- `affine_at`: the sum and the product stay within 64 bits.
 use native.Mathlib.Omega.{arith}
-use Rattle.integers.proofs.SumLaws.{at_none, plus-at, at_more, at_all}
+use borrow.Author.Rules.{rules}
+use Rattle.integers.proofs.SumLaws.{at_none, at-fits, at_more, at_all}
 use Rattle.integers.proofs.affine_at.Goals as goal
 
-pub word-requires : goal.word-requires
-word-requires c = let h = c.requires.inside in omega arith
-
 pub loop-i-init : goal.loop-i-init
-loop-i-init c = (omega arith, at_none c.requires c.word.ensures)
+loop-i-init c = at_none c.requires c.word-sum.ensures
 
-pub overflow_add-at : goal.overflow_add-at
-overflow_add-at c = let h = c.requires.inside in omega arith
+pub overflow_mul-sum : goal.overflow_mul-sum
+overflow_mul-sum c = (at-fits c.requires c.loop-i-test.true c.loop-i.invariant c.word.ensures).0
 
-pub overflow_add-at-in-loop-i : goal.overflow_add-at-in-loop-i
-overflow_add-at-in-loop-i c = let h = c.requires.inside in omega arith
-
-pub word-requires-in-loop-i : goal.word-requires-in-loop-i
-word-requires-in-loop-i c = let h = c.requires.inside in omega arith
-
-pub bounds-indices-i : goal.bounds-indices-i
-bounds-indices-i c = c.loop-i-test.true
-
-pub add_product-sum-requires : goal.add_product-sum-requires
-add_product-sum-requires c = plus-at c.requires c.loop-i-test.true
-    c.loop-i.invariant.1 c.word-in-loop-i.ensures
+pub overflow_add-sum : goal.overflow_add-sum
+overflow_add-sum c = let f = at-fits c.requires c.loop-i-test.true c.loop-i.invariant c.word.ensures in search rules
 
 pub loop-i-preserved : goal.loop-i-preserved
-loop-i-preserved c = (
-  omega arith,
-  at_more c.requires c.loop-i-test.true
-      c.loop-i.invariant.1 c.word-in-loop-i.ensures c.add_product-sum.ensures,
-)
+loop-i-preserved c = let f = at-fits c.requires c.loop-i-test.true c.loop-i.invariant c.word.ensures in
+    at_more c.requires c.loop-i-test.true c.loop-i.invariant c.word.ensures (search rules)
 
 pub returns : goal.returns
-returns c = at_all c.requires c.loop-i.invariant.1
-    (omega (arith, c.loop-i.invariant.0, c.loop-i-test.false))
+returns c = let e = at_all c.requires c.loop-i.invariant (omega (arith, c.loop-i-test.false)) in search rules

@@ -99,17 +99,6 @@ subscript_fits-requires c = subscript-in c.requires.0 c.requires.1
 pub returns-then-not-subscript_fits : goal.returns-then-not-subscript_fits
 returns-then-not-subscript_fits c = λ e. absurd (true-T false e)
 
-pub overflow_add-d : goal.overflow_add-d
-overflow_add-d c = let t = c.loop-d-test.true in omega (
-  arith,
-  flat
-      c.requires.0
-      c.requires.1,
-)
-
-pub loop-d-smaller : goal.loop-d-smaller
-loop-d-smaller c = let t = c.loop-d-test.true in omega arith
-
 pub loop-d-preserved : goal.loop-d-preserved
 loop-d-preserved c = let t = c.loop-d-test.true in let g = c.subscript_fits in (
   omega arith,

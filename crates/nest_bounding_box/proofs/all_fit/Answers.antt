@@ -18,12 +18,6 @@ access_fits-requires c = (c.requires, c.loop-k-test.true)
 pub returns-then-not-access_fits : goal.returns-then-not-access_fits
 returns-then-not-access_fits c = λ e. absurd (true-T false e)
 
-pub overflow_add-k : goal.overflow_add-k
-overflow_add-k c = let m = c.requires.accesses.many in let h = c.loop-k-test.true in omega arith
-
-pub loop-k-smaller : goal.loop-k-smaller
-loop-k-smaller c = let h = c.loop-k-test.true in omega arith
-
 pub loop-k-preserved : goal.loop-k-preserved
 loop-k-preserved c = let h = c.loop-k-test.true
     in let g = c.access_fits in (

@@ -2,8 +2,8 @@
 use Rattle.nest_elements.proofs.FormLaws.{raise-fits, raise-is}
 use Rattle.nest_elements.proofs.add_base.Goals as goal
 
-pub overflow_add-r : goal.overflow_add-r
-overflow_add-r c = raise-fits c.args.form c.args.b c.requires
+pub overflow_add-form : goal.overflow_add-form
+overflow_add-form c = raise-fits c.args.form c.args.b c.requires
 
 pub returns : goal.returns
 returns c = raise-is c.args.form c.args.b c.requires

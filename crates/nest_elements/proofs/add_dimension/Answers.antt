@@ -14,8 +14,8 @@ pub loop-l-init : goal.loop-l-init
 unfolding folded zip_with
 loop-l-init c = (omega arith, search rules, refl)
 
-pub bounds-form-l : goal.bounds-form-l
-bounds-form-l c = c.loop-l-test.true
+pub bounds-x-items-l : goal.bounds-x-items-l
+bounds-x-items-l c = c.loop-l-test.true
 
 pub overflow_add-at : goal.overflow_add-at
 overflow_add-at c = let i = c.requires.inside in let v = c.loop-l-test.true in omega arith
@@ -23,8 +23,8 @@ overflow_add-at c = let i = c.requires.inside in let v = c.loop-l-test.true in o
 pub word-requires : goal.word-requires
 word-requires c = let i = c.requires.inside in let v = c.loop-l-test.true in omega arith
 
-pub number-z-requires : goal.number-z-requires
-number-z-requires c = number_in c.requires c.loop-l.l c.word.ensures
+pub number-requires : goal.number-requires
+number-requires c = number_in c.requires c.loop-l.l c.word.ensures
 
 pub offset_bounds-r-l : goal.offset_bounds-r-l
 offset_bounds-r-l c = let v = c.loop-l-test.true in omega arith
@@ -32,20 +32,14 @@ offset_bounds-r-l c = let v = c.loop-l-test.true in omega arith
 pub bounds-r-l : goal.bounds-r-l
 bounds-r-l c = c.loop-l-test.true
 
-pub overflow_add-l : goal.overflow_add-l
-overflow_add-l c = let v = c.loop-l-test.true in omega arith
-
-pub loop-l-smaller : goal.loop-l-smaller
-loop-l-smaller c = let v = c.loop-l-test.true in omega arith
-
 pub loop-l-preserved : goal.loop-l-preserved
 loop-l-preserved c =
     let width : length c.args.form ≡ 8 = search rules in
     let l = c.loop-l in let v = c.loop-l-test.true in (
       omega arith,
       simp length-set l.invariant.1,
-      fold_more c.requires l.l c.word.ensures l.r c.number-z.result v l.invariant.1
-          width l.invariant.2 c.number-z.ensures,
+      fold_more c.requires l.l c.word.ensures l.r c.number.result v l.invariant.1
+          width l.invariant.2 c.number.ensures,
     )
 
 pub returns : goal.returns

@@ -3,33 +3,23 @@ use Prim.Native.Nat.{◌+◌}
 use native.Mathlib.Omega.{arith}
 use Rattle.model.specs.Store.{base}
 use Rattle.nest_flat.specs.Layout.{arrays_of}
-use Rattle.nest_elements.proofs.ElementLaws.{earlier-array, no-base, next-base, array-fits}
+use Rattle.nest_elements.proofs.ElementLaws.{no-base, next-base, array-fits}
 use Rattle.nest_elements.proofs.base_of.Goals as goal
 
 pub loop-j-init : goal.loop-j-init
 loop-j-init c = (omega arith, sym (no-base (arrays_of c.args.arrays.now)))
 
 pub elements_of-r-requires : goal.elements_of-r-requires
-elements_of-r-requires c = earlier-array c.args.arrays.now c.args.i c.requires.array
-    c.loop-j.j c.loop-j-test.true
+elements_of-r-requires c = c.requires.before c.loop-j.j c.loop-j-test.true
 
 pub overflow_add-r : goal.overflow_add-r
-overflow_add-r c = let l = c.loop-j in let f = array-fits c.args.arrays.now l.j
-    (earlier-array c.args.arrays.now c.args.i c.requires.array l.j c.loop-j-test.true) in let t = c.requires.fits
-    in let e = l.invariant.1 in let g = c.elements_of-r.ensures in record { fits = omega arith }
-
-pub overflow_add-j : goal.overflow_add-j
-overflow_add-j c = let t = c.requires.array.there in let f = c.requires.array.few
-    in let v = c.loop-j-test.true in let i = c.ranges.i in omega arith
-
-pub loop-j-smaller : goal.loop-j-smaller
-loop-j-smaller c = let v = c.loop-j-test.true in omega arith
+overflow_add-r c = let l = c.loop-j in let f = array-fits c.args.arrays.now l.j (c.requires.before l.j c.loop-j-test.true) in
+    let t = c.requires.fits in let e = l.invariant.1 in let g = c.elements_of-r.ensures in record { fits = omega arith }
 
 pub loop-j-preserved : goal.loop-j-preserved
 loop-j-preserved c = let l = c.loop-j in let v = c.loop-j-test.true in (
   omega arith,
-  ap₂ ◌+◌ l.invariant.1 c.elements_of-r.ensures
-      ∙ sym (next-base c.args.arrays.now l.j (earlier-array c.args.arrays.now c.args.i c.requires.array l.j v)),
+  ap₂ ◌+◌ l.invariant.1 c.elements_of-r.ensures ∙ sym (next-base c.args.arrays.now l.j (c.requires.before l.j v)),
 )
 
 pub returns : goal.returns

@@ -20,9 +20,6 @@ bounds-arrays-at c = let e = array-ends c.args.arrays.now c.args.i c.requires in
 pub loop-d-init : goal.loop-d-init
 loop-d-init c = (refl, omega arith, no-extent c.args.arrays.now c.args.i c.requires _ refl)
 
-pub overflow_sub-d : goal.overflow_sub-d
-overflow_sub-d c = c.loop-d-test.true
-
 pub overflow_add-r : goal.overflow_add-r
 overflow_add-r c = let e = array-ends c.args.arrays.now c.args.i c.requires in let f = c.requires.few
     in let d = c.requires.dimensions c.args.i c.requires.there in omega arith
@@ -42,9 +39,6 @@ bounds-arrays-at-in-loop-d c = let e = array-ends c.args.arrays.now c.args.i c.r
 pub overflow_mul-r : goal.overflow_mul-r
 overflow_mul-r c = let l = c.loop-d in let v = c.loop-d-test.true in let b = one-small
     c.args.arrays.now c.args.i c.requires l.d l.r v l.invariant.1 l.invariant.2 in record { fits = omega arith }
-
-pub loop-d-smaller : goal.loop-d-smaller
-loop-d-smaller c = let v = c.loop-d-test.true in omega arith
 
 pub loop-d-preserved : goal.loop-d-preserved
 loop-d-preserved c = let l = c.loop-d in let v = c.loop-d-test.true

@@ -8,6 +8,3 @@ use Rattle.nest_elements.proofs.elements_of.Given as goal
 
 abbrev pub invariant-loop-d : goal.invariant-loop-d
 invariant-loop-d l = (l.at ≡ l.i * 4) × (l.d ≤ get_or l.arrays (l.i * 4) 0) × (l.r ≡ elements (drop l.d (extents_at l.arrays l.i)))
-
-abbrev pub decreases-loop-d : goal.decreases-loop-d
-decreases-loop-d l = l.d

@@ -70,13 +70,6 @@ pub add_dimension-deeper-requires : goal.add_dimension-deeper-requires
 add_dimension-deeper-requires c = let f = c.requires in let l = c.loop-d in fold-in
     f.accesses f.there c.loop-d-test.true l.invariant.1
 
-pub overflow_add-d : goal.overflow_add-d
-overflow_add-d c = let b = bounds c.requires in let v = c.loop-d-test.true
-    in omega arith
-
-pub loop-d-smaller : goal.loop-d-smaller
-loop-d-smaller c = let v = c.loop-d-test.true in omega arith
-
 pub loop-d-preserved : goal.loop-d-preserved
 loop-d-preserved c = let f = c.requires in let l = c.loop-d in let v = c.loop-d-test.true in (omega arith, fold_next f.accesses f.there v l.invariant.1 c.add_dimension-deeper.ensures)
 

@@ -1,13 +1,10 @@
--- `number_access`: the places at the first i points are written; row i begins at `at`.
+-- `number_access`: the places at the first i points are written.
 use mathlib.Core.Path.{◌≡◌}
-use Prim.Native.Nat.{◌*◌, ◌-◌, ◌≤◌}
+use Prim.Native.Nat.{◌*◌, ◌≤◌}
 use Rattle.lists.specs.Parts.{rows, put}
 use Rattle.nest_elements.specs.Places.{places_of}
 use Rattle.nest_elements.proofs.number_access.Given as goal
 
 abbrev pub invariant-loop-i : goal.invariant-loop-i
-invariant-loop-i l = (l.i ≤ l.count) × (l.at ≡ l.i * l.depth)
+invariant-loop-i l = (l.i ≤ l.count)
     × (l.out ≡ put l.initial.out (l.k * l.count) (places_of l.words l.accessed l.arrays l.depth (rows l.depth l.i l.points) l.k))
-
-abbrev pub decreases-loop-i : goal.decreases-loop-i
-decreases-loop-i l = l.count - l.i

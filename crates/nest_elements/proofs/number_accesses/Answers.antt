@@ -8,11 +8,11 @@ use Rattle.nest_elements.proofs.number_accesses.Goals as goal
 pub slice_bounds-words-end : goal.slice_bounds-words-end
 slice_bounds-words-end c = sym (words_count _ c.requires.flat-nest)
 
-pub slice_bounds-accessed-end-2 : goal.slice_bounds-accessed-end-2
-slice_bounds-accessed-end-2 c = sym (accessed-count _ c.requires.flat-nest)
+pub slice_bounds-accessed-end : goal.slice_bounds-accessed-end
+slice_bounds-accessed-end c = sym (accessed-count _ c.requires.flat-nest)
 
-pub slice_bounds-extents-end-2 : goal.slice_bounds-extents-end-2
-slice_bounds-extents-end-2 c = sym (extents-count _ c.requires.flat-nest)
+pub slice_bounds-extents-end : goal.slice_bounds-extents-end
+slice_bounds-extents-end c = sym (extents-count _ c.requires.flat-nest)
 
 pub loop-k-init : goal.loop-k-init
 unfolding numbered
@@ -21,13 +21,6 @@ loop-k-init c = (omega arith, refl)
 pub number_access-requires : goal.number_access-requires
 number_access-requires c = let l = c.loop-k in next-in _ _ _ _ _ _ c.args.numbers.now
     (number_in _ _ _ _ c.requires) l.k c.loop-k-test.true l.numbers l.invariant.1
-
-pub overflow_add-k : goal.overflow_add-k
-overflow_add-k c = let m = c.requires.flat-nest.accesses-ok.many
-    in let v = c.loop-k-test.true in omega arith
-
-pub loop-k-smaller : goal.loop-k-smaller
-loop-k-smaller c = let v = c.loop-k-test.true in omega arith
 
 pub loop-k-preserved : goal.loop-k-preserved
 loop-k-preserved c = let l = c.loop-k in let v = c.loop-k-test.true

@@ -14,21 +14,18 @@ loop-l-init c = (omega arith, search rules, refl)
 pub overflow_add-at : goal.overflow_add-at
 overflow_add-at c = let i = c.requires.0 in omega arith
 
-pub word-z-requires : goal.word-z-requires
-word-z-requires c = let i = c.requires.0 in omega arith
+pub word-requires : goal.word-requires
+word-requires c = let i = c.requires.0 in omega arith
 
 pub bounds-r-l : goal.bounds-r-l
 bounds-r-l c = c.loop-l-test.true
-
-pub loop-l-smaller : goal.loop-l-smaller
-loop-l-smaller c = let v = c.loop-l-test.true in omega arith
 
 pub loop-l-preserved : goal.loop-l-preserved
 loop-l-preserved c = let l = c.loop-l in let v = c.loop-l-test.true in (
   omega arith,
   simp length-set l.invariant.1,
-  copy_more c.args.words.now c.args.j c.requires.0 l.l l.r c.word-z.result v
-      l.invariant.1 c.requires.1 l.invariant.2 c.word-z.ensures,
+  copy_more c.args.words.now c.args.j c.requires.0 l.l l.r c.word.result v
+      l.invariant.1 c.requires.1 l.invariant.2 c.word.ensures,
 )
 
 pub returns : goal.returns

@@ -1,14 +1,10 @@
--- `violates`: the subscript of the first i points keeps its extent; row i begins at `at`.
+-- `violates`: the subscript of the first i points keeps its extent.
 use mathlib.Core.Path.{◌≡◌}
 use mathlib.Core.Bool.{false}
-use Prim.Native.Nat.{◌*◌, ◌-◌, ◌≤◌}
+use Prim.Native.Nat.{◌≤◌}
 use Rattle.lists.specs.Parts.{rows}
 use Rattle.nest_elements.specs.Search.{violates_at}
 use Rattle.nest_elements.proofs.violates.Given as goal
 
 abbrev pub invariant-loop-i : goal.invariant-loop-i
-invariant-loop-i l = (l.i ≤ l.count) × (l.at ≡ l.i * l.depth)
-    × (violates_at l.words l.depth l.j l.extent (rows l.depth l.i l.points) ≡ false)
-
-abbrev pub decreases-loop-i : goal.decreases-loop-i
-decreases-loop-i l = l.count - l.i
+invariant-loop-i l = (l.i ≤ l.count) × (violates_at l.words l.depth l.j l.extent (rows l.depth l.i l.points) ≡ false)

@@ -1,7 +1,13 @@
--- `range`: both sides of the loop, as the counts say.
-use Rattle.nest_index_range.proofs.RangeLaws.{ranged}
+-- `range`: both sides of the loop.
+use Rattle.nest_index_range.specs.declared.Side.TheVariants.{Lower, Upper}
+use Rattle.nest_index_range.proofs.RangeLaws.{end-in, ranged}
 use Rattle.nest_index_range.proofs.range.Goals as goal
 
+pub end_index-requires : goal.end_index-requires
+end_index-requires c = end-in Lower c.requires
+
+pub end_index-requires-2 : goal.end_index-requires-2
+end_index-requires-2 c = end-in Upper c.requires
+
 pub returns : goal.returns
-returns c = ranged c.args.nest.now c.args.counts.now c.args.outer.now
-    c.first_index.result c.last_index.result c.first_index.ensures c.last_index.ensures
+returns c = ranged _ _ _ c.end_index.ensures c.end_index-2.ensures

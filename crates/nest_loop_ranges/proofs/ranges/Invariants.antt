@@ -1,10 +1,6 @@
 -- `ranges`: the array holds the ranges of the loops so far.
-use Prim.Native.Nat.{◌-◌, ◌≤◌}
 use Rattle.nest_loop_ranges.specs.Values.{RangesAre}
 use Rattle.nest_loop_ranges.proofs.ranges.Given as goal
 
 abbrev pub invariant-loop-i : goal.invariant-loop-i
-invariant-loop-i l = (l.i ≤ l.n) × RangesAre l.nest l.counts l.i l.r
-
-abbrev pub decreases-loop-i : goal.decreases-loop-i
-decreases-loop-i l = l.n - l.i
+invariant-loop-i l = RangesAre l.nest l.counts l.i l.r

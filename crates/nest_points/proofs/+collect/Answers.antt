@@ -73,13 +73,6 @@ collect-p-requires t c = let l = c.loop-t in let r = c.range-e in let u = c.inde
       ),
     )
 
-pub overflow_add-t : goal.overflow_add-t
-overflow_add-t t c = let u = c.index_count-n.ensures.1
-    in let v = c.loop-t-test.true in record { fits = omega arith }
-
-pub loop-t-smaller : goal.loop-t-smaller
-loop-t-smaller t c = let v = c.loop-t-test.true in omega arith
-
 pub loop-t-preserved : goal.loop-t-preserved
 loop-t-preserved t c = let l = c.loop-t in let r = c.range-e in let u = c.index_count-n.ensures.1
     in let v = c.loop-t-test.true in let f = l.invariant.4 in

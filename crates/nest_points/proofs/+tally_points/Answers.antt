@@ -76,13 +76,6 @@ tally_points-b-requires t c = let l = c.loop-t in let r = c.range-e in let u = c
       ),
     )
 
-pub overflow_add-t : goal.overflow_add-t
-overflow_add-t t c = let u = c.index_count-n.ensures.1
-    in let v = c.loop-t-test.true in record { fits = omega arith }
-
-pub loop-t-smaller : goal.loop-t-smaller
-loop-t-smaller t c = let v = c.loop-t-test.true in omega arith
-
 pub loop-t-preserved : goal.loop-t-preserved
 loop-t-preserved t c = let l = c.loop-t in let r = c.range-e in let u = c.index_count-n.ensures.1
     in let v = c.loop-t-test.true in let f = l.invariant.4 in

@@ -30,13 +30,6 @@ overflow_add-p c = let l = c.loop-t in
     let g = same-room c.args.out.now c.requires c.range-e.ensures
     c.index_count-n.ensures.0 l.t l.out l.invariant.0 l.invariant.2 in record { fits = omega arith }
 
-pub overflow_add-t : goal.overflow_add-t
-overflow_add-t c = let u = c.index_count-n.ensures.1 in let v = c.loop-t-test.true
-    in record { fits = omega arith }
-
-pub loop-t-smaller : goal.loop-t-smaller
-loop-t-smaller c = let v = c.loop-t-test.true in omega arith
-
 pub loop-t-preserved : goal.loop-t-preserved
 loop-t-preserved c = let l = c.loop-t in let v = c.loop-t-test.true in
     let g = point-out c.args.out.now c.requires c.range-e.ensures

@@ -1,4 +1,5 @@
 use mathlib.Core.Path.{sym}
+use borrow.Author.Rules.{rules}
 use native.Mathlib.Omega.{arith}
 use Rattle.lists.proofs.PartLaws.{put-nil}
 use Rattle.nest_points.proofs.StoreLaws.{copy-room, copy_more, copy_done}
@@ -15,7 +16,7 @@ pub loop-j-preserved : goal.loop-j-preserved
 loop-j-preserved c = let l = c.loop-j in (
   omega arith,
   copy_more c.args.out.now c.args.row.now c.args.at c.requires l.out l.j l.invariant.1 c.loop-j-test.true
-      (record { sfits = c.out-1.given }),
+      (search rules),
 )
 
 pub shape_of-out : goal.shape_of-out

@@ -19,13 +19,6 @@ returns-then-many c = let l = c.loop-level in let t = c.tally_points-seen in
     many-out c.requires l.invariant.1 l.invariant.0 c.loop-level-test.true _ t.ensures.0
     c.if-far.false c.if-many.true
 
-pub overflow_add-level : goal.overflow_add-level
-overflow_add-level c = let d = c.requires.0.nest.shallow
-    in let h = c.loop-level-test.true in omega arith
-
-pub loop-level-smaller : goal.loop-level-smaller
-loop-level-smaller c = let h = c.loop-level-test.true in omega arith
-
 pub loop-level-preserved : goal.loop-level-preserved
 loop-level-preserved c = let l = c.loop-level in let t = c.tally_points-seen in let h = c.loop-level-test.true in
     let f = c.if-many.false in (
@@ -38,3 +31,9 @@ loop-level-preserved c = let l = c.loop-level in let t = c.tally_points-seen in 
 pub returns : goal.returns
 returns c = let l = c.loop-level in
     admitted-out c.requires l.invariant.1 l.invariant.0 (omega (arith, l.invariant.2, c.loop-level-test.false)) l.count l.invariant.3
+
+pub returns-else-many : goal.returns-else-many
+returns-else-many c = let l = c.loop-level in let t = c.tally_points-seen in let h = c.loop-level-test.true in
+    let f = c.if-many.false in
+    admitted-out c.requires (passes c.requires l.invariant.1 l.invariant.0 h _ t.ensures.0 c.if-far.false f) (omega arith) (omega arith)
+    t.result.count (λ q. counts c.requires l.invariant.1 l.invariant.0 h _ t.ensures.0 f)

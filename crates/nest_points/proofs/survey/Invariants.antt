@@ -9,8 +9,5 @@ use Rattle.nest_points.proofs.survey.Given as goal
 
 abbrev pub invariant-loop-level : goal.invariant-loop-level
 invariant-loop-level l =
-    (1 ≤ l.level) × Passed l.bound l.most (loops_from l.limits l.counts 0 l.depth) l.level × (l.level ≤ l.depth + 1)
-    × (1 < l.level → l.count ≡ length (partial_points (l.level - 1) (loops_from l.limits l.counts 0 l.depth)))
-
-abbrev pub decreases-loop-level : goal.decreases-loop-level
-decreases-loop-level l = l.depth + 1 - l.level
+    (1 ≤ l.level) × Passed l.bound l.most (loops_from l.nest.limits.now l.counts 0 l.depth) l.level × (l.level ≤ l.depth + 1)
+    × (1 < l.level → l.count ≡ length (partial_points (l.level - 1) (loops_from l.nest.limits.now l.counts 0 l.depth)))

@@ -14,7 +14,7 @@ returns-then-not-divides c = let d = c.constant_difference-c in let g = c.common
     d.result.value t.result g.ensures d.ensures t.ensures (ap not c.if-not-divides.true)
 
 pub returns : goal.returns
-returns c = let d = c.constant_difference-c in let g = c.common_divisor-g in let t = c.divides in let x = c.least_difference-least in let y = c.greatest_difference-greatest in
+returns c = let d = c.constant_difference-c in let g = c.common_divisor-g in let t = c.divides in let x = c.extreme_difference-least in let y = c.extreme_difference-greatest in
     never-reached c.args.words.now c.args.n c.args.u c.args.v (ranges_of c.args.n c.args.ranges) g.result
     d.result.value t.result g.ensures d.ensures t.ensures (ap not c.if-not-divides.false)
     x.result.value y.result.value c.excludes_zero.result x.ensures.0 y.ensures.0 c.excludes_zero.ensures

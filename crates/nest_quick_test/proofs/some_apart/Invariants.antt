@@ -1,11 +1,7 @@
 -- `some_apart`: the dimensions from i on are left.
-use Prim.Native.Nat.{◌-◌, ◌≤◌}
 use Rattle.nest_loop_ranges.specs.Ranges.{ranges_of}
 use Rattle.nest_quick_test.proofs.SearchLaws.{FormsLeft}
 use Rattle.nest_quick_test.proofs.some_apart.Given as goal
 
 abbrev pub invariant-loop-i : goal.invariant-loop-i
-invariant-loop-i l = (l.i ≤ l.d) × FormsLeft (ranges_of l.n l.ranges) l.words l.u l.v l.d l.n l.i
-
-abbrev pub decreases-loop-i : goal.decreases-loop-i
-decreases-loop-i l = l.d - l.i
+invariant-loop-i l = FormsLeft (ranges_of l.n l.ranges) l.words l.u l.v l.d l.n l.i

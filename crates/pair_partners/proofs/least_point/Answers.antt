@@ -16,10 +16,10 @@ loop-k-preserved c = let l = c.loop-k in
       elim c.if-y-least.branch [
         | then-y-least w ↦ subst (Least (l.k + 1) c.args.count c.args.chains.now) (sym w.least-is) (least-lower c.args.count
             c.args.chains.now
-            l.k l.least c.to_index-y.result c.to_index-y.ensures w.if-y-least.true l.invariant.1)
+            l.k l.least c.from-y.result c.from-y.ensures w.if-y-least.true l.invariant.1)
         | else-y-least w ↦ subst (Least (l.k + 1) c.args.count c.args.chains.now) (sym w.least-is) (least-same c.args.count c.args.chains.now
             l.k
-            l.least c.to_index-y.result c.to_index-y.ensures (let u = w.if-y-least.false in omega arith) l.invariant.1)
+            l.least c.from-y.result c.from-y.ensures (let u = w.if-y-least.false in omega arith) l.invariant.1)
       ],
     )
 

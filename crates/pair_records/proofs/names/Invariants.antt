@@ -6,7 +6,4 @@ use Rattle.pair_records.specs.Statements.{named_in}
 use Rattle.pair_records.proofs.names.Given as goal
 
 abbrev pub invariant-loop-k : goal.invariant-loop-k
-invariant-loop-k l = (l.from ≤ l.k) × (l.k ≤ l.end) × (named_in l.count l.numbers l.from l.k l.x l.e ≡ false)
-
-abbrev pub decreases-loop-k : goal.decreases-loop-k
-decreases-loop-k l = l.end - l.k
+invariant-loop-k l = (l.from ≤ l.k) × (l.k ≤ l.end) × (named_in l.nest.count l.nest.numbers.now l.from l.k l.x l.e ≡ false)

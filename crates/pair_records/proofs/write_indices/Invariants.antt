@@ -9,7 +9,4 @@ use Rattle.dependence_vectors.specs.Candidates.{row}
 use Rattle.pair_records.proofs.write_indices.Given as goal
 
 abbrev pub invariant-loop-l : goal.invariant-loop-l
-invariant-loop-l l = (l.l ≤ ticket_loops) × (l.found ≡ put l.initial.found l.at (take l.l (indices_in (row l.depth l.points l.x))))
-
-abbrev pub decreases-loop-l : goal.decreases-loop-l
-decreases-loop-l l = ticket_loops - l.l
+invariant-loop-l l = (l.l ≤ ticket_loops) × (l.found ≡ put l.initial.found l.at (take l.l (indices_in (row l.nest.depth l.nest.points.now l.x))))

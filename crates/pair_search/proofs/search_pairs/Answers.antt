@@ -1,14 +1,9 @@
 -- `search_pairs`: with room for few points, or for any.
+use Rattle.pair_search.proofs.SearchLaws.{room-few, room-many}
 use Rattle.pair_search.proofs.search_pairs.Goals as goal
 
-pub search_few-requires : goal.search_few-requires
-search_few-requires c = (c.requires, c.is_few.ensures c.if-is_few.true)
+pub search_in_room-requires : goal.search_in_room-requires
+search_in_room-requires c = (c.requires, room-few _ _ _ _ _ _ c.requires (c.is_few.ensures c.if-is_few.true))
 
-pub returns-then-is_few : goal.returns-then-is_few
-returns-then-is_few c = c.search_few.ensures
-
-pub search_many-requires : goal.search_many-requires
-search_many-requires c = c.requires
-
-pub returns : goal.returns
-returns c = c.search_many.ensures
+pub search_in_room-requires-2 : goal.search_in_room-requires-2
+search_in_room-requires-2 c = (c.requires, room-many _ _ _ _ _ _ c.requires)

@@ -8,15 +8,15 @@ run_listed-requires c =
     let l = c.if-count-le32.true in
     (c.requires.0, omega arith, few-numbers _ c.args.count _ c.requires.0 32 l)
 
-pub overflow_mul-header : goal.overflow_mul-header
-overflow_mul-header c =
+pub overflow_mul-nest : goal.overflow_mul-nest
+overflow_mul-nest c =
     let f = few-numbers _ c.args.count _ c.requires.0 256 c.requires.1 in
     omega arith
 
-pub run_listed-requires-then-header-count-le1024 : goal.run_listed-requires-then-header-count-le1024
-run_listed-requires-then-header-count-le1024 c =
+pub run_listed-requires-then-nest-count-le1024 : goal.run_listed-requires-then-nest-count-le1024
+run_listed-requires-then-nest-count-le1024 c =
     let l = c.requires.1 in
-    (c.requires.0, omega arith, c.if-header-count-le1024.true)
+    (c.requires.0, omega arith, c.if-nest-count-le1024.true)
 
 pub run_listed-requires-2 : goal.run_listed-requires-2
 run_listed-requires-2 c =

@@ -32,7 +32,7 @@ slice_bounds-run_part-count c = (begins _ c.args.points.now c.args.count c.args.
 pub run_part-requires : goal.run_part-requires
 run_part-requires c = let l = c.loop-first in let r = c.part_size-n in (
   part_in _ c.args.points.now c.args.count c.args.store.now c.requires.0 c.requires.1 l.invariant.1 r.result r.ensures.1,
-  let m = mul-le-mul_left c.args.header.accesses r.ensures.2 in let k = l.invariant.0 in let n = c.requires.2 in omega arith,
+  let m = mul-le-mul_left c.args.nest.now.header.now.accesses r.ensures.2 in let k = l.invariant.0 in let n = c.requires.2 in omega arith,
 )
 
 pub overflow_add-first : goal.overflow_add-first

@@ -15,12 +15,6 @@ pub bounds-r-i : goal.bounds-r-i
 bounds-r-i c = let f = c.requires.1 in let t = c.loop-i-test.true
     in let l = c.loop-i.invariant.0 in omega arith
 
-pub overflow_add-i : goal.overflow_add-i
-overflow_add-i c = let f = c.requires.1 in let t = c.loop-i-test.true in omega arith
-
-pub loop-i-smaller : goal.loop-i-smaller
-loop-i-smaller c = let t = c.loop-i-test.true in omega arith
-
 pub loop-i-preserved : goal.loop-i-preserved
 loop-i-preserved c = let l = c.loop-i in let f = c.requires.1
     in let t = c.loop-i-test.true in (

@@ -6,12 +6,12 @@ use Rattle.run_statements.proofs.perform.Goals as goal
 pub rule_value-v-requires : goal.rule_value-v-requires
 rule_value-v-requires c = reads_in c.requires.0 c.args.k c.args.n c.requires.1
 
-pub offset_bounds-bases-accessed : goal.offset_bounds-bases-accessed
-offset_bounds-bases-accessed c = let l = c.requires.1 in let h = c.requires.0.arrays c.args.k
+pub offset_bounds-body-body : goal.offset_bounds-body-body
+offset_bounds-body-body c = let l = c.requires.1 in let h = c.requires.0.arrays c.args.k
     (omega arith) in search rules
 
-pub bounds-bases-accessed : goal.bounds-bases-accessed
-bounds-bases-accessed c = let l = c.requires.1 in c.requires.0.arrays
+pub bounds-body-body : goal.bounds-body-body
+bounds-body-body c = let l = c.requires.1 in c.requires.0.arrays
     c.args.k (omega arith)
 
 pub access_place-requires : goal.access_place-requires
@@ -36,7 +36,7 @@ put-requires c = let h = write-inside c.requires.0
 
 pub returns : goal.returns
 returns c = let r = c.access_place in let v = c.rule_value-v in
-    through-part c.args.numbers.now c.args.store.now c.args.count c.args.x c.args.rule c.args.constant c.args.k
+    through-part c.args.places.numbers.now c.args.store.now c.args.places.count c.args.x c.args.rule c.args.constant c.args.k
     c.args.n _ r.result v.result _
     (write-inside c.requires.0 c.args.k c.args.n c.requires.1 r.result r.ensures) r.ensures v.ensures
     c.put.ensures

@@ -9,11 +9,11 @@ slice_bounds-bases_of-end c = sym (extents-length c.requires.flat-nest)
 pub bases_of-bases-requires : goal.bases_of-bases-requires
 bases_of-bases-requires c = arrays-few c.requires
 
-pub slice_bounds-run_points-end : goal.slice_bounds-run_points-end
-slice_bounds-run_points-end c = sym (accessed-length c.requires.flat-nest)
+pub slice_bounds-body-end : goal.slice_bounds-body-end
+slice_bounds-body-end c = sym (accessed-length c.requires.flat-nest)
 
-pub slice_bounds-run_points-end-3 : goal.slice_bounds-run_points-end-3
-slice_bounds-run_points-end-3 c = sym (sizes-length c.requires.flat-nest)
+pub slice_bounds-body-end-3 : goal.slice_bounds-body-end-3
+slice_bounds-body-end-3 c = sym (sizes-length c.requires.flat-nest)
 
 pub run_points-requires : goal.run_points-requires
 run_points-requires c = let r = c.requires in let b = c.bases_of-bases in (r.few, point-in r b.result (search rules) b.ensures, body-in r)

@@ -1,15 +1,18 @@
 -- `apply_stage`: the loops, then the accesses unless the loops are refused.
-use Rattle.step_application.proofs.TakingLaws.{takes-full, takes-large, takes-both}
+use mathlib.Core.Bool.{true, false}
+use Rattle.std.proofs.lemmas.Result.{err_from_is_err_and}
+use Rattle.step_application.proofs.TakingLaws.{takes-none, takes-both}
 use Rattle.step_application.proofs.apply_stage.Goals as goal
 
-pub returns-then-stepped : goal.returns-then-stepped
-returns-then-stepped c = let g = c.stage_loops-stepped in takes-full _ _ _ _ _ c.args.depth c.args.stage c.requires g.result _ _
-    g.ensures c.if-stepped.true
+pub returns-in_err-stage_loops : goal.returns-in_err-stage_loops
+returns-in_err-stage_loops c =
+    let p = err_from_is_err_and c.from_residual.result c.from_residual.ensures.1 in
+    rw (p.1, p.2) (takes-none _ _ _ _ _ c.args.depth c.args.stage c.requires _ _ _ c.in_err-stage_loops.ensures)
 
-pub returns-then-not-stepped : goal.returns-then-not-stepped
-returns-then-not-stepped c = let g = c.stage_loops-stepped in takes-large _ _ _ _ _ c.args.depth c.args.stage c.requires
-    g.result _ _ g.ensures c.if-stepped.false c.if-not-stepped.true
+pub returns-in_err-change_accesses : goal.returns-in_err-change_accesses
+returns-in_err-change_accesses c =
+    let p = err_from_is_err_and c.from_residual-in_err-change_accesses.result c.from_residual-in_err-change_accesses.ensures.1 in
+    rw (p.1, p.2) (takes-both _ _ _ _ _ c.args.depth c.args.stage c.requires _ _ c.in_ok-stage_loops.ensures false _ c.in_err-change_accesses.ensures)
 
 pub returns : goal.returns
-returns c = let g = c.stage_loops-stepped in let a = c.change_accesses-small in takes-both _ _ _ _ _ c.args.depth c.args.stage c.requires g.result _ _ g.ensures
-    c.if-stepped.false c.if-not-stepped.false a.result _ a.ensures
+returns c = takes-both _ _ _ _ _ c.args.depth c.args.stage c.requires _ _ c.in_ok-stage_loops.ensures true _ c.in_ok-change_accesses.ensures

@@ -17,8 +17,8 @@ skew_loop-requires c =
     let g = factor-small c.in-Skew.e.factor h.1 in
     record { nest = c.requires.nest; place = omega arith; near = rw (small-back c.in-Skew.e.factor g) g }
 
-pub overflow_cast-w : goal.overflow_cast-w
-overflow_cast-w c = let h = there _ _ c.args.depth
+pub overflow_cast-e : goal.overflow_cast-e
+overflow_cast-e c = let h = there _ _ c.args.depth
     c.args.stage (Section c.in-Section.e) c.in-Section.is c.requires in let w = h.2.high in record { fits = omega arith }
 
 pub section_loop-requires : goal.section_loop-requires

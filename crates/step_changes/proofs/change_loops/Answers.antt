@@ -1,51 +1,37 @@
-use mathlib.Core.Path.{◌∙◌}
-use Prim.Native.Nat.{◌-◌}
+use mathlib.Core.Path.{◌≡◌, refl}
+use mathlib.Core.Bool.{true, false}
+use Prim.Native.Nat.{◌+◌, ◌-◌}
 use native.Mathlib.Omega.{arith}
+use Rattle.std.proofs.lemmas.Result.{err_from_is_err_and}
 use Rattle.step_changes.proofs.MoveLaws.{loops-begin, next-in, loops-stop, loops-go-on, loops-end}
 use Rattle.step_changes.proofs.change_loops.Goals as goal
 
-pub loop-left-init : goal.loop-left-init
-loop-left-init c = let a = c.args in loops-begin a.change a.limits.now a.counts.now a.start a.many a.by c.requires
-
-pub overflow_add-k : goal.overflow_add-k
-overflow_add-k c = let p = c.requires.room in let l = c.loop-left.invariant.low in omega arith
-
-pub overflow_add-k-in-loop-left : goal.overflow_add-k-in-loop-left
-overflow_add-k-in-loop-left c = let p = c.requires.room in let l = c.loop-left.invariant.low
-    in omega arith
+pub loop-k-init : goal.loop-k-init
+loop-k-init c = let a = c.args in
+    let e : a.start + a.many - a.start ≡ a.many = omega arith in
+    rw e (loops-begin a.change a.limits.now a.counts.now a.start a.many a.by c.requires)
 
 pub change_loop-requires : goal.change_loop-requires
-change_loop-requires c = let a = c.args in let l = c.loop-left in next-in a.change a.limits.now a.counts.now a.start a.many a.by c.requires l.limits l.counts l.left (l.left - 1)
-    l.invariant (omega arith)
+change_loop-requires c = let a = c.args in let l = c.loop-k in
+    let e : l.k - 1 ≡ a.start + (l.k - 1 - a.start) = omega arith in
+    rw e (next-in a.change a.limits.now a.counts.now a.start a.many a.by c.requires l.limits l.counts (l.k - a.start) (l.k - 1 - a.start)
+    l.invariant (omega arith))
 
-pub shape_of-limits-then-not-change_loop : goal.shape_of-limits-then-not-change_loop
-shape_of-limits-then-not-change_loop c = c.change_loop.ensures.words
-    ∙ c.loop-left.invariant.words
+pub returns-in_err-change_loop : goal.returns-in_err-change_loop
+returns-in_err-change_loop c = let a = c.args in let l = c.loop-k in
+    let e : l.k - 1 ≡ a.start + (l.k - 1 - a.start) = omega arith in
+    let p = err_from_is_err_and c.from_residual.result c.from_residual.ensures.1 in
+    rw p.1 (loops-stop a.change a.limits.now a.counts.now
+    a.start a.many a.by c.requires l.limits l.counts (l.k - a.start) (l.k - 1 - a.start) l.invariant (omega arith)
+    false _ _ (rw e at c.in_err-change_loop.ensures) refl)
 
-pub shape_of-counts-then-not-change_loop : goal.shape_of-counts-then-not-change_loop
-shape_of-counts-then-not-change_loop c = c.change_loop.ensures.counts
-    ∙ c.loop-left.invariant.counts
-
-pub returns-then-not-change_loop : goal.returns-then-not-change_loop
-returns-then-not-change_loop c = let a = c.args
-    in let l = c.loop-left in loops-stop a.change a.limits.now a.counts.now
-    a.start a.many a.by c.requires l.limits l.counts l.left (l.left - 1) l.invariant (omega arith)
-    c.change_loop.result _ _ c.change_loop.ensures
-    c.if-not-change_loop.true
-
-pub loop-left-preserved : goal.loop-left-preserved
-loop-left-preserved c = let a = c.args
-    in let l = c.loop-left in loops-go-on a.change a.limits.now a.counts.now
-    a.start a.many a.by c.requires l.limits l.counts l.left (l.left - 1) l.invariant (omega arith)
-    c.change_loop.result _ _ c.change_loop.ensures
-    c.if-not-change_loop.false
-
-pub shape_of-limits : goal.shape_of-limits
-shape_of-limits c = c.loop-left.invariant.words
-
-pub shape_of-counts : goal.shape_of-counts
-shape_of-counts c = c.loop-left.invariant.counts
+pub loop-k-preserved : goal.loop-k-preserved
+loop-k-preserved c = let a = c.args in let l = c.loop-k in
+    let e : l.k - 1 ≡ a.start + (l.k - 1 - a.start) = omega arith in
+    loops-go-on a.change a.limits.now a.counts.now
+    a.start a.many a.by c.requires l.limits l.counts (l.k - a.start) (l.k - 1 - a.start) l.invariant (omega arith)
+    true _ _ (rw e at c.in_ok-change_loop.ensures) refl
 
 pub returns : goal.returns
-returns c = let a = c.args in let l = c.loop-left in loops-end a.change a.limits.now
-    a.counts.now a.start a.many a.by c.requires l.limits l.counts l.left l.invariant (omega arith)
+returns c = let a = c.args in let l = c.loop-k in loops-end a.change a.limits.now
+    a.counts.now a.start a.many a.by c.requires l.limits l.counts (l.k - a.start) l.invariant (omega arith)

@@ -1,5 +1,7 @@
-use mathlib.Core.Path.{◌∙◌}
+use mathlib.Core.Path.{refl}
+use mathlib.Core.Bool.{true, false}
 use native.Mathlib.Omega.{arith}
+use Rattle.std.proofs.lemmas.Result.{err_from_is_err_and}
 use Rattle.step_changes.proofs.SideLaws.{side-begins, next-there, next-room, next_small, side-stops, side-goes-on, side-ends}
 use Rattle.step_changes.proofs.change_side.Goals as goal
 
@@ -29,17 +31,14 @@ put_limit-requires c = let a = c.args
     in let l = c.loop-i in next-room a.change a.words.now a.from a.n a.to a.m a.count
     c.requires l.words l.i l.invariant c.loop-i-test.true
 
-pub shape_of-words-then-not-put_limit : goal.shape_of-words-then-not-put_limit
-shape_of-words-then-not-put_limit c = c.put_limit.ensures.room ∙ c.loop-i.invariant.room
-
-pub returns-then-not-put_limit : goal.returns-then-not-put_limit
-returns-then-not-put_limit c = let a = c.args
+pub returns-in_err-put_limit : goal.returns-in_err-put_limit
+returns-in_err-put_limit c = let a = c.args
     in let l = c.loop-i in
-    side-stops a.change a.words.now a.from a.n a.to a.m a.count c.requires l.words l.i l.invariant
+    let p = err_from_is_err_and c.from_residual.result c.from_residual.ensures.1 in
+    rw p.1 (side-stops a.change a.words.now a.from a.n a.to a.m a.count c.requires l.words l.i l.invariant
     c.loop-i-test.true c.limit_at-l.result
     c.limit_at-l.ensures c.change_limit-x.result
-    c.change_limit-x.ensures c.put_limit.result _ c.put_limit.ensures
-    c.if-not-put_limit.true
+    c.change_limit-x.ensures false _ c.in_err-put_limit.ensures refl)
 
 pub loop-i-preserved : goal.loop-i-preserved
 loop-i-preserved c = let a = c.args
@@ -47,11 +46,7 @@ loop-i-preserved c = let a = c.args
     side-goes-on a.change a.words.now a.from a.n a.to a.m a.count c.requires l.words l.i l.invariant
     c.loop-i-test.true c.limit_at-l.result
     c.limit_at-l.ensures c.change_limit-x.result
-    c.change_limit-x.ensures c.put_limit.result _ c.put_limit.ensures
-    c.if-not-put_limit.false
-
-pub shape_of-words : goal.shape_of-words
-shape_of-words c = c.loop-i.invariant.room
+    c.change_limit-x.ensures true _ c.in_ok-put_limit.ensures refl
 
 pub returns : goal.returns
 returns c = let a = c.args in let l = c.loop-i in side-ends a.change a.words.now a.from a.n

@@ -1,6 +1,6 @@
 use mathlib.Core.Path.{refl, sym, ◌∙◌}
 use mathlib.Core.Bool.{false}
-use Prim.Native.Nat.{◌<◌}
+use Prim.Native.Nat.{◌+◌, ◌<◌}
 use native.Mathlib.Omega.{arith}
 use Rattle.dependence_vectors.proofs.DepthLaws.{depth-positive}
 use Rattle.step_directions.proofs.SetLaws.{none-marked, fill-first, fill-next, fill-all}
@@ -15,15 +15,15 @@ overflow_sub-n c =
     let positive : 0 < c.stride-stride.result = depth-positive c.args.depth c.stride-stride.result c.stride-stride.ensures.0 in
     positive
 
+pub nonzero_div-stride : goal.nonzero_div-stride
+nonzero_div-stride c = depth-positive c.args.depth c.stride-stride.result c.stride-stride.ensures.0
+
 pub loop-n-init : goal.loop-n-init
 loop-n-init c = fill-first nothing c.args.depth c.args.marks.now c.requires.few c.stride-stride.result
     c.stride-stride.ensures.0 c.requires.room
 
 pub bounds-marks-n : goal.bounds-marks-n
 bounds-marks-n c = let w = c.loop-n.invariant.whole in let t = c.loop-n-test.true in omega arith
-
-pub overflow_add-n : goal.overflow_add-n
-overflow_add-n c = let t = c.loop-n-test.true in let b = c.stride-stride.ensures.1 in omega arith
 
 pub loop-n-smaller : goal.loop-n-smaller
 loop-n-smaller c =
@@ -46,4 +46,15 @@ returns c =
       vectors = none-marked l.marks c.args.depth
           (fill-all nothing c.args.depth c.args.marks.now c.requires.few c.stride-stride.result c.stride-stride.ensures.0 l.marks l.n
           l.invariant c.loop-n-test.false);
+    }
+
+pub returns-2 : goal.returns-2
+returns-2 c =
+    let l = c.loop-n in
+    let s = c.stride-stride.result in
+    let e = c.stride-stride.ensures.0 in
+    let next = fill-next nothing c.args.depth c.args.marks.now c.requires.few s e l.marks l.n l.invariant false c.loop-n-test.true (λ v k e. refl) in
+    record {
+      room = next.whole;
+      vectors = none-marked _ c.args.depth (fill-all nothing c.args.depth c.args.marks.now c.requires.few s e _ (l.n + s) next (omega arith));
     }

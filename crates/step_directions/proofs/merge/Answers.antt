@@ -1,7 +1,7 @@
 use mathlib.Core.Path.{sym, ◌∙◌, ap, ap₂}
 use mathlib.Core.Bool.{Bool, false, ◌||◌}
 use mathlib.Core.List.{List}
-use Prim.Native.Nat.{◌<◌}
+use Prim.Native.Nat.{◌+◌, ◌<◌}
 use native.Mathlib.Omega.{arith}
 use lib.ListN.{get_or}
 use Rattle.integers.specs.Sign.{Sign}
@@ -18,6 +18,9 @@ overflow_sub-n c =
     let positive : 0 < c.stride-stride.result = depth-positive c.args.depth c.stride-stride.result c.stride-stride.ensures.0 in
     positive
 
+pub nonzero_div-stride : goal.nonzero_div-stride
+nonzero_div-stride c = depth-positive c.args.depth c.stride-stride.result c.stride-stride.ensures.0
+
 pub loop-n-init : goal.loop-n-init
 loop-n-init c =
     let wanted : List Sign → Bool = both c.args.marks.now c.args.row.now in
@@ -30,15 +33,9 @@ bounds-marks-n c = let w = c.loop-n.invariant.whole in let t = c.loop-n-test.tru
 pub bounds-row-n : goal.bounds-row-n
 bounds-row-n c = let w = c.requires.1 in let t = c.loop-n-test.true in omega arith
 
-pub either-requires : goal.either-requires
-either-requires c = tt
-
 pub bounds-marks-n-in-loop-n : goal.bounds-marks-n-in-loop-n
 bounds-marks-n-in-loop-n c = let w = c.loop-n.invariant.whole in let t = c.loop-n-test.true in omega
     arith
-
-pub overflow_add-n : goal.overflow_add-n
-overflow_add-n c = let t = c.loop-n-test.true in let b = c.stride-stride.ensures.1 in omega arith
 
 pub loop-n-smaller : goal.loop-n-smaller
 loop-n-smaller c =
@@ -50,9 +47,9 @@ loop-n-preserved c =
     let wanted : List Sign → Bool = both c.args.marks.now c.args.row.now in
     let l = c.loop-n in
     fill-next wanted c.args.depth c.args.marks.now c.requires.0.few c.stride-stride.result c.stride-stride.ensures.0 l.marks l.n
-    l.invariant c.either.result
+    l.invariant _
     c.loop-n-test.true
-    (λ v k e. c.either.ensures ∙ ap₂ ◌||◌ (ap (λ m. get_or l.marks m false) (sym e) ∙ l.invariant.left v k (omega arith))
+    (λ v k e. ap₂ ◌||◌ (ap (λ m. get_or l.marks m false) (sym e) ∙ l.invariant.left v k (omega arith))
     (ap (λ m. get_or c.args.row.now m false) (sym e)))
 
 pub shape_of-marks : goal.shape_of-marks
@@ -66,4 +63,19 @@ returns c =
       vectors = merged-row c.args.marks.now c.args.row.now l.marks c.args.depth
           (fill-all wanted c.args.depth c.args.marks.now c.requires.0.few c.stride-stride.result c.stride-stride.ensures.0 l.marks l.n
           l.invariant c.loop-n-test.false);
+    }
+
+pub returns-2 : goal.returns-2
+returns-2 c =
+    let wanted : List Sign → Bool = both c.args.marks.now c.args.row.now in
+    let l = c.loop-n in
+    let s = c.stride-stride.result in
+    let e = c.stride-stride.ensures.0 in
+    let next = fill-next wanted c.args.depth c.args.marks.now c.requires.0.few s e l.marks l.n l.invariant _ c.loop-n-test.true
+    (λ v k e. ap₂ ◌||◌ (ap (λ m. get_or l.marks m false) (sym e) ∙ l.invariant.left v k (omega arith))
+    (ap (λ m. get_or c.args.row.now m false) (sym e))) in
+    record {
+      room = next.whole;
+      vectors = merged-row c.args.marks.now c.args.row.now _ c.args.depth
+          (fill-all wanted c.args.depth c.args.marks.now c.requires.0.few s e _ (l.n + s) next (omega arith));
     }

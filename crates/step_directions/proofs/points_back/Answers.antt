@@ -1,4 +1,4 @@
-use Prim.Native.Nat.{◌<◌}
+use Prim.Native.Nat.{◌+◌, ◌<◌}
 use native.Mathlib.Omega.{arith}
 use Rattle.dependence_vectors.proofs.DepthLaws.{depth-positive, depth-middle, depth-next}
 use Rattle.step_directions.proofs.BackLaws.{none_first, none-next, one-back, no-back}
@@ -7,8 +7,11 @@ use Rattle.step_directions.proofs.points_back.Goals as goal
 pub stride-stride-requires : goal.stride-stride-requires
 stride-stride-requires c = c.requires
 
-pub overflow_add-n : goal.overflow_add-n
-overflow_add-n c = let b = c.stride-stride.ensures.1 in omega arith
+pub overflow_step-n : goal.overflow_step-n
+overflow_step-n c = let b = c.stride-stride.ensures.1 in omega arith
+
+pub nonzero_div-stride : goal.nonzero_div-stride
+nonzero_div-stride c = depth-positive c.args.s.depth c.stride-stride.result c.stride-stride.ensures.0
 
 pub loop-n-init : goal.loop-n-init
 loop-n-init c =
@@ -28,9 +31,6 @@ returns-then-marks-n c =
     let s = c.args.s in
     let l = c.loop-n in
     one-back s.marks s.depth c.requires l.n l.invariant.1 l.invariant.0 c.loop-n-test.true c.if-marks-n.true
-
-pub overflow_add-n-in-loop-n : goal.overflow_add-n-in-loop-n
-overflow_add-n-in-loop-n c = let t = c.loop-n-test.true in let b = c.stride-stride.ensures.1 in omega arith
 
 pub loop-n-smaller : goal.loop-n-smaller
 loop-n-smaller c =
@@ -55,3 +55,12 @@ returns c =
     let s = c.args.s in
     let l = c.loop-n in
     no-back s.marks s.depth c.requires l.n c.loop-n-test.false l.invariant.2
+
+pub returns-else-marks-n : goal.returns-else-marks-n
+returns-else-marks-n c =
+    let s = c.args.s in
+    let l = c.loop-n in
+    let w = c.stride-stride.result in
+    let e = c.stride-stride.ensures.0 in
+    no-back s.marks s.depth c.requires (l.n + w) (omega arith)
+    (none-next s.marks s.depth c.requires w e l.n l.invariant.1 c.if-marks-n.false l.invariant.2)

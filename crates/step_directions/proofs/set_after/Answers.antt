@@ -1,7 +1,7 @@
 use mathlib.Core.Path.{sym, subst}
 use mathlib.Core.Bool.{Bool, false}
 use mathlib.Core.List.{List}
-use Prim.Native.Nat.{ℕ, ◌-◌, ◌/◌, ◌≤◌, ◌<◌}
+use Prim.Native.Nat.{ℕ, ◌+◌, ◌-◌, ◌/◌, ◌≤◌, ◌<◌}
 use native.Mathlib.Omega.{arith}
 use lib.ListN.{replicate, length-replicate}
 use Rattle.integers.specs.Sign.{Sign}
@@ -28,6 +28,9 @@ overflow_sub-n c =
     let positive : 0 < c.stride-stride.result = depth-positive depth c.stride-stride.result c.stride-stride.ensures.0 in
     positive
 
+pub nonzero_div-stride : goal.nonzero_div-stride
+nonzero_div-stride c = depth-positive c.depth_after-depth.result c.stride-stride.result c.stride-stride.ensures.0
+
 pub loop-n-init : goal.loop-n-init
 loop-n-init c =
     let wanted : List Sign → Bool = came c.args.s.marks (step_of c.args.step) in
@@ -49,9 +52,6 @@ has_preimage-requires c =
 
 pub bounds-marks-n : goal.bounds-marks-n
 bounds-marks-n c = c.loop-n-test.true
-
-pub overflow_add-n : goal.overflow_add-n
-overflow_add-n c = let t = c.loop-n-test.true in let b = c.stride-stride.ensures.1 in omega arith
 
 pub loop-n-smaller : goal.loop-n-smaller
 loop-n-smaller c =
@@ -83,3 +83,19 @@ returns c =
     c.depth_after-depth.ensures
     (fill-all wanted depth (replicate vector_count false) few c.stride-stride.result c.stride-stride.ensures.0 l.marks l.n
     l.invariant c.loop-n-test.false)
+
+pub returns-2 : goal.returns-2
+returns-2 c =
+    let wanted : List Sign → Bool = came c.args.s.marks (step_of c.args.step) in
+    let depth : ℕ = c.depth_after-depth.result in
+    let few : depth ≤ most_loops = subst (λ m. m ≤ most_loops) (sym c.depth_after-depth.ensures) (few-after (step_of c.args.step) c.args.s.depth c.requires.few c.requires.there) in
+    let named : loops_named (step_of c.args.step) ≤ depth = subst (λ m. loops_named (step_of c.args.step) ≤ m) (sym c.depth_after-depth.ensures)
+    (named-after (step_of c.args.step) c.args.s.depth c.requires.there) in
+    let l = c.loop-n in
+    let s = c.stride-stride.result in
+    let e = c.stride-stride.ensures.0 in
+    let next = fill-next wanted depth (replicate vector_count false) few s e l.marks l.n l.invariant
+    c.has_preimage.result c.loop-n-test.true (λ v k. c.has_preimage.ensures v (omega arith) (omega arith)) in
+    pulled-after c.args.s (record { marks = _; depth = depth }) (step_of c.args.step) c.requires.there
+    c.depth_after-depth.ensures
+    (fill-all wanted depth (replicate vector_count false) few s e _ (l.n + s) next (omega arith))

@@ -1,8 +1,10 @@
 use Prim.Native.Nat.{◌+◌}
-use mathlib.Core.Path.{◌∙◌}
+use mathlib.Core.Path.{refl, ◌∙◌}
+use mathlib.Core.Bool.{true, false}
+use Rattle.std.proofs.lemmas.Result.{err_from_is_err_and}
 use native.Mathlib.Omega.{arith}
 use Rattle.step_exchange.proofs.PairLaws.{put_in}
-use Rattle.step_exchange.proofs.AnswerLaws.{full-outer, full-inner, outer-large, both-put}
+use Rattle.step_exchange.proofs.AnswerLaws.{full-outer, full-inner, outer-large, inner-large, both-put}
 use borrow.Author.Rules.{rules}
 use Rattle.step_exchange.proofs.exchange_pair.Goals as goal
 
@@ -29,23 +31,38 @@ put_filled_loop-requires c = let p = c.requires.place in
     c.if-is_full.false c.requires.words
     c.requires.counts (omega arith)
 
-pub returns-then-not-put_filled_loop : goal.returns-then-not-put_filled_loop
-returns-then-not-put_filled_loop c = let o = c.fill_outer-outer in
+pub returns-in_err-put_filled_loop : goal.returns-in_err-put_filled_loop
+returns-in_err-put_filled_loop c = let o = c.fill_outer-outer in
     let f = c.is_full in
     let i = c.fill_inner-inner in
     let g = c.is_full-2 in
     let x = c.put_filled_loop in
-    outer-large c.args.limits.now c.args.counts.now c.args.a c.requires _ _ o.result o.ensures f.result f.ensures
+    let p = err_from_is_err_and c.from_residual.result c.from_residual.ensures.1 in
+    rw (p.1, p.2) (outer-large c.args.limits.now c.args.counts.now c.args.a c.requires _ _ o.result o.ensures f.result f.ensures
     c.if-is_full.false _ _ i.result i.ensures g.result g.ensures
     c.if-is_full-2.false
-    x.result _ _ x.ensures c.if-not-put_filled_loop.true (x.auto.words ∙ c.requires.words) (x.auto.counts ∙ c.requires.counts)
+    false _ _ c.in_err-put_filled_loop.ensures refl (x.auto.words ∙ c.requires.words) (x.auto.counts ∙ c.requires.counts))
+
+pub returns-in_err-put_filled_loop-2 : goal.returns-in_err-put_filled_loop-2
+returns-in_err-put_filled_loop-2 c = let o = c.fill_outer-outer in
+    let f = c.is_full in
+    let i = c.fill_inner-inner in
+    let g = c.is_full-2 in
+    let x = c.put_filled_loop in
+    let y = c.put_filled_loop-2 in
+    let p = err_from_is_err_and c.from_residual-in_err-put_filled_loop-2.result c.from_residual-in_err-put_filled_loop-2.ensures.1 in
+    rw (p.1, p.2) (inner-large c.args.limits.now c.args.counts.now c.args.a c.requires _ _ o.result o.ensures f.result f.ensures
+    c.if-is_full.false _ _ i.result i.ensures g.result g.ensures
+    c.if-is_full-2.false
+    true _ _ c.in_ok-put_filled_loop.ensures refl false
+    _ _ c.in_err-put_filled_loop-2.ensures refl (y.auto.words ∙ x.auto.words ∙ c.requires.words) (y.auto.counts ∙ x.auto.counts ∙ c.requires.counts))
 
 pub overflow_add-a : goal.overflow_add-a
 overflow_add-a c = let p = c.requires.place
     in search rules
 
-pub put_filled_loop-small-requires : goal.put_filled_loop-small-requires
-put_filled_loop-small-requires c = let p = c.requires.place in
+pub put_filled_loop-requires-2 : goal.put_filled_loop-requires-2
+put_filled_loop-requires-2 c = let p = c.requires.place in
     let i = c.fill_inner-inner in
     let g = c.is_full-2 in
     let x = c.put_filled_loop in
@@ -59,9 +76,9 @@ returns c = let o = c.fill_outer-outer in
     let i = c.fill_inner-inner in
     let g = c.is_full-2 in
     let x = c.put_filled_loop in
-    let y = c.put_filled_loop-small in
+    let y = c.put_filled_loop-2 in
     both-put c.args.limits.now c.args.counts.now c.args.a c.requires _ _ o.result o.ensures f.result f.ensures
     c.if-is_full.false _ _ i.result i.ensures g.result g.ensures
     c.if-is_full-2.false
-    x.result _ _ x.ensures c.if-not-put_filled_loop.false y.result
-    _ _ y.ensures (y.auto.words ∙ x.auto.words ∙ c.requires.words) (y.auto.counts ∙ x.auto.counts ∙ c.requires.counts)
+    true _ _ c.in_ok-put_filled_loop.ensures refl true
+    _ _ c.in_ok-put_filled_loop-2.ensures refl (y.auto.words ∙ x.auto.words ∙ c.requires.words) (y.auto.counts ∙ x.auto.counts ∙ c.requires.counts)

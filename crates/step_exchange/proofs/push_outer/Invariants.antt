@@ -1,5 +1,5 @@
 use mathlib.Core.List.{flat_map}
-use Prim.Native.Nat.{◌+◌, ◌-◌, ◌≤◌}
+use Prim.Native.Nat.{◌+◌, ◌≤◌}
 use Rattle.model.specs.Limits.{outer_coefficient, outer_part}
 use Rattle.nest_flat.specs.Flat.{limits_at}
 use Rattle.step_exchange_sides.specs.Filling.{Adds}
@@ -10,6 +10,3 @@ abbrev pub invariant-loop-k : goal.invariant-loop-k
 invariant-loop-k l = (l.k ≤ l.many)
     × Adds l.a l.initial.filling 0 (flat_map (λ x. outer_part l.a (limits_of l.words l.a l.same) (limits_of l.words l.a l.other) (outer_coefficient l.a x) x)
     (limits_at l.words (l.a + 1) l.from l.k)) l.filling l.held
-
-abbrev pub decreases-loop-k : goal.decreases-loop-k
-decreases-loop-k l = l.many - l.k

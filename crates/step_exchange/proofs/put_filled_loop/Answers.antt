@@ -1,27 +1,29 @@
+use mathlib.Core.Path.{refl}
+use mathlib.Core.Bool.{true, false}
 use native.Mathlib.Omega.{arith}
 use lib.ListN.{length-set}
+use Rattle.std.proofs.lemmas.Result.{err_from_is_err_and}
 use Rattle.step_exchange.proofs.PairLaws.{lower-refused, upper-refused, both-put}
 use Rattle.step_exchange.proofs.put_filled_loop.Goals as goal
 
-pub returns-then-not-put_filled_side : goal.returns-then-not-put_filled_side
-returns-then-not-put_filled_side c = let w = c.put_filled_side in lower-refused c.args.words.now
-    c.args.counts.now c.args.k c.args.low.now c.args.up.now c.args.held w.result _ _ _ w.ensures
-    c.if-not-put_filled_side.true
+pub returns-in_err-put_filled_side : goal.returns-in_err-put_filled_side
+returns-in_err-put_filled_side c = let p = err_from_is_err_and c.from_residual.result c.from_residual.ensures.1 in
+    rw p.1 (lower-refused c.args.words.now
+    c.args.counts.now c.args.k c.args.low.now c.args.up.now c.args.held false _ _ _ c.in_err-put_filled_side.ensures
+    refl)
 
-pub returns-then-not-put_filled_side-2 : goal.returns-then-not-put_filled_side-2
-returns-then-not-put_filled_side-2 c = let w = c.put_filled_side in
-    let v = c.put_filled_side-2 in
-    upper-refused c.args.words.now c.args.counts.now c.args.k c.args.low.now c.args.up.now c.args.held w.result _
-    w.ensures c.if-not-put_filled_side.false v.result _ v.ensures _
-    c.if-not-put_filled_side-2.true
+pub returns-in_err-put_filled_side-2 : goal.returns-in_err-put_filled_side-2
+returns-in_err-put_filled_side-2 c =
+    let p = err_from_is_err_and c.from_residual-in_err-put_filled_side-2.result c.from_residual-in_err-put_filled_side-2.ensures.1 in
+    rw p.1 (upper-refused c.args.words.now c.args.counts.now c.args.k c.args.low.now c.args.up.now c.args.held true _
+    c.in_ok-put_filled_side.ensures refl false _ c.in_err-put_filled_side-2.ensures _
+    refl)
 
 pub bounds-counts-k-2 : goal.bounds-counts-k-2
 bounds-counts-k-2 c = let p = c.requires.place
     in let q = c.requires.counts in simp length-set (omega arith)
 
 pub returns : goal.returns
-returns c = let w = c.put_filled_side in
-    let v = c.put_filled_side-2 in
-    both-put c.args.words.now c.args.counts.now c.args.k c.args.low.now c.args.up.now c.args.held w.result _
-    w.ensures c.if-not-put_filled_side.false v.result _ v.ensures
-    c.if-not-put_filled_side-2.false
+returns c = both-put c.args.words.now c.args.counts.now c.args.k c.args.low.now c.args.up.now c.args.held true _
+    c.in_ok-put_filled_side.ensures refl true _ c.in_ok-put_filled_side-2.ensures
+    refl

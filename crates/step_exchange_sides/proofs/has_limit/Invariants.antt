@@ -1,6 +1,6 @@
 use mathlib.Core.Path.{◌≡◌}
 use mathlib.Core.Bool.{false}
-use Prim.Native.Nat.{◌-◌, ◌≤◌}
+use Prim.Native.Nat.{◌≤◌}
 use Rattle.lists.specs.Tests.{any}
 use Rattle.model.specs.Limits.{same_limit}
 use Rattle.ticket_loops.specs.LoopReads.{limit_of}
@@ -9,6 +9,3 @@ use Rattle.step_exchange_sides.proofs.has_limit.Given as goal
 
 abbrev pub invariant-loop-k : goal.invariant-loop-k
 invariant-loop-k l = (l.k ≤ l.count) × (any (same_limit (limit_of l.n l.x)) (limits_at l.filling l.n 0 l.k) ≡ false)
-
-abbrev pub decreases-loop-k : goal.decreases-loop-k
-decreases-loop-k l = l.count - l.k

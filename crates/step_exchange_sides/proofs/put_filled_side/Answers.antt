@@ -1,4 +1,6 @@
-use mathlib.Core.Path.{◌∙◌}
+use mathlib.Core.Path.{refl}
+use mathlib.Core.Bool.{true, false}
+use Rattle.std.proofs.lemmas.Result.{err_from_is_err_and}
 use native.Mathlib.Omega.{arith}
 use borrow.Author.Rules.{rules}
 use Rattle.step_exchange_sides.proofs.SideLaws.{side-start, side-room, held, limit-room, side-refused, side-passed, side-more, side-done}
@@ -21,32 +23,26 @@ put_limit-requires c = let l = c.loop-k in
     limit-room c.args.words.now c.args.j c.args.filling.now c.args.count c.args.n c.requires l.k
     c.loop-k-test.true l.words l.invariant.2
 
-pub shape_of-words-then-not-put_limit : goal.shape_of-words-then-not-put_limit
-shape_of-words-then-not-put_limit c = let l = c.loop-k in
-    c.put_limit.ensures.room ∙ side-room c.args.words.now c.args.j c.args.filling.now c.args.count c.args.n
-    c.requires l.k l.words l.invariant.0 l.invariant.2
-
-pub returns-then-not-put_limit : goal.returns-then-not-put_limit
-returns-then-not-put_limit c = let l = c.loop-k in
+pub returns-in_err-put_limit : goal.returns-in_err-put_limit
+returns-in_err-put_limit c = let l = c.loop-k in
     let x = c.limit_of-x in
-    let w = c.put_limit in
-    side-not c.args.words.now c.args.j c.args.filling.now c.args.count c.args.n c.requires _
+    let p = err_from_is_err_and c.from_residual.result c.from_residual.ensures.1 in
+    rw p.1 (side-not c.args.words.now c.args.j c.args.filling.now c.args.count c.args.n c.requires _
     (side-refused c.args.words.now c.args.j c.args.filling.now c.args.count c.args.n c.requires l.k
     c.loop-k-test.true l.words l.invariant.2
-    x.result (x.ensures c.args.n c.requires.shallow).is w.result _ w.ensures c.if-not-put_limit.true)
+    x.result (x.ensures c.args.n c.requires.shallow).is false _ c.in_err-put_limit.ensures refl))
 
 pub loop-k-preserved : goal.loop-k-preserved
 loop-k-preserved c = let l = c.loop-k in
     let x = c.limit_of-x in
-    let w = c.put_limit in
-    let is = (x.ensures c.args.n c.requires.shallow).is in
-    let t = c.if-not-put_limit.false in (
+    let w = c.in_ok-put_limit in
+    let is = (x.ensures c.args.n c.requires.shallow).is in (
       omega arith,
       side-passed c.args.words.now c.args.j c.args.filling.now c.args.count c.args.n c.requires l.k
-          c.loop-k-test.true l.words l.invariant.2 x.result is w.result _ w.ensures t
+          c.loop-k-test.true l.words l.invariant.2 x.result is true _ w.ensures refl
           l.invariant.1,
       side-more c.args.words.now c.args.j c.args.filling.now c.args.count c.args.n c.requires l.k
-          c.loop-k-test.true l.words l.invariant.2 x.result is w.result _ w.ensures t,
+          c.loop-k-test.true l.words l.invariant.2 x.result is true _ w.ensures refl,
     )
 
 pub shape_of-words : goal.shape_of-words

@@ -1,7 +1,7 @@
 -- `put_filled_side`: limit by limit.
 use mathlib.Core.Path.{◌≡◌}
 use mathlib.Core.Bool.{true}
-use Prim.Native.Nat.{◌-◌, ◌≤◌}
+use Prim.Native.Nat.{◌≤◌}
 use Rattle.lists.specs.Tests.{all}
 use Rattle.model.specs.Judge.{small_limit}
 use Rattle.nest_flat.specs.Flat.{limits_at}
@@ -11,6 +11,3 @@ use Rattle.step_exchange_sides.proofs.put_filled_side.Given as goal
 abbrev pub invariant-loop-k : goal.invariant-loop-k
 invariant-loop-k l = (l.k ≤ l.count) × (all small_limit (limits_at l.filling l.n 0 l.k) ≡ true)
     × (l.words ≡ lay_limits l.initial.words l.j (limits_at l.filling l.n 0 l.k))
-
-abbrev pub decreases-loop-k : goal.decreases-loop-k
-decreases-loop-k l = l.count - l.k

@@ -1,4 +1,5 @@
-use mathlib.Core.Path.{◌≡◌, sym, ◌∙◌}
+use mathlib.Core.Path.{◌≡◌, refl, sym, ◌∙◌}
+use Rattle.std.proofs.lemmas.Result.{err_from_is_err_and}
 use native.Mathlib.Omega.{arith}
 use lib.ListN.{length}
 use Rattle.nest_flat.specs.FlatNests.{FlatNest, flat_nest}
@@ -27,31 +28,20 @@ directions_after-after-requires c =
 pub points_back-requires : goal.points_back-requires
 points_back-requires c = c.directions_after-after.ensures.1
 
-pub shape_of-limits-then-points_back : goal.shape_of-limits-then-points_back
-shape_of-limits-then-points_back c =
-    let limits-kept : length c.loop-k.limits ≡ length c.args.limits.now = c.loop-k.invariant.flat-nest.nest.words ∙ sym c.requires.flat-nest.nest.words in
-    limits-kept
-
-pub shape_of-words-then-points_back : goal.shape_of-words-then-points_back
-shape_of-words-then-points_back c =
-    let words-kept : length c.loop-k.words ≡ length c.args.words.now = c.loop-k.invariant.flat-nest.words-length ∙ sym c.requires.flat-nest.words-length in
-    words-kept
-
 pub returns-then-points_back : goal.returns-then-points_back
 returns-then-points_back c =
     let P : FlatNest = flat_nest c.args.header c.args.limits.now c.args.words.now in
     let Q : FlatNest = flat_nest_at c.args.header c.loop-k.depth c.loop-k.limits c.loop-k.counts c.loop-k.words in
     let d = c.directions_after-after in let b = c.points_back in
-    steps-stop P c.args.steps c.args.set c.requires c.refused_steps.result _ _ _ c.refused_steps.ensures
+    steps-stop P c.args.steps c.args.set c.requires _ _ _
     (stops-back c.args.steps c.requires.steps P c.args.set Q c.loop-k.vectors c.loop-k.k c.loop-k.invariant _
-    c.loop-k-test.true d.result d.ensures.0 b.result b.ensures c.if-points_back.true
-    c.refused_steps.result.status c.refused_steps.ensures _)
+    c.loop-k-test.true d.result d.ensures.0 b.result b.ensures c.if-points_back.true)
 
 pub slice_bounds-take-end : goal.slice_bounds-take-end
 slice_bounds-take-end c = sym c.loop-k.invariant.flat-nest.nest.counts
 
-pub take-status-requires : goal.take-status-requires
-take-status-requires c =
+pub take-requires : goal.take-requires
+take-requires c =
     let P : FlatNest = flat_nest c.args.header c.args.limits.now c.args.words.now in
     let Q : FlatNest = flat_nest_at c.args.header c.loop-k.depth c.loop-k.limits c.loop-k.counts c.loop-k.words in
     let i = c.loop-k.invariant in
@@ -61,27 +51,16 @@ take-status-requires c =
           c.loop-k.k i _ c.loop-k-test.true;
     }
 
-pub shape_of-limits-in-Refused : goal.shape_of-limits-in-Refused
-shape_of-limits-in-Refused c =
-    let limits-kept : length c.loop-k.limits ≡ length c.args.limits.now = c.loop-k.invariant.flat-nest.nest.words ∙ sym c.requires.flat-nest.nest.words in
-    c.take-status.auto.limits
-    ∙ limits-kept
-
-pub shape_of-words-in-Refused : goal.shape_of-words-in-Refused
-shape_of-words-in-Refused c =
-    let words-kept : length c.loop-k.words ≡ length c.args.words.now = c.loop-k.invariant.flat-nest.words-length ∙ sym c.requires.flat-nest.words-length in
-    c.take-status.auto.words
-    ∙ words-kept
-
-pub returns-in-Refused : goal.returns-in-Refused
-returns-in-Refused c =
+pub returns-in_err-take : goal.returns-in_err-take
+returns-in_err-take c =
     let P : FlatNest = flat_nest c.args.header c.args.limits.now c.args.words.now in
     let Q : FlatNest = flat_nest_at c.args.header c.loop-k.depth c.loop-k.limits c.loop-k.counts c.loop-k.words in
-    let d = c.directions_after-after in let b = c.points_back in let g = c.take-status in
-    steps-stop P c.args.steps c.args.set c.requires c.refused_steps-in-Refused.result _ _ _ c.refused_steps-in-Refused.ensures
+    let d = c.directions_after-after in let b = c.points_back in
+    let p = err_from_is_err_and c.from_residual.result c.from_residual.ensures.1 in
+    rw (p.1, p.2) (steps-stop P c.args.steps c.args.set c.requires _ _ _
     (stops c.args.steps c.requires.steps P c.args.set Q c.loop-k.vectors c.loop-k.k c.loop-k.invariant _
     c.loop-k-test.true d.result d.ensures.0 b.result b.ensures c.if-points_back.false
-    g.result _ _ _ g.ensures _ c.in-Refused.is c.refused_steps-in-Refused.result.status c.refused_steps-in-Refused.ensures _)
+    _ _ _ _ c.in_err-take.ensures _ refl))
 
 pub depth_after-depth-requires : goal.depth_after-depth-requires
 depth_after-depth-requires c = c.loop-k.invariant.flat-nest.nest.shallow
@@ -90,11 +69,11 @@ pub loop-k-preserved : goal.loop-k-preserved
 loop-k-preserved c =
     let P : FlatNest = flat_nest c.args.header c.args.limits.now c.args.words.now in
     let Q : FlatNest = flat_nest_at c.args.header c.loop-k.depth c.loop-k.limits c.loop-k.counts c.loop-k.words in
-    let d = c.directions_after-after in let b = c.points_back in let g = c.take-status in
+    let d = c.directions_after-after in let b = c.points_back in
     one_more c.args.steps c.requires.steps P c.args.set Q c.loop-k.vectors c.loop-k.k c.loop-k.invariant _
     c.loop-k-test.true
     d.result d.ensures.0 b.result b.ensures c.if-points_back.false
-    g.result _ _ _ g.ensures c.in-Fine.is c.depth_after-depth.result c.depth_after-depth.ensures
+    _ _ _ _ c.in_ok-take.ensures refl c.depth_after-depth.result c.depth_after-depth.ensures
 
 pub shape_of-limits : goal.shape_of-limits
 shape_of-limits c =

@@ -1,4 +1,5 @@
-use mathlib.Core.Path.{◌≡◌, sym, ◌∙◌}
+use mathlib.Core.Path.{◌≡◌, refl, sym, ◌∙◌}
+use Rattle.std.proofs.lemmas.Result.{err_from_is_err_and}
 use Prim.Native.Nat.{◌<◌}
 use native.Mathlib.Omega.{arith}
 use lib.ListN.{length}
@@ -8,7 +9,7 @@ use Rattle.step_kinds.specs.Kinds.{step_of, stage_of}
 use Rattle.nest_flat.specs.FlatNests.{FlatNest}
 use Rattle.nest_flat.proofs.FlatNestLaws.{words_count, accessed-count, extents-count}
 use Rattle.step_judgement.specs.Judgement.{flat_nest_at, TakeIn}
-use Rattle.step_judgement.proofs.StepLaws.{stage-words, stage-taken}
+use Rattle.step_judgement.proofs.StepLaws.{stage-taken}
 use Rattle.step_judgement.proofs.StageLaws.{first-underway, stage-in, stage-stops, stage-passes, stages-pass}
 use Rattle.step_judgement.proofs.take.Goals as goal
 
@@ -16,7 +17,7 @@ pub loop-j-init : goal.loop-j-init
 loop-j-init c = (omega arith, first-underway (step_of c.args.step) c.args.number _ c.requires)
 
 pub stage_at-stage-requires : goal.stage_at-stage-requires
-stage_at-stage-requires c = let t = c.loop-j-test.true in let n = c.stage_count-count.ensures in omega (arith, t, n)
+stage_at-stage-requires c = let t = c.loop-j-test.true in let n = c.stage_count-j-end.ensures in omega (arith, t, n)
 
 pub overflow_mul-accesses : goal.overflow_mul-accesses
 overflow_mul-accesses c = let f = c.loop-j.invariant.1.flat-nest.few-accesses in omega arith
@@ -51,8 +52,8 @@ slice_bounds-take_stage-end-in-loop-j-3 c =
     let Q : FlatNest = flat_nest_at c.args.header c.loop-j.loops c.loop-j.limits c.loop-j.counts c.loop-j.words in
     sym (extents-count Q c.loop-j.invariant.1.flat-nest)
 
-pub take_stage-status-requires : goal.take_stage-status-requires
-take_stage-status-requires c =
+pub take_stage-requires : goal.take_stage-requires
+take_stage-requires c =
     let P : FlatNest = flat_nest_at c.args.header c.args.depth c.args.limits.now c.args.counts.now c.args.words.now in
     let Q : FlatNest = flat_nest_at c.args.header c.loop-j.loops c.loop-j.limits c.loop-j.counts c.loop-j.words in
     let at = c.stage_at-stage in
@@ -61,24 +62,12 @@ take_stage-status-requires c =
     λ h. stage-in (stages (step_of c.args.step)) (depth_after (step_of c.args.step) c.args.depth) c.args.number P
     c.loop-j.j Q c.loop-j.invariant.1 h (stage_of at.result) at.ensures in
     let t = c.loop-j-test.true in
-    let n = c.stage_count-count.ensures in
+    let n = c.stage_count-j-end.ensures in
     let i = next-in (omega (arith, t, n)) in
     record { loops = record { nest = i.flat-nest.nest; there = i.there }; accesses = i.flat-nest.accesses-ok }
 
-pub shape_of-limits-in-Refused : goal.shape_of-limits-in-Refused
-shape_of-limits-in-Refused c =
-    let limits-kept : length c.loop-j.limits ≡ length c.args.limits.now = c.loop-j.invariant.1.flat-nest.nest.words ∙ sym c.requires.flat-nest.nest.words in
-    c.take_stage-status.auto.limits
-    ∙ limits-kept
-
-pub shape_of-counts-in-Refused : goal.shape_of-counts-in-Refused
-shape_of-counts-in-Refused c =
-    let counts-kept : length c.loop-j.counts ≡ length c.args.counts.now = c.loop-j.invariant.1.flat-nest.nest.counts ∙ sym c.requires.flat-nest.nest.counts in
-    c.take_stage-status.auto.counts
-    ∙ counts-kept
-
-pub shape_of-words-in-Refused : goal.shape_of-words-in-Refused
-shape_of-words-in-Refused c =
+pub returns-in_err-take_stage : goal.returns-in_err-take_stage
+returns-in_err-take_stage c =
     let P : FlatNest = flat_nest_at c.args.header c.args.depth c.args.limits.now c.args.counts.now c.args.words.now in
     let Q : FlatNest = flat_nest_at c.args.header c.loop-j.loops c.loop-j.limits c.loop-j.counts c.loop-j.words in
     let at = c.stage_at-stage in
@@ -86,29 +75,14 @@ shape_of-words-in-Refused c =
     let next-in : c.loop-j.j < length (stages (step_of c.args.step)) → TakeIn Q (stage_of at.result) =
     λ h. stage-in (stages (step_of c.args.step)) (depth_after (step_of c.args.step) c.args.depth) c.args.number P
     c.loop-j.j Q c.loop-j.invariant.1 h (stage_of at.result) at.ensures in
-    let g = c.take_stage-status in
     let t = c.loop-j-test.true in
-    let n = c.stage_count-count.ensures in
-    stage-words Q at.result (next-in (omega (arith, t, n))) c.args.number g.result _ _ _ g.ensures
-    ∙ sym c.requires.flat-nest.words-length
-
-pub returns-in-Refused : goal.returns-in-Refused
-returns-in-Refused c =
-    let P : FlatNest = flat_nest_at c.args.header c.args.depth c.args.limits.now c.args.counts.now c.args.words.now in
-    let Q : FlatNest = flat_nest_at c.args.header c.loop-j.loops c.loop-j.limits c.loop-j.counts c.loop-j.words in
-    let at = c.stage_at-stage in
-    -- a stage that is left may be taken
-    let next-in : c.loop-j.j < length (stages (step_of c.args.step)) → TakeIn Q (stage_of at.result) =
-    λ h. stage-in (stages (step_of c.args.step)) (depth_after (step_of c.args.step) c.args.depth) c.args.number P
-    c.loop-j.j Q c.loop-j.invariant.1 h (stage_of at.result) at.ensures in
-    let g = c.take_stage-status in
-    let t = c.loop-j-test.true in
-    let n = c.stage_count-count.ensures in
+    let n = c.stage_count-j-end.ensures in
     let h : c.loop-j.j < length (stages (step_of c.args.step)) = omega (arith, t, n) in
-    stage-stops (stages (step_of c.args.step)) (depth_after (step_of c.args.step) c.args.depth) c.args.number P c.loop-j.j Q
-    c.loop-j.invariant.1 h (stage_of at.result) at.ensures g.result _ _ _
-    (stage-taken Q at.result (next-in h) c.args.number g.result _ _ _ g.ensures) _
-    c.in-Refused.is _ _ _
+    let p = err_from_is_err_and c.from_residual.result c.from_residual.ensures.1 in
+    rw (p.1, p.2) (stage-stops (stages (step_of c.args.step)) (depth_after (step_of c.args.step) c.args.depth) c.args.number P c.loop-j.j Q
+    c.loop-j.invariant.1 h (stage_of at.result) at.ensures _ _ _ _
+    (stage-taken Q at.result (next-in h) c.args.number _ _ _ _ c.in_err-take_stage.ensures) _
+    refl _ _ _)
 
 pub depth_after_stage-loops-requires : goal.depth_after_stage-loops-requires
 depth_after_stage-loops-requires c = c.loop-j.invariant.1.flat-nest.nest.shallow
@@ -122,15 +96,14 @@ loop-j-preserved c =
     let next-in : c.loop-j.j < length (stages (step_of c.args.step)) → TakeIn Q (stage_of at.result) =
     λ h. stage-in (stages (step_of c.args.step)) (depth_after (step_of c.args.step) c.args.depth) c.args.number P
     c.loop-j.j Q c.loop-j.invariant.1 h (stage_of at.result) at.ensures in
-    let g = c.take_stage-status in
     let t = c.loop-j-test.true in
-    let n = c.stage_count-count.ensures in
+    let n = c.stage_count-j-end.ensures in
     let h : c.loop-j.j < length (stages (step_of c.args.step)) = omega (arith, t, n) in (
       omega (arith, h),
       stage-passes (stages (step_of c.args.step)) (depth_after (step_of c.args.step) c.args.depth) c.args.number P c.loop-j.j Q
-          c.loop-j.invariant.1 h (stage_of at.result) at.ensures g.result _ _ _
-          (stage-taken Q at.result (next-in h) c.args.number g.result _ _ _ g.ensures)
-          c.in-Fine.is c.depth_after_stage-loops.result c.depth_after_stage-loops.ensures,
+          c.loop-j.invariant.1 h (stage_of at.result) at.ensures _ _ _ _
+          (stage-taken Q at.result (next-in h) c.args.number _ _ _ _ c.in_ok-take_stage.ensures)
+          refl c.depth_after_stage-loops.result c.depth_after_stage-loops.ensures,
     )
 
 pub shape_of-limits : goal.shape_of-limits
@@ -153,5 +126,5 @@ returns c =
     let P : FlatNest = flat_nest_at c.args.header c.args.depth c.args.limits.now c.args.counts.now c.args.words.now in
     let t = c.loop-j-test.false in
     stages-pass (stages (step_of c.args.step)) (depth_after (step_of c.args.step) c.args.depth) c.args.number P c.loop-j.j
-    c.stage_count-count.result c.loop-j.loops c.loop-j.limits c.loop-j.counts c.loop-j.words c.loop-j.invariant.1 c.loop-j.invariant.0
-    c.stage_count-count.ensures (omega (arith, t))
+    c.stage_count-j-end.result c.loop-j.loops c.loop-j.limits c.loop-j.counts c.loop-j.words c.loop-j.invariant.1 c.loop-j.invariant.0
+    c.stage_count-j-end.ensures (omega (arith, t))

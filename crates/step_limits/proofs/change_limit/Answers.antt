@@ -23,9 +23,9 @@ reverse_row-requires c = unfold Allowed in let a = allowed c.args.change
     (ReverseRow c.in-ReverseRow.a) c.args.n c.in-ReverseRow.is c.requires.0
     in (a.0, a.1, (numbers c.args.n c.args.l c.requires.1).coefficients)
 
-pub exchange_row-requires : goal.exchange_row-requires
-exchange_row-requires c = unfold Allowed in let a = allowed c.args.change
-    (ExchangeRow c.in-ExchangeRow.a) c.args.n c.in-ExchangeRow.is c.requires.0 in a
+pub exchange_places-requires : goal.exchange_places-requires
+exchange_places-requires c = unfold Allowed in let a = allowed c.args.change
+    (ExchangeRow c.in-ExchangeRow.a) c.args.n c.in-ExchangeRow.is c.requires.0 in (omega arith, a)
 
 pub skew_limit-requires : goal.skew_limit-requires
 skew_limit-requires c = unfold Allowed in let a = allowed c.args.change
@@ -71,8 +71,8 @@ returns-in-ExchangeRow c =
     let v = c.in-ExchangeRow.a in
     unfold change_of outer_after in
     done c.args.change (ExchangeRow v) c.args.n c.args.l c.with_row-in-ExchangeRow.result c.in-ExchangeRow.is
-    (row_is c.args.n c.args.l c.args.n (under v swapped) c.with_row-in-ExchangeRow.result c.exchange_row.result
-    c.with_row-in-ExchangeRow.ensures c.exchange_row.ensures)
+    (row_is c.args.n c.args.l c.args.n (under v swapped) c.with_row-in-ExchangeRow.result c.exchange_places.result
+    c.with_row-in-ExchangeRow.ensures c.exchange_places.ensures)
 
 pub returns-in-SkewLimit : goal.returns-in-SkewLimit
 returns-in-SkewLimit c =

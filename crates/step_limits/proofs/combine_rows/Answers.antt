@@ -25,8 +25,8 @@ pub loop-k-init : goal.loop-k-init
 unfolding zip_with
 loop-k-init c = (omega arith, refl, refl)
 
-pub combine-z-requires : goal.combine-z-requires
-combine-z-requires c =
+pub combine-requires : goal.combine-requires
+combine-requires c =
     let h : c.loop-k.k < c.args.n = omega arith in
     let w = c.requires.3 in
     let v = c.requires.4 in
@@ -37,11 +37,11 @@ loop-k-preserved c =
     let h : c.loop-k.k < c.args.n = omega arith in
     let len-x : length c.args.xs ≡ 6 = search rules in
     let len-y : length c.args.ys ≡ 6 = search rules in
-    let e : to_z w32 (of_z w32 c.combine-z.result) ≡ c.combine-z.result = search rules in (
+    let e : to_z w32 (of_z w32 c.combine.result) ≡ c.combine.result = search rules in (
       omega arith,
       simp length-set c.loop-k.invariant.1,
       mix-more _ _ c.loop-k.k c.loop-k.r c.args.xs c.args.ys _ (omega arith) (omega (arith, len-x)) (omega (arith, len-y)) c.loop-k.invariant.2
-          (e ∙ c.combine-z.ensures ∙ simp (reads _ _ _ h c.requires.3, reads _ _ _ h c.requires.4)),
+          (e ∙ c.combine.ensures ∙ simp (reads _ _ _ h c.requires.3, reads _ _ _ h c.requires.4)),
     )
 
 pub returns : goal.returns

@@ -8,17 +8,17 @@ use Rattle.step_limits.proofs.NumberLaws.{small-back}
 use Rattle.step_limits.proofs.LimitLaws.{numbers, negated-is}
 use Rattle.step_limits.proofs.reverse_limit.Goals as goal
 
-pub negate-d-requires : goal.negate-d-requires
-negate-d-requires c = let m = numbers c.args.n c.args.l c.requires.1 in rw (small-back _ m.constant)
+pub negate-requires : goal.negate-requires
+negate-requires c = let m = numbers c.args.n c.args.l c.requires.1 in rw (small-back _ m.constant)
     m.constant
 
-pub combine_rows-ds-requires : goal.combine_rows-ds-requires
-combine_rows-ds-requires c = let m = numbers c.args.n c.args.l c.requires.1
+pub combine_rows-requires : goal.combine_rows-requires
+combine_rows-requires c = let m = numbers c.args.n c.args.l c.requires.1
     in (c.requires.0, omega arith, omega arith, m.coefficients, m.coefficients)
 
 pub returns : goal.returns
 returns c =
     let m = numbers c.args.n c.args.l c.requires.1 in
-    let e : to_z w32 (of_z w32 c.negate-d.result) ≡ c.negate-d.result = search rules in
-    negated-is c.args.n c.args.l _ _ (e ∙ c.negate-d.ensures ∙ ap neg_ℤ (small-back c.args.l.constant m.constant))
-    c.combine_rows-ds.ensures
+    let e : to_z w32 (of_z w32 c.negate.result) ≡ c.negate.result = search rules in
+    negated-is c.args.n c.args.l _ _ (e ∙ c.negate.ensures ∙ ap neg_ℤ (small-back c.args.l.constant m.constant))
+    c.combine_rows.ensures

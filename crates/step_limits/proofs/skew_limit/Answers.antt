@@ -24,11 +24,11 @@ module _ (n k : ℕ) (l : Limit) (h : k < n) (s : SmallLimit (limit_of n l)) whe
   reads : to_z w32 (of_z w32 (get_or l.coefficients k (pos 0))) ≡ get_or l.coefficients k (pos 0)
   reads = small-back _ at
 
-pub overflow_cast-p : goal.overflow_cast-p
-overflow_cast-p c = let m = numbers c.args.n c.args.l c.requires.3 in let h = m.multiplier in sfits (omega arith)
+pub overflow_cast-l : goal.overflow_cast-l
+overflow_cast-l c = let m = numbers c.args.n c.args.l c.requires.3 in let h = m.multiplier in sfits (omega arith)
 
-pub add_multiple-y-requires : goal.add_multiple-y-requires
-add_multiple-y-requires c =
+pub add_multiple-requires : goal.add_multiple-requires
+add_multiple-requires c =
     let m = numbers c.args.n c.args.l c.requires.3 in
     (rw (reads _ _ _ c.requires.0 c.requires.3) (at _ _ _ c.requires.0 c.requires.3), rw (small-back c.args.factor c.requires.2) c.requires.2, small-multiplier c.args.l.multiplier m.multiplier)
 
@@ -36,9 +36,9 @@ pub returns : goal.returns
 returns c =
     let m = numbers c.args.n c.args.l c.requires.3 in
     let q : length c.args.l.coefficients ≡ 6 = search rules in
-    let e : to_z w32 (of_z w32 c.add_multiple-y.result) ≡ c.add_multiple-y.result = search rules in
+    let e : to_z w32 (of_z w32 c.add_multiple.result) ≡ c.add_multiple.result = search rules in
     skewed-is c.args.n c.args.l c.args.a c.args.factor _ _ q (omega arith) (small-back c.args.l.constant m.constant)
-    (e ∙ c.add_multiple-y.ensures ∙ simp (
+    (e ∙ c.add_multiple.ensures ∙ simp (
       reads _ _ _ c.requires.0 c.requires.3,
       small-back c.args.factor c.requires.2,
       read-multiplier

@@ -24,8 +24,8 @@ module _ (n k : ℕ) (cs : List ℤ) (h : k < n) (w : Within 32767 (take n cs)) 
 pub negate-requires : goal.negate-requires
 negate-requires c = rw (small-back c.args.factor c.requires.2) c.requires.2
 
-pub add_multiple-z-requires : goal.add_multiple-z-requires
-add_multiple-z-requires c =
+pub add_multiple-requires : goal.add_multiple-requires
+add_multiple-requires c =
     let turned : to_z w32 (of_z w32 c.negate.result) ≡ neg_ℤ c.args.factor = let e : to_z w32 (of_z w32 c.negate.result) ≡ c.negate.result = search rules in e ∙ c.negate.ensures ∙ ap neg_ℤ (small-back c.args.factor c.requires.2) in
     let near : size (neg_ℤ c.args.factor) ≤ 32767 = rw (size-neg c.args.factor) c.requires.2 in
     let w = c.requires.3 in
@@ -40,9 +40,9 @@ returns c =
     let w = c.requires.3 in
     let h : c.args.a < c.args.n = omega arith in
     let g : c.args.a + 1 + c.args.d < c.args.n = omega arith in
-    let e : to_z w32 (of_z w32 c.add_multiple-z.result) ≡ c.add_multiple-z.result = search rules in
+    let e : to_z w32 (of_z w32 c.add_multiple.result) ≡ c.add_multiple.result = search rules in
     record {
       is = front-skewed c.args.n c.args.a c.args.d c.args.factor c.args.cs _ (omega arith) (omega arith)
-          (e ∙ c.add_multiple-z.ensures ∙ simp (reads _ _ _ h w, turned, reads _ _ _ g w));
+          (e ∙ c.add_multiple.ensures ∙ simp (reads _ _ _ h w, turned, reads _ _ _ g w));
       room = simp length-set n;
     }

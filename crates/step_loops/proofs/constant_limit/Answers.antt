@@ -6,7 +6,8 @@ use native.Mathlib.Numerals.{add-one}
 use lib.IntN.{pos}
 use lib.ListN.{take, replicate}
 use mir.Syntax.{w32}
-use mir.Facts.{to_z_pos}
+use mir.Val.{to_z, of_z}
+use borrow.Author.Rules.{rules}
 use Rattle.model.specs.Limits.{constant_limit}
 use Rattle.ticket_loops.specs.LoopReads.{limit_of}
 use Rattle.step_limits.proofs.LimitLaws.{same-limit}
@@ -19,8 +20,9 @@ zeros (suc a) (suc m) h = ap (pos 0 ∷◌) (zeros a m (omega arith))
 
 pub returns : goal.returns
 unfolding constant_limit limit_of
-returns c = (
-  λ a h. same-limit refl (to_z_pos w32 (omega arith)) (ap (λ i. take i (replicate 6 (pos 0))) (add-one a)
-      ∙ zeros (suc a) 6 (omega arith)),
-  record { room = refl },
-)
+returns c =
+    let back : to_z w32 (of_z w32 c.args.v) ≡ c.args.v = search rules in
+    record {
+      is = λ a n h e. same-limit refl (back ∙ e) (ap (λ i. take i (replicate 6 (pos 0))) (add-one a) ∙ zeros (suc a) 6 (omega arith));
+      within = (refl, record { room = refl });
+    }

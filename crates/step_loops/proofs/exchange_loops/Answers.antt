@@ -1,42 +1,38 @@
 use Prim.Native.Nat.{◌+◌, ◌-◌}
 use native.Mathlib.Omega.{arith}
+use mathlib.Core.Bool.{true, false}
 use mathlib.Core.Path.{◌≡◌}
-use borrow.Author.Tests.{not-true, not-false}
-use Rattle.step_loops.proofs.ExchangeLaws.{pair-in, pair-full, pair-large, swap-in, exchanged-done}
+use Rattle.std.proofs.lemmas.Result.{err_from_is_err_and}
+use Rattle.step_loops.proofs.ExchangeLaws.{pair-in, pair-refused, swap-in, exchanged-done}
 use Rattle.step_loops.proofs.exchange_loops.Goals as goal
 
-pub exchange_pair-pair-requires : goal.exchange_pair-pair-requires
-exchange_pair-pair-requires c =
+pub exchange_pair-requires : goal.exchange_pair-requires
+exchange_pair-requires c =
     let deep : c.args.depth ≡ c.args.a + 1 + 1 + (c.args.depth - (c.args.a + 1 + 1)) = let p = c.requires.place in omega arith in
-    let a = c.args in pair-in a.limits.now a.counts.now a.depth a.a
-    (a.depth - (a.a + 1 + 1)) c.requires deep
+    let a = c.args in pair-in a.limits.now a.counts.now a.depth a.a (a.depth - (a.a + 1 + 1)) c.requires deep
 
-pub returns-then-pair : goal.returns-then-pair
-returns-then-pair c =
+pub returns-in_err-exchange_pair : goal.returns-in_err-exchange_pair
+returns-in_err-exchange_pair c =
     let deep : c.args.depth ≡ c.args.a + 1 + 1 + (c.args.depth - (c.args.a + 1 + 1)) = let p = c.requires.place in omega arith in
-    let a = c.args
-    in let m = c.exchange_pair-pair in pair-full a.limits.now a.counts.now a.depth a.a
-    (a.depth - (a.a + 1 + 1)) c.requires deep m.result _ _ m.ensures c.if-pair.true
+    let a = c.args in
+    let p = err_from_is_err_and c.from_residual.result c.from_residual.ensures.1 in
+    rw (p.1, p.2) (pair-refused a.limits.now a.counts.now a.depth a.a (a.depth - (a.a + 1 + 1)) c.requires deep _ _ _ c.in_err-exchange_pair.ensures)
 
-pub returns-then-not-pair : goal.returns-then-not-pair
-returns-then-not-pair c =
+pub change_loops-requires : goal.change_loops-requires
+change_loops-requires c =
     let deep : c.args.depth ≡ c.args.a + 1 + 1 + (c.args.depth - (c.args.a + 1 + 1)) = let p = c.requires.place in omega arith in
-    let a = c.args
-    in let m = c.exchange_pair-pair in pair-large a.limits.now a.counts.now a.depth a.a
-    (a.depth - (a.a + 1 + 1)) c.requires deep m.result _ _ m.ensures c.if-pair.false
-    (not-true m.result.small c.if-not-pair.true)
+    let a = c.args in swap-in a.limits.now a.counts.now a.depth a.a (a.depth - (a.a + 1 + 1)) c.requires deep _ _ c.in_ok-exchange_pair.ensures
 
-pub change_loops-small-requires : goal.change_loops-small-requires
-change_loops-small-requires c =
+pub returns-in_err-change_loops : goal.returns-in_err-change_loops
+returns-in_err-change_loops c =
     let deep : c.args.depth ≡ c.args.a + 1 + 1 + (c.args.depth - (c.args.a + 1 + 1)) = let p = c.requires.place in omega arith in
-    let a = c.args in let m = c.exchange_pair-pair in swap-in a.limits.now
-    a.counts.now a.depth a.a (a.depth - (a.a + 1 + 1)) c.requires deep m.result _ _ m.ensures
-    c.if-pair.false (not-false m.result.small c.if-not-pair.false)
+    let a = c.args in
+    let p = err_from_is_err_and c.from_residual-in_err-change_loops.result c.from_residual-in_err-change_loops.ensures.1 in
+    rw (p.1, p.2) (exchanged-done a.limits.now a.counts.now a.depth a.a (a.depth - (a.a + 1 + 1)) c.requires deep _ _ c.in_ok-exchange_pair.ensures
+    false _ _ c.in_err-change_loops.ensures)
 
 pub returns : goal.returns
 returns c =
     let deep : c.args.depth ≡ c.args.a + 1 + 1 + (c.args.depth - (c.args.a + 1 + 1)) = let p = c.requires.place in omega arith in
-    let a = c.args in let m = c.exchange_pair-pair in exchanged-done a.limits.now a.counts.now a.depth a.a (a.depth - (a.a + 1 + 1)) c.requires deep m.result _
-    _ m.ensures c.if-pair.false
-    (not-false m.result.small c.if-not-pair.false) c.change_loops-small.result
-    _ _ c.change_loops-small.ensures
+    let a = c.args in exchanged-done a.limits.now a.counts.now a.depth a.a (a.depth - (a.a + 1 + 1)) c.requires deep _ _ c.in_ok-exchange_pair.ensures
+    true _ _ c.in_ok-change_loops.ensures

@@ -12,12 +12,12 @@ loop-j-init c = let l : length c.args.row ≡ 6 = search rules in
 pub exchange_at-k-requires : goal.exchange_at-k-requires
 exchange_at-k-requires c = let t = c.loop-j-test.true in let n = c.chain_length-count.ensures in omega arith
 
-pub exchange_indices-next-requires : goal.exchange_indices-next-requires
-exchange_indices-next-requires c = let t = c.loop-j-test.true in
+pub exchange_places-next-requires : goal.exchange_places-next-requires
+exchange_places-next-requires c = let t = c.loop-j-test.true in
     let n = c.chain_length-count.ensures in
     let k = c.exchange_at-k in
     let h = exchange-in c.args.a c.args.b c.args.n c.args.row c.loop-j.j k.result (omega arith) k.ensures in
-    (h c.requires.0 c.requires.1, c.requires.2)
+    (omega arith, (h c.requires.0 c.requires.1, c.requires.2))
 
 pub loop-j-preserved : goal.loop-j-preserved
 loop-j-preserved c = let t = c.loop-j-test.true in
@@ -25,7 +25,7 @@ loop-j-preserved c = let t = c.loop-j-test.true in
     let k = c.exchange_at-k in (
       omega arith,
       one-walked c.args.a c.args.b c.args.n c.args.row c.loop-j.j k.result (omega arith) k.ensures c.loop-j.r
-          c.exchange_indices-next.result c.loop-j.invariant.1 c.exchange_indices-next.ensures,
+          c.exchange_places-next.result c.loop-j.invariant.1 c.exchange_places-next.ensures,
     )
 
 pub returns : goal.returns

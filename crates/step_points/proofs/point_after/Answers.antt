@@ -11,8 +11,8 @@ use Rattle.step_limits.proofs.NumberLaws.{small-back, factor-small}
 use Rattle.step_points.proofs.IndexLaws.{there, point-is}
 use Rattle.step_points.proofs.point_after.Goals as goal
 
-pub exchange_indices-requires : goal.exchange_indices-requires
-exchange_indices-requires c = let h = there c.in-Exchange.is c.requires in (omega arith, c.requires.shallow)
+pub exchange_places-requires : goal.exchange_places-requires
+exchange_places-requires c = let h = there c.in-Exchange.is c.requires in (omega arith, (omega arith, c.requires.shallow))
 
 pub reverse_index-requires : goal.reverse_index-requires
 reverse_index-requires c = (there c.in-Reversal.is c.requires, c.requires.shallow, c.requires.near)
@@ -32,7 +32,7 @@ circulate_indices-requires c = let h = there c.in-Circulation.is c.requires in (
 
 pub returns-in-Exchange : goal.returns-in-Exchange
 unfolding depth_after forward
-returns-in-Exchange c = point-is c.in-Exchange.is c.requires _ c.exchange_indices.ensures
+returns-in-Exchange c = point-is c.in-Exchange.is c.requires _ c.exchange_places.ensures
 
 pub returns-in-Reversal : goal.returns-in-Reversal
 unfolding depth_after forward

@@ -1,11 +1,7 @@
 -- `point_after_steps`: the first k steps are taken.
-use Prim.Native.Nat.{◌-◌}
 use lib.ListN.{take}
 use Rattle.step_points.proofs.StepsLaws.{Moved}
 use Rattle.step_points.proofs.point_after_steps.Given as goal
 
 abbrev pub invariant-loop-k : goal.invariant-loop-k
 invariant-loop-k l = Moved l.steps l.depth l.done (take l.depth l.initial.point) l.point l.k l.loops
-
-abbrev pub decreases-loop-k : goal.decreases-loop-k
-decreases-loop-k l = l.done - l.k

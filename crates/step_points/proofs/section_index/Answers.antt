@@ -12,7 +12,7 @@ use Rattle.integers.specs.Division.{floor_div}
 use Rattle.integers.proofs.DivisionLaws.{size-floor}
 use Rattle.integers.proofs.RangeLaws.{from-nat}
 use Rattle.integers.proofs.RingLaws.{zarith}
-use Rattle.step_limits.proofs.RowLaws.{front_at, shift_none, shift-more}
+use Rattle.step_limits.proofs.RowLaws.{front_at}
 use Rattle.step_points.specs.Points.{farthest}
 use Rattle.step_points.proofs.IndexLaws.{index_back, front-sectioned}
 use Rattle.step_points.proofs.section_index.Goals as goal
@@ -22,16 +22,6 @@ width w h = from-nat (omega arith)
 
 above : (w : ℕ) → 1 ≤ w → pos 0 <ℤ pos w
 above w h = omega zarith
-
-pub loop-j-init : goal.loop-j-init
-loop-j-init c = let n : length c.args.row ≡ 6 = search rules in (omega arith, n, shift_none c.args.a c.args.row)
-
-pub loop-j-preserved : goal.loop-j-preserved
-loop-j-preserved c = let n : length c.args.row ≡ 6 = search rules in (
-  omega arith,
-  simp length-set c.loop-j.invariant.1,
-  shift-more c.args.a c.loop-j.j c.loop-j.r c.args.row _ (omega arith) (omega arith) c.loop-j.invariant.2 (search rules),
-)
 
 pub floor_div-q-requires : goal.floor_div-q-requires
 floor_div-q-requires c = let a = c.requires.2 in rw (width c.args.w c.requires.3) (above c.args.w a)
@@ -63,7 +53,7 @@ returns c =
     let f : to_z w64 (of_z w64 c.floor_div-q.result) ≡ floor_div (get_or c.args.row c.args.a (pos 0)) (pos c.args.w) =
     index_back _ part_small ∙ part-is in
     record {
-      is = front-sectioned c.args.w c.args.a c.loop-j.j c.args.n c.loop-j.r c.args.row (omega arith) (omega arith) (omega arith)
-          (omega arith) c.loop-j.invariant.2 _ _ f (e ∙ c.take_widths-e.ensures ∙ rw (y, v, f));
-      room = simp length-set c.loop-j.invariant.1;
+      is = front-sectioned c.args.w c.args.a c.args.n c.double_place-r.result c.args.row (omega (arith, c.double_place-r.ensures.room)) (omega arith) c.requires.0
+          c.double_place-r.ensures.is _ _ f (e ∙ c.take_widths-e.ensures ∙ rw (y, v, f));
+      room = simp length-set c.double_place-r.ensures.room;
     }

@@ -8,6 +8,3 @@ use Rattle.step_preimages.proofs.circulation_source.Given as goal
 
 abbrev pub invariant-loop-j : goal.invariant-loop-j
 invariant-loop-j l = (l.j ≤ length (chain l.b l.a)) × Source (swap_all (take l.j (chain l.b l.a))) (l.a + (l.b - l.a) + 1) l.n l.m
-
-abbrev pub decreases-loop-j : goal.decreases-loop-j
-decreases-loop-j l = l.count - l.j

@@ -24,5 +24,5 @@ returns c =
     (omega arith) c.requires.step.few c.row_at-cs.ensures in
     change-tried c.args.words.now c.args.j c.args.n c.args.m c.args.stage c.requires
     c.row_at-cs.result c.row_after-ds.result
-    row c.row_after-ds.ensures _ c.put_row.result
+    row c.row_after-ds.ensures _ _
     c.put_row.ensures

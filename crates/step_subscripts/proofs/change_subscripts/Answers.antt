@@ -1,5 +1,7 @@
+use mathlib.Core.Path.{refl}
+use mathlib.Core.Bool.{true, false}
+use Rattle.std.proofs.lemmas.Result.{err_from_is_err_and}
 use native.Mathlib.Omega.{arith}
-use borrow.Author.Rules.{rules}
 use Rattle.step_kinds.specs.Kinds.{stage_of}
 use Rattle.step_subscripts.proofs.ChangeLaws.{changed-none, next-in, next-fails, next-passes, all_pass}
 use Rattle.step_subscripts.proofs.change_subscripts.Goals as goal
@@ -16,26 +18,19 @@ change_subscript-requires c =
     next-in c.args.words.now c.args.first c.args.count c.args.n c.args.m c.args.stage c.requires l.words l.d l.invariant.1
     c.loop-d-test.true
 
-pub shape_of-words-then-not-change_subscript : goal.shape_of-words-then-not-change_subscript
-shape_of-words-then-not-change_subscript c =
-    let r = c.change_subscript.ensures.room in
-    let q = c.loop-d.invariant.1.room in
-    search rules
-
-pub returns-then-not-change_subscript : goal.returns-then-not-change_subscript
-returns-then-not-change_subscript c =
+pub returns-in_err-change_subscript : goal.returns-in_err-change_subscript
+returns-in_err-change_subscript c =
     let l = c.loop-d in
-    let f = c.change_subscript in
-    next-fails c.args.words.now c.args.first c.args.count c.args.n c.args.m c.args.stage c.requires l.words l.d
-    l.invariant.1 c.loop-d-test.true _ f.result f.ensures c.if-not-change_subscript.true
+    let p = err_from_is_err_and c.from_residual.result c.from_residual.ensures.1 in
+    rw p.1 (next-fails c.args.words.now c.args.first c.args.count c.args.n c.args.m c.args.stage c.requires l.words l.d
+    l.invariant.1 c.loop-d-test.true _ false c.in_err-change_subscript.ensures refl)
 
 pub loop-d-preserved : goal.loop-d-preserved
 loop-d-preserved c =
-    let l = c.loop-d in
-    let f = c.change_subscript in (
+    let l = c.loop-d in (
       omega arith,
       next-passes c.args.words.now c.args.first c.args.count c.args.n c.args.m c.args.stage c.requires l.words
-          l.d l.invariant.1 c.loop-d-test.true _ f.result f.ensures c.if-not-change_subscript.false,
+          l.d l.invariant.1 c.loop-d-test.true _ true c.in_ok-change_subscript.ensures refl,
     )
 
 pub shape_of-words : goal.shape_of-words

@@ -6,9 +6,9 @@ use Rattle.step_limits.proofs.NumberLaws.{small-back, factor-small}
 use Rattle.step_subscripts.proofs.StepLaws.{there, row_is, row-longer}
 use Rattle.step_subscripts.proofs.row_after.Goals as goal
 
-pub exchange_row-requires : goal.exchange_row-requires
-exchange_row-requires c = let f = c.requires.0.few in let h = there
-    c.args.stage (Exchange c.in-Exchange.e) c.args.n c.in-Exchange.is c.requires.0 in (omega arith, f)
+pub exchange_places-requires : goal.exchange_places-requires
+exchange_places-requires c = let f = c.requires.0.few in let h = there
+    c.args.stage (Exchange c.in-Exchange.e) c.args.n c.in-Exchange.is c.requires.0 in (omega arith, (omega arith, f))
 
 pub reverse_row-requires : goal.reverse_row-requires
 reverse_row-requires c = let f = c.requires.0.few in let h = there
@@ -21,8 +21,8 @@ skew_row-requires c =
     let g = factor-small c.in-Skew.e.factor h.1 in
     (omega arith, f, rw (small-back c.in-Skew.e.factor g) g, c.requires.1)
 
-pub overflow_cast-w : goal.overflow_cast-w
-overflow_cast-w c = let h = there c.args.stage (Section c.in-Section.e)
+pub overflow_cast-e : goal.overflow_cast-e
+overflow_cast-e c = let h = there c.args.stage (Section c.in-Section.e)
     c.args.n c.in-Section.is c.requires.0 in let w = h.2.high in record { fits = omega arith }
 
 pub section_row-requires : goal.section_row-requires
@@ -32,7 +32,7 @@ section_row-requires c = let h = there c.args.stage
 pub returns-in-Exchange : goal.returns-in-Exchange
 unfolding depth_after coefficients_after
 returns-in-Exchange c = row_is c.args.stage (Exchange c.in-Exchange.e)
-    c.args.n c.in-Exchange.is c.args.cs c.exchange_row.result c.exchange_row.ensures.is c.exchange_row.ensures.room
+    c.args.n c.in-Exchange.is c.args.cs c.exchange_places.result c.exchange_places.ensures.is c.exchange_places.ensures.room
 
 pub returns-in-Reversal : goal.returns-in-Reversal
 unfolding depth_after coefficients_after

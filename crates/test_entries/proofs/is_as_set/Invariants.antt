@@ -1,10 +1,6 @@
 -- `is_as_set`: word after word.
 use Prim.Native.Nat.{◌-◌}
-use lib.ListN.{length}
 use Rattle.test_entries.proofs.is_as_set.Given as goal
 
 abbrev pub invariant-loop-i : goal.invariant-loop-i
 invariant-loop-i l = Unit {0}
-
-abbrev pub decreases-loop-i : goal.decreases-loop-i
-decreases-loop-i l = length l.store - l.i

@@ -1,14 +1,16 @@
 -- `print_answer`: the count of the answer.
 use mathlib.Core.Path.{sym, ap}
 use Rattle.model.specs.Answer.{count_in}
-use Rattle.entry_answers.specs.declared.Answer.{Answer}
-use Rattle.entry_answers.specs.Answers.{answer_of}
+use Prim.Native.Nat.{ℕ}
+use Rattle.std.specs.Prelude.{Result}
+use Rattle.ticket_refusals.specs.declared.Refusal.{Refusal}
+use Rattle.ticket_refusals.specs.Refusals.{answer_of}
 use Rattle.test_entries.proofs.print_answer.Goals as goal
 
-pub returns-in-Accepted : goal.returns-in-Accepted
+pub returns-in-Ok : goal.returns-in-Ok
 unfolding count_in
-returns-in-Accepted c = sym (ap (λ (x : Answer). count_in (answer_of x)) c.in-Accepted.is)
+returns-in-Ok c = sym (ap (λ (x : Result ℕ Refusal). count_in (answer_of x)) c.in-Ok.is)
 
-pub returns-in-Refused : goal.returns-in-Refused
+pub returns-in-Err : goal.returns-in-Err
 unfolding count_in
-returns-in-Refused c = sym (ap (λ (x : Answer). count_in (answer_of x)) c.in-Refused.is)
+returns-in-Err c = sym (ap (λ (x : Result ℕ Refusal). count_in (answer_of x)) c.in-Err.is)

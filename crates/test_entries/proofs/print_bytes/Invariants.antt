@@ -1,10 +1,6 @@
 -- `print_bytes`: byte after byte.
 use Prim.Native.Nat.{◌-◌}
-use lib.ListN.{length}
 use Rattle.test_entries.proofs.print_bytes.Given as goal
 
 abbrev pub invariant-loop-i : goal.invariant-loop-i
 invariant-loop-i l = Unit {0}
-
-abbrev pub decreases-loop-i : goal.decreases-loop-i
-decreases-loop-i l = length l.bytes - l.i

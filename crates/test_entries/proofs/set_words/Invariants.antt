@@ -6,6 +6,3 @@ use Rattle.test_entries.proofs.set_words.Given as goal
 
 abbrev pub invariant-loop-i : goal.invariant-loop-i
 invariant-loop-i l = length l.store ≡ length l.initial.store
-
-abbrev pub decreases-loop-i : goal.decreases-loop-i
-decreases-loop-i l = length l.initial.store - l.i

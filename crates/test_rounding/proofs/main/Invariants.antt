@@ -1,9 +1,7 @@
--- `main`: k counts to 19, and the divisors are numerals.
-use Prim.Native.Nat.{◌-◌, ◌≤◌}
+-- `main`: the divisors are above 0.
+use lib.IntN.{pos}
+use lib.Signed.{◌<ℤ◌}
 use Rattle.test_rounding.proofs.main.Given as goal
 
-abbrev pub invariant-loop-k : goal.invariant-loop-k
-invariant-loop-k l = l.k ≤ 19
-
-abbrev pub decreases-loop-k : goal.decreases-loop-k
-decreases-loop-k l = 19 - l.k
+abbrev pub invariant-loop-b : goal.invariant-loop-b
+invariant-loop-b l = pos 0 <ℤ l.b

@@ -1,51 +1,27 @@
 -- `read_array`: the extents, then the test of their elements and those before.
-use mathlib.Core.Path.{refl, sym, ◌∙◌}
 use native.Mathlib.Omega.{arith}
-use Rattle.ticket_refusals.proofs.StatusLaws.{not-fine}
-use Rattle.ticket_words.proofs.ReaderLaws.{read-value, read-refusal, refused-here}
-use Rattle.model.specs.Grammar as Grammar
-use Rattle.ticket_arrays.specs.Arrays.{shape_of}
-use Rattle.ticket_arrays.proofs.ArrayLaws.{array-fits, array-full, array-no}
-use Rattle.ticket_arrays.proofs.ReadLaws.{shape-read}
+use Rattle.model.specs.Grammar.{array}
+use Rattle.std.proofs.lemmas.Result.{err_from_is_err_and}
+use Rattle.ticket_words.proofs.ReaderLaws.{refused-first}
+use Rattle.ticket_arrays.proofs.ArrayLaws.{array-fits, array-full}
+use Rattle.ticket_arrays.proofs.ReadLaws.{elements-of, shape-read}
 use Rattle.ticket_arrays.proofs.read_array.Goals as goal
 
-pub returns-then-total-one-gt-ELEMENTS : goal.returns-then-total-one-gt-ELEMENTS
-unfolding shape_of Grammar.elements
-returns-then-total-one-gt-ELEMENTS c = let r = c.read_shape-one.ensures in
-    let e = read-value c.in-Fine.is r.reads in
-    let t = r.total in
-    let q = c.no_shape.ensures in
-    record {
-      reads = refused-here _ q.0 q.1 (array-full _ _ _ _ _ e (omega (arith, c.if-total-one-gt-ELEMENTS.true)))
-          c.requires.0;
-      within = record { few = omega arith; room = q.3 };
-      total = rw (q.2, q.4) refl;
-      ranges = λ f. not-fine _ q.0 f;
-      room = λ f. not-fine _ q.0 f;
-    }
+pub returns-in_err-shape-clause-reads : goal.returns-in_err-shape-clause-reads
+unfolding array
+returns-in_err-shape-clause-reads c =
+    let p = err_from_is_err_and c.from_residual.result c.from_residual.ensures.1 in
+    rw (p.1, p.2) (refused-first _ c.in_err-shape.ensures)
 
-pub returns-else-total-one-gt-ELEMENTS : goal.returns-else-total-one-gt-ELEMENTS
-returns-else-total-one-gt-ELEMENTS c = let r = c.read_shape-one.ensures in
-    let e = read-value c.in-Fine.is r.reads in
-    let t = r.total in
-    record {
-      reads = record { same = r.reads.same ∙ e ∙ sym (array-fits _ _ _ _ _ e (omega (arith, c.if-total-one-gt-ELEMENTS.false))); reached = r.reads.reached };
-      within = r.within;
-      total = r.total;
-      ranges = λ f. shape-read _ _ _ _ c.requires.0 e;
-      room = λ f. c.if-total-one-gt-ELEMENTS.false;
-    }
+pub returns-then-total-shape-gt-ELEMENTS-clause-reads : goal.returns-then-total-shape-gt-ELEMENTS-clause-reads
+returns-then-total-shape-gt-ELEMENTS-clause-reads c =
+    let z = elements-of c.in_ok-shape.shape in
+    array-full _ c.in_ok-shape.ensures (omega (arith, c.if-total-shape-gt-ELEMENTS.true))
 
-pub returns-in-Refused : goal.returns-in-Refused
-returns-in-Refused c = let r = c.read_shape-one.ensures in
-    record {
-      reads = record {
-        same = r.reads.same ∙ read-refusal c.in-Refused.is r.reads
-            ∙ sym (array-no _ _ _ _ _ (read-refusal c.in-Refused.is r.reads));
-        reached = r.reads.reached;
-      };
-      within = r.within;
-      total = r.total;
-      ranges = λ f. not-fine _ c.in-Refused.is f;
-      room = λ f. not-fine _ c.in-Refused.is f;
-    }
+pub returns-clause-reads : goal.returns-clause-reads
+returns-clause-reads c =
+    let z = elements-of c.in_ok-shape.shape in
+    array-fits _ c.in_ok-shape.ensures (omega (arith, c.if-total-shape-gt-ELEMENTS.false))
+
+pub returns-clause-ranges : goal.returns-clause-ranges
+returns-clause-ranges c = shape-read c.in_ok-shape.ensures

@@ -1,13 +1,10 @@
--- `write_words`: k words are written.
-use mathlib.Core.List.{[], ◌∷◌}
-use Prim.Native.Nat.{◌-◌}
+-- `write_words`: as many words are written as were gone through.
+use mathlib.Core.List.{[], ◌∷◌, map}
 use lib.IntN.{pos}
-use lib.ListN.{get_or}
+use lib.ListN.{length, get_or}
 use Rattle.ticket_encoding_words.proofs.WritingLaws.{Filling}
 use Rattle.ticket_encoding_words.proofs.write_words.Given as goal
 
-abbrev pub invariant-loop-k : goal.invariant-loop-k
-invariant-loop-k l = Filling (λ j. get_or l.words j (pos 0) ∷ []) l.initial.out l.initial.next l.i l.n l.out l.next l.k
-
-abbrev pub decreases-loop-k : goal.decreases-loop-k
-decreases-loop-k l = l.n - l.k
+abbrev pub invariant-loop-word : goal.invariant-loop-word
+invariant-loop-word g l = Filling (λ j. get_or (map g.W.Word.number l.words) j (pos 0) ∷ []) l.initial.out l.initial.next 0
+    (length l.words) l.out l.next l.word-index

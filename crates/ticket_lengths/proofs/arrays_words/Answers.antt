@@ -28,9 +28,6 @@ pub overflow_add-total-in-loop-i : goal.overflow_add-total-in-loop-i
 overflow_add-total-in-loop-i c = let d = c.requires.dimensions c.loop-i.i c.loop-i-test.true
     in let i = sum-small c.loop-i.invariant most_arrays (few-arrays c.args.extents.now c.requires) in search rules
 
-pub overflow_add-i : goal.overflow_add-i
-overflow_add-i c = let t = few-arrays c.args.extents.now c.requires in search rules
-
 pub loop-i-preserved : goal.loop-i-preserved
 unfolding array_length
 loop-i-preserved c = let d = c.requires.dimensions c.loop-i.i c.loop-i-test.true in sum_more

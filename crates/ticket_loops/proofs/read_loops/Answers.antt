@@ -1,78 +1,44 @@
-use mathlib.Core.Path.{refl, sym, ◌∙◌}
+-- `read_loops`: the count, then a loop a turn.
 use native.Mathlib.Omega.{arith}
-use Rattle.ticket_words.specs.Words.{natural_answer, OnNatural}
-use Rattle.ticket_refusals.proofs.StatusLaws.{not-fine}
-use Rattle.ticket_words.proofs.ReaderLaws.{seen, known_of, read-value, read-refusal}
-use Rattle.ticket_loops.proofs.ReadLaws.{no-count, passing-starts, passing-room, passing-more, passing-no, passing-done, passing_ok}
+use Rattle.std.proofs.lemmas.Result.{err_from_is_err_and}
+use Rattle.model.specs.Grammar.{loop, loops, ticket_limits}
+use Rattle.ticket_words.proofs.ReaderLaws.{refused-first, repeat-no, repeat-end}
+use Rattle.ticket_loops.proofs.ReadLaws.{next_loop, counted-loops, passing-starts, passing-room, passing-more, all_passed, passing_ok}
 use Rattle.ticket_loops.proofs.read_loops.Goals as goal
 
-pub returns-in-Refused : goal.returns-in-Refused
-returns-in-Refused c = let e = seen (natural_answer _) c.in-Refused.is c.read_count.ensures.same in
-    record {
-      reads = record { same = sym (no-count _ _ _ _ e); reached = c.requires.0 };
-      ok = λ f. not-fine _ refl f;
-      room = c.requires.1;
-      shallow = omega arith;
-    }
+pub returns-in_err-depth-clause-reads : goal.returns-in_err-depth-clause-reads
+unfolding loops
+returns-in_err-depth-clause-reads c =
+    let p = err_from_is_err_and c.from_residual.result c.from_residual.ensures.1 in
+    rw (p.1, p.2) (refused-first _ c.in_err-depth.ensures.reads)
 
 pub loop-k-init : goal.loop-k-init
-loop-k-init c = let e = seen (natural_answer _) c.in-Value.is c.read_count.ensures.same in
-    let k = known_of (OnNatural _ _ _ _) c.in-Value.is c.read_count.ensures.known in
-    passing-starts _ _ _ _ _ c.requires.1 e k.high k.reached
+loop-k-init c = passing-starts _ _ _ _
 
-pub read_loop-one-requires : goal.read_loop-one-requires
-read_loop-one-requires c = let i = c.loop-k.invariant in (
-  i.reached,
-  omega arith,
-  passing-room _ _ _ _ _ c.requires.1 _ _
-      _ _ i,
-)
+pub read_loop-requires : goal.read_loop-requires
+read_loop-requires c =
+    let few = c.in_ok-depth.ensures.within.1 in
+    (omega arith, passing-room _ _ _ _ few c.requires _ _ _ _ c.loop-k.invariant)
 
 pub loop-k-preserved : goal.loop-k-preserved
-loop-k-preserved c = let e = read-value c.in-Fine.is c.read_loop-one.ensures.reads in
-    passing-more _ _ _ _ _ c.requires.1 _ _ _ _ c.loop-k.invariant _ _
-    c.loop-k-test.true e _ _
-    c.read_loop-one.ensures.laid c.read_loop-one.ensures.counted c.read_loop-one.ensures.reads.reached
+loop-k-preserved c = passing-more _ _ _ _ c.in_ok-depth.ensures.within.1 c.requires _ _ _ _ c.loop-k.invariant c.loop-k-test.true
+    c.in_ok-read_loop.ensures
 
-pub shape_of-limits-in-Refused-status : goal.shape_of-limits-in-Refused-status
-shape_of-limits-in-Refused-status c = let r = c.read_loop-one.ensures.room
-    in let q = c.requires.1 in r.words ∙ sym q.words
+pub returns-in_err-read_loop-clause-reads : goal.returns-in_err-read_loop-clause-reads
+returns-in_err-read_loop-clause-reads c =
+    let p = err_from_is_err_and c.from_residual-in_err-read_loop.result c.from_residual-in_err-read_loop.ensures.1 in
+    rw (p.1, p.2) (counted-loops c.in_ok-depth.ensures.reads
+    (repeat-no (loop ticket_limits) next_loop _ _ _ c.loop-k.invariant.underway c.loop-k-test.true c.in_err-read_loop.ensures.reads))
 
-pub shape_of-counts-in-Refused-status : goal.shape_of-counts-in-Refused-status
-shape_of-counts-in-Refused-status c = let r = c.read_loop-one.ensures.room
-    in let q = c.requires.1 in r.counts ∙ sym q.counts
+pub returns-clause-reads : goal.returns-clause-reads
+returns-clause-reads c =
+    let h = c.in_ok-depth.ensures in
+    let i = c.loop-k.invariant in
+    counted-loops h.reads (repeat-end (loop ticket_limits) next_loop _ _ _ i.underway c.loop-k-test.false
+    (all_passed _ _ _ _ h.within.1 c.requires _ _ _ _ i c.loop-k-test.false))
 
-pub returns-in-Refused-status : goal.returns-in-Refused-status
-returns-in-Refused-status c = let i = c.loop-k.invariant in
-    let e = read-refusal c.in-Refused-status.is c.read_loop-one.ensures.reads in
-    record {
-      reads = record {
-        same = sym (passing-no _ _ _ _ _ c.requires.1 _ _ _ _ i _ _
-            c.loop-k-test.true e);
-        reached = i.reached;
-      };
-      ok = λ f. not-fine _ refl f;
-      room = c.read_loop-one.ensures.room;
-      shallow = omega arith;
-    }
+pub returns-clause-ok : goal.returns-clause-ok
+returns-clause-ok c = passing_ok _ _ _ _ c.in_ok-depth.ensures.within.1 c.requires _ _ _ _ c.loop-k.invariant c.loop-k-test.false
 
-pub shape_of-limits : goal.shape_of-limits
-shape_of-limits c = let r = passing-room _ _ _ _ _ c.requires.1 _ _ _ _
-    c.loop-k.invariant in r.words ∙ sym c.requires.1.words
-
-pub shape_of-counts : goal.shape_of-counts
-shape_of-counts c = let r = passing-room _ _ _ _ _ c.requires.1 _ _ _ _
-    c.loop-k.invariant in r.counts ∙ sym c.requires.1.counts
-
-pub returns : goal.returns
-returns c = let i = c.loop-k.invariant in
-    record {
-      reads = record {
-        same = sym (passing-done _ _ _ _ _ c.requires.1 _ _ _ _ i
-            c.loop-k-test.false);
-        reached = i.reached;
-      };
-      ok = λ f. passing_ok _ _ _ _ _ c.requires.1 _ _ _ _ i;
-      room = passing-room _ _ _ _ _ c.requires.1 _ _ _ _ i;
-      shallow = omega arith;
-    }
+pub returns-clause-room : goal.returns-clause-room
+returns-clause-room c = passing-room _ _ _ _ c.in_ok-depth.ensures.within.1 c.requires _ _ _ _ c.loop-k.invariant

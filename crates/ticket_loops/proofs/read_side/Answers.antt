@@ -1,86 +1,72 @@
-use mathlib.Core.Path.{refl, sym}
+-- `read_side`: the count, then a limit and its place a turn.
+use mathlib.Core.Path.{refl}
 use mathlib.Core.List.{[]}
 use native.Mathlib.Omega.{arith}
+use Rattle.std.proofs.lemmas.Result.{err_from_is_err_and}
 use Rattle.lists.proofs.MembershipLaws.{all_nil}
+use Rattle.model.specs.Grammar.{side, limit}
 use Rattle.model.specs.Ranges.{LimitRanges}
-use Rattle.ticket_words.specs.Words.{natural_answer, OnNatural}
-use Rattle.ticket_words.proofs.ReaderLaws.{seen, known_of, read-value, read-refusal}
+use Rattle.ticket_words.proofs.ReaderLaws.{refused-first, read-then, times-stop, times-end}
 use Rattle.ticket_loops.specs.Laid.{lay_limits}
-use Rattle.ticket_loops.proofs.SideLaws.{no-count, filling-starts, filling-length, next-in, filling-more, filling-no, filling-done}
+use Rattle.ticket_loops.proofs.SideLaws.{filling-starts, next-in, filling-more}
 use Rattle.ticket_loops.proofs.read_side.Goals as goal
 
-pub returns-in-Refused : goal.returns-in-Refused
-unfolding lay_limits
-returns-in-Refused c = let e = seen (natural_answer _) c.in-Refused.is c.read_count.ensures.same in
-    record {
+pub returns-in_err-count : goal.returns-in_err-count
+unfolding side lay_limits
+returns-in_err-count c =
+    let p = err_from_is_err_and c.from_residual.result c.from_residual.ensures.1 in
+    rw (p.1, p.2) (record {
       limits = [];
-      reads = record { same = sym (no-count _ _ _ _ _ e); reached = c.requires.reached };
+      reads = refused-first _ c.in_err-count.ensures.reads;
       laid = refl;
-      count = refl;
+      count = tt;
       few = omega arith;
       sized = all_nil _;
       ranges = all_nil LimitRanges;
-    }
+    })
 
 pub loop-k-init : goal.loop-k-init
-loop-k-init c = let e = seen (natural_answer _) c.in-Value.is c.read_count.ensures.same in
-    let k = known_of (OnNatural _ _ _ _) c.in-Value.is c.read_count.ensures.known in
-    filling-starts _ _ _ _ _ _ c.requires e k.high k.reached
-
-pub read_limit-one-requires : goal.read_limit-one-requires
-read_limit-one-requires c = (c.loop-k.invariant.reached, c.requires.shallow)
+loop-k-init c = filling-starts _ _ _ _ _
 
 pub lay_limit-requires : goal.lay_limit-requires
-lay_limit-requires c = let e = read-value c.in-Fine.is
-    c.read_limit-one.ensures.reads in
-    next-in _ _ _ _ _ _ c.requires _ _ _
-    c.loop-k.invariant _ _ c.loop-k-test.true e
-    c.read_limit-one.ensures.within
+lay_limit-requires c =
+    let r = c.in_ok-limit.ensures in
+    next-in _ _ _ _ _ c.requires c.in_ok-count.ensures.within.1 _ _ _ c.loop-k.invariant c.loop-k-test.true r.reads r.within
 
 pub loop-k-preserved : goal.loop-k-preserved
-loop-k-preserved c = let e = read-value c.in-Fine.is
-    c.read_limit-one.ensures.reads in
-    filling-more _ _ _ _ _ _ c.requires _ _ _ c.loop-k.invariant _ _
-    c.loop-k-test.true e _ c.lay_limit.ensures
-    c.read_limit-one.ensures.reads.reached
+loop-k-preserved c =
+    filling-more _ _ _ _ _ c.requires c.in_ok-count.ensures.within.1 _ _ _ c.loop-k.invariant c.loop-k-test.true c.in_ok-limit.ensures.reads _
+    c.lay_limit.ensures
 
-pub shape_of-words-in-Refused-status : goal.shape_of-words-in-Refused-status
-shape_of-words-in-Refused-status c = filling-length _ _ _ _ _ _ c.requires _ _ _
-    c.loop-k.invariant
-
-pub returns-in-Refused-status : goal.returns-in-Refused-status
-returns-in-Refused-status c = let i = c.loop-k.invariant in
-    let e = read-refusal c.in-Refused-status.is c.read_limit-one.ensures.reads in
+pub returns-in_err-limit : goal.returns-in_err-limit
+unfolding side
+returns-in_err-limit c =
+    let i = c.loop-k.invariant in
     let n = i.number in
-    record {
+    let h = c.in_ok-count.ensures in
+    let p = err_from_is_err_and c.from_residual-in_err-limit.result c.from_residual-in_err-limit.ensures.1 in
+    rw (p.1, p.2) (record {
       limits = i.limits;
-      reads = record {
-        same = sym (filling-no _ _ _ _ _ _ c.requires _ _ _ i _ _ c.loop-k-test.true e);
-        reached = i.reached;
-      };
+      reads = read-then _ h.reads (times-stop (limit c.args.outer) _ _ i.underway c.loop-k-test.true c.in_err-limit.ensures.reads);
       laid = i.laid;
-      count = sym n;
-      few = omega arith;
+      count = tt;
+      few = omega (arith, h.within.1);
       sized = i.sized;
       ranges = i.ranges;
-    }
-
-pub shape_of-words : goal.shape_of-words
-shape_of-words c = filling-length _ _ _ _ _ _ c.requires _ _ _ c.loop-k.invariant
+    })
 
 pub returns : goal.returns
-returns c = let i = c.loop-k.invariant in
+unfolding side
+returns c =
+    let i = c.loop-k.invariant in
     let n = i.number in
+    let h = c.in_ok-count.ensures in
     record {
       limits = i.limits;
-      reads = record {
-        same = sym (filling-done _ _ _ _ _ _ c.requires _ _ _ i
-            c.loop-k-test.false);
-        reached = i.reached;
-      };
+      reads = read-then _ h.reads (times-end (limit c.args.outer) _ _ i.underway c.loop-k-test.false refl);
       laid = i.laid;
-      count = sym n;
-      few = omega arith;
+      count = omega (arith, i.low);
+      few = omega (arith, h.within.1);
       sized = i.sized;
       ranges = i.ranges;
     }

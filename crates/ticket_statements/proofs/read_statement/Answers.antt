@@ -1,83 +1,78 @@
 -- `read_statement`: rule, constant, the write and the reads, one after another.
-use mathlib.Core.List.{[]}
+use mathlib.Core.Path.{refl}
+use mathlib.Core.List.{[], ◌∷◌}
 use native.Mathlib.Omega.{arith}
-use Rattle.ticket_words.specs.Words.{natural_answer, OnNatural}
-use Rattle.ticket_refusals.proofs.StatusLaws.{not-fine}
-use Rattle.ticket_words.proofs.ReaderLaws.{seen, known_of, refused-here}
-use Rattle.ticket_statements.proofs.StatementLaws.{no-rule, no-constant, statement-reads}
+use Rattle.std.proofs.lemmas.Result.{err_from_is_err_and}
+use Rattle.model.specs.Ticket as Model
+use Rattle.model.specs.Bounds.{accesses_of}
+use Rattle.model.specs.Grammar.{statement}
+use Rattle.ticket_words.proofs.ReaderLaws.{refused-first, read-then, read-done}
+use Rattle.ticket_statements.proofs.StatementLaws.{then-reads, statement_lays}
 use Rattle.ticket_statements.proofs.read_statement.Goals as goal
 
-pub returns-in-Refused : goal.returns-in-Refused
-returns-in-Refused c = let e = seen (natural_answer _) c.in-Refused.is c.read_natural.ensures.same in
-    let q = c.no_statement.ensures in
-    record {
-      statement = record { rule = 0; constant = 0; writes = []; reads = [] };
-      reads = refused-here _ q.0 q.1 (no-rule _ _ _ _ _ _ e) c.requires.0.reached;
-      few = omega (arith, q.2);
-      laid = λ f. not-fine _ q.0 f;
-    }
+abbrev nothing : Model.Statement
+nothing = record { rule = 0; constant = 0; writes = []; reads = [] }
 
-pub read_natural-requires-2 : goal.read_natural-requires-2
-read_natural-requires-2 c = let k = known_of (OnNatural _ _ _ _) c.in-Value.is
-    c.read_natural.ensures.known in (k.reached, c.most_constant.ensures.1)
+pub returns-in_err-rule : goal.returns-in_err-rule
+unfolding statement
+returns-in_err-rule c =
+    let p = err_from_is_err_and c.from_residual.result c.from_residual.ensures.1 in
+    rw (p.1, p.2) (record { statement = nothing; reads = refused-first _ c.in_err-rule.ensures.reads; laid = tt })
 
-pub returns-in-Refused-read_natural : goal.returns-in-Refused-read_natural
-returns-in-Refused-read_natural c = let e = seen (natural_answer _) c.in-Value.is
-    c.read_natural.ensures.same in
-    let f = seen (natural_answer _) c.in-Refused-read_natural.is c.read_natural-2.ensures.same in
-    let q = c.no_statement-in-Refused-read_natural.ensures in
-    record {
-      statement = record { rule = 0; constant = 0; writes = []; reads = [] };
-      reads = refused-here _ q.0 q.1 (no-constant _ _ _ _ _ _ c.most_constant.ensures.0 e _ _ f)
-          c.requires.0.reached;
-      few = omega (arith, q.2);
-      laid = λ f. not-fine _ q.0 f;
-    }
+pub returns-in_err-constant : goal.returns-in_err-constant
+unfolding statement
+returns-in_err-constant c =
+    let h = c.most_constant.ensures.0 in
+    let p = err_from_is_err_and c.from_residual-in_err-constant.result c.from_residual-in_err-constant.ensures.1 in
+    rw (p.1, p.2) (record {
+      statement = nothing;
+      reads = read-then _ c.in_ok-rule.ensures.reads (refused-first _ (rw h at c.in_err-constant.ensures.reads));
+      laid = tt;
+    })
 
-pub read_access-first-requires : goal.read_access-first-requires
-read_access-first-requires c = let k = known_of (OnNatural _ _ _ _) c.in-Value-read_natural.is
-    c.read_natural-2.ensures.known in
-    let r = k.reached in
-    let p = c.requires.0 in (
-      record {
-        reached = record { counted = omega arith; there = omega arith };
-        shallow = p.shallow;
-        arrays = p.arrays;
-        words = p.words;
-        accessed = p.accessed;
-      },
-      omega (
-        arith,
-        c.requires.1,
-      ),
-    )
+pub returns-in_err-read_access : goal.returns-in_err-read_access
+unfolding statement
+returns-in_err-read_access c =
+    let h = c.most_constant.ensures.0 in
+    let p = err_from_is_err_and c.from_residual-in_err-read_access.result c.from_residual-in_err-read_access.ensures.1 in
+    rw (p.1, p.2) (record {
+      statement = nothing;
+      reads = read-then _ c.in_ok-rule.ensures.reads
+          (read-then _ (rw h at c.in_ok-constant.ensures.reads) (refused-first _ c.in_err-read_access.ensures.reads));
+      laid = tt;
+    })
 
-pub read_accesses-others-requires : goal.read_accesses-others-requires
-read_accesses-others-requires c = let p = c.requires.0 in (
-  record {
-    reached = c.read_access-first.ensures.reads.reached;
-    shallow = p.shallow;
-    arrays = p.arrays;
-    words = omega arith;
-    accessed = omega arith;
-  },
-  omega (
-    arith,
-    c.requires.1,
-  ),
-)
+pub returns-in_err-reads : goal.returns-in_err-reads
+unfolding statement
+returns-in_err-reads c =
+    let h = c.most_constant.ensures.0 in
+    let g = c.least_reads.ensures in
+    let p = err_from_is_err_and c.from_residual-in_err-reads.result c.from_residual-in_err-reads.ensures.1 in
+    rw (p.1, p.2) (record {
+      statement = nothing;
+      reads = read-then _ c.in_ok-rule.ensures.reads
+          (read-then _ (rw h at c.in_ok-constant.ensures.reads)
+          (read-then _ c.in_ok-read_access.ensures.reads (then-reads _ _ _ _ (refused-first _ (rw g at c.in_err-reads.ensures.reads)))));
+      laid = tt;
+    })
 
 pub returns : goal.returns
-returns c = let e = seen (natural_answer _) c.in-Value.is
-    c.read_natural.ensures.same in
-    let f = seen (natural_answer _) c.in-Value-read_natural.is c.read_natural-2.ensures.same in
-    let p = c.requires.0 in
-    statement-reads _ _ _ _ _ _ _ _ _ _ _ _ _ _ _ _ _ _ c.most_constant.ensures.0 e f
-    c.least_reads-least.ensures
-    (omega (
-      arith,
-      p.accessed,
-      c.requires.1,
-    ))
-    c.read_access-first.ensures
-    c.read_accesses-others.ensures c.first_refusal-status.ensures
+unfolding statement accesses_of
+returns c =
+    let h = c.most_constant.ensures.0 in
+    let g = c.least_reads.ensures in
+    let w = c.in_ok-read_access.ensures in
+    let r = c.in_ok-reads.ensures in
+    record {
+      statement = record { rule = c.in_ok-rule.rule; constant = c.in_ok-constant.constant; writes = w.access ∷ []; reads = r.list };
+      reads = read-then _ c.in_ok-rule.ensures.reads
+          (read-then _ (rw h at c.in_ok-constant.ensures.reads)
+          (read-then _ w.reads (then-reads _ _ _ _ (read-then _ (rw g at r.reads) (read-done _ refl)))));
+      laid = record {
+        laid = statement_lays c.in_ok-rule.rule c.in_ok-constant.constant w.laid r.laid;
+        few = omega (arith, r.few);
+        size = omega (arith, r.count);
+        rule = refl;
+        constant = refl;
+      };
+    }

@@ -1,132 +1,63 @@
-use mathlib.Core.Path.{refl, sym, ◌∙◌}
+-- `read_statements`: the count, then a statement a turn.
+use mathlib.Core.Path.{◌≡◌, refl, ap, ◌∙◌}
 use mathlib.Core.List.{[]}
 use native.Mathlib.Omega.{arith}
-use Rattle.ticket_words.specs.Words.{natural_answer, OnNatural}
-use Rattle.ticket_refusals.proofs.StatusLaws.{not-fine}
-use Rattle.ticket_words.proofs.ReaderLaws.{seen, known_of, read-value, read-refusal}
-use Rattle.ticket_statements.proofs.BodyLaws.{no-count, filling-starts, filling-more, filling-no, filling-done}
-use borrow.Author.Rules.{rules}
+use lib.ListN.{take}
+use Rattle.std.proofs.lemmas.Result.{err_from_is_err_and}
+use Rattle.model.specs.Grammar.{statement, statements}
+use Rattle.nest_flat.specs.Layout.{arrays_of}
+use Rattle.ticket_words.proofs.ReaderLaws.{refused-first, read-then, times-stop, times-end}
+use Rattle.ticket_statements.proofs.StatementLaws.{filling-starts, filling-more}
 use Rattle.ticket_statements.proofs.read_statements.Goals as goal
 
-pub read_count-requires : goal.read_count-requires
-read_count-requires c = (c.requires.0.reached, omega arith)
-
-pub returns-in-Refused : goal.returns-in-Refused
-returns-in-Refused c = let e = seen (natural_answer _) c.in-Refused.is c.read_count.ensures.same in
-    record {
-      statements = [];
-      reads = record {
-        same = sym (no-count _ _ _ _ _ _ e);
-        reached = c.requires.0.reached;
-      };
-      few = omega arith;
-      few-accesses = omega arith;
-      laid = λ f. not-fine _ refl f;
-    }
+pub returns-in_err-count : goal.returns-in_err-count
+unfolding statements
+returns-in_err-count c =
+    let p = err_from_is_err_and c.from_residual.result c.from_residual.ensures.1 in
+    rw (p.1, p.2) (record { statements = []; reads = refused-first _ c.in_err-count.ensures.reads; laid = tt })
 
 pub loop-i-init : goal.loop-i-init
-loop-i-init c = let e = seen (natural_answer _) c.in-Value.is c.read_count.ensures.same in
-    let k = known_of (OnNatural _ _ _ _) c.in-Value.is c.read_count.ensures.known in
-    filling-starts _ _ _ _ _ _ _ _ _ _ c.requires.1
-    c.requires.2
-    c.requires.3 e k.high k.reached
-
-pub read_statement-one-requires : goal.read_statement-one-requires
-read_statement-one-requires c = let i = c.loop-i.invariant in
-    let p = c.requires.0 in (
-      record {
-        reached = i.reached;
-        shallow = p.shallow;
-        arrays = p.arrays;
-        words = i.words-room ∙ p.words;
-        accessed = i.accessed-room
-            ∙ p.accessed;
-      },
-      omega (arith, i.few, i.bounded, c.loop-i-test.true),
-    )
-
-pub bounds-sizes-i : goal.bounds-sizes-i
-bounds-sizes-i c = let i = c.loop-i.invariant in omega
-    (arith, i.few, i.sizes-room, c.loop-i-test.true)
-
-pub bounds-rules-i : goal.bounds-rules-i
-bounds-rules-i c = let i = c.loop-i.invariant in omega
-    (arith, i.few, i.rules-room, c.loop-i-test.true)
-
-pub bounds-constants-i : goal.bounds-constants-i
-bounds-constants-i c = let i = c.loop-i.invariant in omega
-    (arith, i.few, i.constants-room, c.loop-i-test.true)
-
-pub overflow_add-accesses : goal.overflow_add-accesses
-overflow_add-accesses c = let i = c.loop-i.invariant in omega (
-  arith,
-  i.few,
-  i.bounded,
-  c.loop-i-test.true,
-  c.read_statement-one.ensures.few,
-)
+loop-i-init c = filling-starts _ _ _ _ _ _ _ _ refl refl refl
 
 pub loop-i-preserved : goal.loop-i-preserved
-loop-i-preserved c = let i = c.loop-i.invariant in
-    let q = c.read_statement-one.ensures in
-    let e = read-value c.in-Fine.is q.reads in
-    filling-more _ _ _ _ _ _ _ _ _ _ _ _ _ _ _ i _ c.read_statement-one.result _ _
-    c.requires.0.accessed c.loop-i-test.true e (q.laid c.in-Fine.is) q.few (search rules) (search rules) q.reads.reached
+loop-i-preserved c =
+    filling-more _ _ _ _ _ _ _ _ _ _ _ _ c.loop-i.invariant c.loop-i-test.true c.in_ok-count.ensures.within.1 c.in_ok-statement.ensures
 
-pub shape_of-words-in-Refused-status : goal.shape_of-words-in-Refused-status
-shape_of-words-in-Refused-status c = let i = c.loop-i.invariant in search rules
-
-pub shape_of-accessed-in-Refused-status : goal.shape_of-accessed-in-Refused-status
-shape_of-accessed-in-Refused-status c = let i = c.loop-i.invariant in search rules
-
-pub shape_of-sizes-in-Refused-status : goal.shape_of-sizes-in-Refused-status
-shape_of-sizes-in-Refused-status c = let i = c.loop-i.invariant in i.sizes-room
-    ∙ sym c.requires.1
-
-pub shape_of-rules-in-Refused-status : goal.shape_of-rules-in-Refused-status
-shape_of-rules-in-Refused-status c = let i = c.loop-i.invariant in i.rules-room
-    ∙ sym c.requires.2
-
-pub shape_of-constants-in-Refused-status : goal.shape_of-constants-in-Refused-status
-shape_of-constants-in-Refused-status c = let i = c.loop-i.invariant in i.constants-room
-    ∙ sym c.requires.3
-
-pub returns-in-Refused-status : goal.returns-in-Refused-status
-returns-in-Refused-status c = let i = c.loop-i.invariant in
-    let e = read-refusal c.in-Refused-status.is c.read_statement-one.ensures.reads in
-    record {
+pub returns-in_err-statement : goal.returns-in_err-statement
+unfolding statements
+returns-in_err-statement c =
+    let n = c.args.nest in
+    let u = c.loop-i.invariant.underway in
+    let p = err_from_is_err_and c.from_residual-in_err-statement.result c.from_residual-in_err-statement.ensures.1 in
+    rw (p.1, p.2) (record {
       statements = [];
-      reads = record {
-        same = sym (filling-no _ _ _ _ _ _ _ _ _ _ _ _ _ _ _ i _ _
-            c.loop-i-test.true e);
-        reached = c.requires.0.reached;
-      };
-      few = omega (arith, i.few, i.low);
-      few-accesses = omega (arith, i.few, i.low, i.bounded);
-      laid = λ f. not-fine _ refl f;
-    }
-
-pub shape_of-words : goal.shape_of-words
-shape_of-words c = c.loop-i.invariant.words-room
-
-pub shape_of-accessed : goal.shape_of-accessed
-shape_of-accessed c = c.loop-i.invariant.accessed-room
-
-pub shape_of-sizes : goal.shape_of-sizes
-shape_of-sizes c = c.loop-i.invariant.sizes-room ∙ sym c.requires.1
-
-pub shape_of-rules : goal.shape_of-rules
-shape_of-rules c = c.loop-i.invariant.rules-room ∙ sym c.requires.2
-
-pub shape_of-constants : goal.shape_of-constants
-shape_of-constants c = c.loop-i.invariant.constants-room ∙ sym c.requires.3
+      reads = read-then _ c.in_ok-count.ensures.reads
+          (times-stop (statement n.depth (arrays_of n.extents.now)) _ _ u c.loop-i-test.true c.in_err-statement.ensures.reads);
+      laid = tt;
+    })
 
 pub returns : goal.returns
-returns c = let i = c.loop-i.invariant in
+unfolding statements
+returns c =
+    let n = c.args.nest in
+    let i = c.loop-i.invariant in
+    let h = c.in_ok-count.ensures in
+    let z : c.in_ok-count.count ≡ c.loop-i.i = omega (arith, i.low) in
     record {
       statements = i.list;
-      reads = record { same = sym (filling-done _ _ _ _ _ _ _ _ _ _ _ _ _ _ _ i c.loop-i-test.false); reached = i.reached };
-      few = omega (arith, i.few, i.low);
-      few-accesses = omega (arith, i.few, i.low, i.bounded);
-      laid = λ f. record { laid = i.laid; count = i.number; accesses = i.many_is; sizes = i.sizes; rules = i.rules; constants = i.constants };
+      reads = read-then _ h.reads (times-end (statement n.depth (arrays_of n.extents.now)) _ _ i.underway c.loop-i-test.false refl);
+      laid = record {
+        laid = i.lays.laid;
+        count = omega (arith, i.number);
+        accesses = omega (arith, i.lays.count);
+        few = h.within.1;
+        few-accesses = c.loop-i.accesses.few;
+        sizes = ap (λ m. take m c.loop-i.sizes) z ∙ i.sizes;
+        rules = ap (λ m. take m c.loop-i.rules) z ∙ i.rules;
+        constants = ap (λ m. take m c.loop-i.constants) z ∙ i.constants;
+        sizes-room = i.sizes-room;
+        rules-room = i.rules-room;
+        constants-room = i.constants-room;
+        accessed-room = c.loop-i.accesses.room;
+      };
     }

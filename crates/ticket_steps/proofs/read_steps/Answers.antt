@@ -1,108 +1,74 @@
-use mathlib.Core.Path.{◌≡◌, refl, sym, ap, ◌∙◌, subst}
-use mathlib.Core.List.{List}
-use Prim.Native.Nat.{ℕ, ◌+◌, ◌-◌, ◌<◌, ◌≤◌}
+use mathlib.Core.Path.{◌≡◌, refl, sym, ap, subst}
+use mathlib.Core.List.{List, []}
+use Prim.Native.Nat.{ℕ, ◌+◌, ◌-◌, ◌<◌}
 use native.Mathlib.Omega.{arith}
+use native.Mathlib.Numerals.{add-one}
 use lib.ListN.{length, take, set, length-set}
-use Rattle.model.specs.Answer.{accepted, refused}
+use Rattle.model.specs.Ticket as Model
 use Rattle.model.specs.Grammar as Grammar
-use Rattle.model.specs.Grammar.{depth_after, steps_from}
-use Rattle.ticket_words.specs.Words.{natural_answer, OnNatural}
-use Rattle.ticket_words.proofs.ReaderLaws.{seen, known_of, refused-here, after-value, after-refusal, before, filled_more}
+use Rattle.model.specs.Grammar.{Reader, depth_after, steps_from}
+use Rattle.std.specs.Prelude.{Ok}
 use Rattle.step_kinds.specs.Kinds.{step_of}
 use Rattle.step_kinds.specs.declared.Step.{Step}
-use Rattle.ticket_steps.specs.Steps.{step_answer, OnStep, one_step, steps_of, NumberedFrom}
+use Rattle.ticket_words.specs.Reads.{Reads}
+use Rattle.ticket_words.specs.declared.Words.{Words}
+use Rattle.ticket_words.proofs.ReaderLaws.{refused-first, read-then, repeated, Underway, repeat-begin, repeat-more, repeat-no, repeat-end, filled_more}
+use Rattle.ticket_steps.specs.Steps.{one_step, steps_of, NumberedFrom}
 use Rattle.ticket_steps.specs.declared.Numbered.{Numbered}
-use Rattle.ticket_steps.proofs.StepLaws.{numbered_next, steps-start, steps-more, steps-no, steps-done}
-use Rattle.ticket_steps.proofs.read_steps.Invariants.{Inv, taken}
+use Rattle.ticket_steps.proofs.StepLaws.{handed_on, numbered_next, reads_one, after, repeats}
+use Rattle.ticket_steps.proofs.read_steps.Invariants.{taken}
 use Rattle.ticket_steps.proofs.read_steps.Goals as goal
 
-module _ (m : ℕ) (b : List ℕ) (k : ℕ) where
-  no-count : (q p : ℕ) → Grammar.count 0 8 b k ≡ refused q p → Grammar.steps m b k ≡ refused q p
-  unfolding Grammar.steps
-  no-count q p e = after-refusal (Grammar.count 0 8) _ b k q p e
+-- none is read yet
+begins : (depth n : ℕ) (o : Words) → Underway (steps_from 1 depth n) o [] (repeated reads_one after (n - 0) (0 + 1, depth)) o
+begins depth n o = subst (λ (m : Reader (List Model.Step)). Underway m o [] (repeated reads_one after (n - 0) (0 + 1, depth)) o)
+    (sym (repeats 1 depth n)) (repeat-begin reads_one after n (1, depth) o)
 
-  counted : (n : ℕ) → Grammar.count 0 8 b k ≡ accepted (record { value = n; next = k + 1 }) → Grammar.steps m b k ≡ steps_from 1 m n b (k + 1)
-  unfolding Grammar.steps
-  counted n e = after-value (Grammar.count 0 8) _ b k n (k + 1) e
+-- one more
+goes_on : {m : Reader (List Model.Step)} {o e e' : Words} (n k loops : ℕ) (l : List Numbered) (x : Step) (d : ℕ) → k < n → k < length l
+    → d ≡ depth_after (step_of x) loops → Underway m o (taken k l) (repeated reads_one after (n - k) (k + 1, loops)) e
+    → Reads step_of (one_step (k + 1) loops) e (Ok x) e'
+    → Underway m o (taken (k + 1) (set l k (record { number = k + 1; step = x }))) (repeated reads_one after (n - (k + 1)) (k + 1 + 1, d)) e'
+goes_on n k loops l x d h p s u g = rw (s, add-one (k + 1))
+    (repeat-more reads_one after n k (k + 1, loops) u h g (filled_more (λ (y : Numbered). step_of y.step) l k (record { number = k + 1; step = x })
+    (step_of x) refl p))
 
-one_more : (b : List ℕ) (n i m j : ℕ) (l : List Numbered) (x : Step) (d : ℕ) → i < n → i < length l → d ≡ depth_after (step_of x) m
-    → one_step (i + 1) m b j ≡ accepted (record { value = step_of x; next = j + 1 + 3 })
-    → before (taken i l) (steps_from (i + 1) m (n - i) b j)
-    ≡ before (taken (i + 1) (set l i (record { number = i + 1; step = x }))) (steps_from (i + 1 + 1) d (n - (i + 1)) b (j + 4))
-one_more b n i m j l x d h p s e =
-    let z : j + 1 + 3 ≡ j + 4 = omega arith in
-    steps-more b n i m j (taken i l) (step_of x) d (j + 4) h s (e ∙ ap (λ y. accepted (record { value = step_of x; next = y })) z)
-    ∙ ap (λ vs. before vs (steps_from (i + 1 + 1) d (n - (i + 1)) b (j + 4)))
-    (filled_more (λ (y : Numbered). step_of y.step) l i (record { number = i + 1; step = x }) (step_of x) refl p)
-
-ends : (b : List ℕ) (at depth n : ℕ) (l : List Numbered) (next loops k : ℕ) → Inv b at depth n l next loops k → n ≤ k
-    → (Grammar.steps depth b at ≡ accepted (record { value = taken n l; next = next })) × NumberedFrom 1 (take n l)
-ends b at depth n l next loops k i h =
-    let z : k ≡ n = let p = i.low in omega arith in (
-      i.so ∙ steps-done b n k loops next _ h ∙ ap (λ m. accepted (record { value = taken m l; next = next })) z,
-      subst
-          (λ m. NumberedFrom 1 (take m l)) z i.numbered,
-    )
-
-pub returns-in-Refused : goal.returns-in-Refused
-returns-in-Refused c =
-    let e = seen (natural_answer _) c.in-Refused.is c.read_count.ensures.same in
-    let q = c.no_steps.ensures in
-    record { reads = refused-here _ q.0 q.1 (no-count _ _ _ _ _ e) c.requires.0; within = q.2 }
+pub returns-in_err-count-clause-reads : goal.returns-in_err-count-clause-reads
+unfolding Grammar.steps
+returns-in_err-count-clause-reads c = handed_on c.from_residual.ensures.1 (refused-first _ c.in_err-count.ensures.reads)
 
 pub loop-k-init : goal.loop-k-init
-loop-k-init c =
-    let e = seen (natural_answer _) c.in-Value.is c.read_count.ensures.same in
-    let k = known_of (OnNatural _ _ _ _) c.in-Value.is c.read_count.ensures.known in
-    record {
-      low = omega arith;
-      few = k.high;
-      six = c.requires.1;
-      eight = c.blank_steps-all.ensures;
-      numbered = tt;
-      reached = k.reached;
-      so = counted _ _ _ _ e ∙ steps-start _ _ _ _;
-    }
-
-pub overflow_add-next-in-Taken : goal.overflow_add-next-in-Taken
-overflow_add-next-in-Taken c = let i = c.loop-k.invariant.reached in omega arith
+loop-k-init c = record { six = c.requires; eight = refl; numbered = tt; underway = begins _ _ _ }
 
 pub loop-k-preserved : goal.loop-k-preserved
 loop-k-preserved c =
     let i = c.loop-k.invariant in
-    let e = seen (step_answer _) c.in-Taken.is c.read_step.ensures.same in
-    let k = known_of (OnStep _ _ _) c.in-Taken.is c.read_step.ensures.known in
+    let n = c.in_ok-count.ensures.within.1 in
     let d = c.depth_after-loops.ensures in
-    let r = k.reached in
-    let f = k.few in
+    let f = c.in_ok-step.ensures.few in
     record {
-      low = omega arith;
-      few = i.few;
       six = omega arith;
       eight = simp length-set i.eight;
-      numbered = numbered_next c.loop-k.all
-          c.loop-k.k _ (omega arith) refl i.numbered;
-      reached = record { counted = omega arith; there = omega arith };
-      so = i.so ∙ one_more _ _ _ _ _ _ _ _ c.loop-k-test.true (omega arith) d e;
+      numbered = numbered_next c.loop-k.steps c.loop-k.k _ (omega arith) refl i.numbered;
+      underway = goes_on _ _ _ _ _ _ c.loop-k-test.true (omega arith) d i.underway c.in_ok-step.ensures.reads;
     }
 
-pub returns-in-Refused-read_step : goal.returns-in-Refused-read_step
-returns-in-Refused-read_step c =
-    let i = c.loop-k.invariant in
-    let e = seen (step_answer _) c.in-Refused-read_step.is c.read_step.ensures.same in
-    let q = c.no_steps-in-Refused-read_step.ensures in
-    record {
-      reads = refused-here _ q.0 q.1 (i.so ∙ steps-no _ _ _ _ _ _ _ _ c.loop-k-test.true e)
-          c.requires.0;
-      within = q.2;
-    }
+pub returns-in_err-step-clause-reads : goal.returns-in_err-step-clause-reads
+unfolding Grammar.steps
+returns-in_err-step-clause-reads c =
+    handed_on c.from_residual-in_err-step.ensures.1
+    (read-then _ c.in_ok-count.ensures.reads
+    (repeat-no reads_one after _ _ _ c.loop-k.invariant.underway c.loop-k-test.true c.in_err-step.ensures.reads))
 
-pub returns : goal.returns
-unfolding steps_of
-returns c =
+pub returns-clause-reads : goal.returns-clause-reads
+unfolding Grammar.steps steps_of
+returns-clause-reads c =
+    let z : c.loop-k.k ≡ c.in_ok-count.count = omega arith in
+    read-then _ c.in_ok-count.ensures.reads
+    (repeat-end reads_one after _ _ _ c.loop-k.invariant.underway c.loop-k-test.false (ap (λ m. taken m c.loop-k.steps) z))
+
+pub returns-clause-within : goal.returns-clause-within
+returns-clause-within c =
     let i = c.loop-k.invariant in
-    let e = ends _ _ _ _ _ _ _ _ i c.loop-k-test.false in
-    record {
-      reads = record { same = sym e.0; reached = i.reached };
-      within = record { few = i.few; room = i.eight; numbered = e.1 };
-    }
+    let z : c.loop-k.k ≡ c.in_ok-count.count = omega arith in
+    record { few = c.in_ok-count.ensures.within.1; room = i.eight; numbered = subst (λ m. NumberedFrom 1 (take m c.loop-k.steps)) z i.numbered }

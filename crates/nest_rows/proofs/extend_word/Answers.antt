@@ -1,9 +1,0 @@
-use mir.Facts.{to_z-of_z}
-use Rattle.nest_rows.proofs.RowLaws.{word_wide}
-use Rattle.nest_rows.proofs.extend_word.Goals as goal
-
-pub overflow_cast-result : goal.overflow_cast-result
-overflow_cast-result c = rw (to_z-of_z c.ranges.x) (word_wide c.ranges.x)
-
-pub returns : goal.returns
-returns c = rw (to_z-of_z c.ranges.x) (to_z-of_z (word_wide c.ranges.x))

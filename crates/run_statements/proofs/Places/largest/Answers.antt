@@ -1,0 +1,30 @@
+use Rattle.std.proofs.Common.{◌≡◌, ℕ, ap, ◌∙◌, arith}
+use Rattle.model.specs.Store.{most}
+use Rattle.run_statements.specs.Flat.{fetched}
+use Rattle.run_statements.proofs.RuleLaws.{one-read, most-none, most-max}
+use Rattle.run_statements.proofs.Places.largest.Goals as goal
+
+pub loop-i-init : goal.loop-i-init
+loop-i-init c = (
+  omega arith,
+  most-none c.args.self.numbers.now c.args.self.count c.args.x c.args.store.now
+      c.args.k c.args.constant,
+)
+
+pub overflow_add-k : goal.overflow_add-k
+overflow_add-k c = let f = c.requires.few in let t = c.loop-i-test.true in omega arith
+
+pub read_word-requires : goal.read_word-requires
+read_word-requires c = one-read c.requires c.loop-i.i c.loop-i-test.true
+
+pub loop-i-preserved : goal.loop-i-preserved
+loop-i-preserved c = let l = c.loop-i in let t = c.loop-i-test.true in (
+  omega arith,
+  c.max-r.ensures ∙ most-max c.args.self.numbers.now c.args.self.count c.args.x c.args.store.now c.args.k c.args.constant l.i
+      l.r c.read_word.result l.invariant.1 c.read_word.ensures,
+)
+
+pub returns : goal.returns
+returns c = let l = c.loop-i in let e : l.i ≡ c.args.n = omega
+    (arith, l.invariant.0, c.loop-i-test.false) in l.invariant.1 ∙ ap (λ (j : ℕ). most c.args.constant
+    (fetched c.args.self.numbers.now c.args.self.count c.args.x c.args.store.now c.args.k j)) e

@@ -1,2 +1,0 @@
--- Laws of a status.
-pub mod StatusLaws
