@@ -14,12 +14,18 @@ use Rattle.model.specs.Grammar.{most_statements, most_accesses, most_extents}
 use Rattle.nest_flat.specs.Layout.{extents_at, arrays_of, accesses_from, bodies_from, ArrayIn, AccessesOk}
 use Rattle.nest_points.specs.Stored.{RowsIn}
 use Rattle.std.specs.Prelude.{Option, Some, None}
-use Rattle.nest_elements.specs.Search.{violates_at, ViolationIn, AccessIn, access_violates, answer_of}
+use Rattle.nest_elements.specs.Search.{violates_at, ViolationIn, answer_of}
 use Rattle.nest_elements.proofs.LayoutLaws.{array-in, array-ends, extents-length, extent-read, bodies-drop, sum_drop}
-use Rattle.nest_elements.proofs.ViolationLaws.{grows, dimensions_violation, no-dimension, one-dimension, all-dimensions}
+use Rattle.nest_elements.proofs.ViolationLaws.{grows, dimensions_violation, no-dimension, one-dimension, access_violates, all-dimensions}
 use Rattle.nest_elements.proofs.ViolationLaws.{accesses_violation, one-access, in_bodies, body-clear, body-violates, no_body}
 
 -- ---- the dimensions of one access
+
+-- access k of all, and stored points
+pub record AccessIn (w : List ℤ) (o a : List ℕ) (k : ℕ) (points : List ℤ) (depth count : ℕ) : Type 0 where
+  pub accesses : AccessesOk w o a depth
+  pub there : k < length o
+  pub stored : RowsIn points depth count
 
 -- its first d dimensions
 abbrev pub violates_to : List ℤ → List ℕ → List ℕ → ℕ → List (List ℤ) → ℕ → ℕ → Bool
@@ -141,6 +147,9 @@ module _ {w : List ℤ} {o a sizes : List ℕ} {points : List ℤ} {depth count 
       module _ {i : ℕ} (l : i < get_or sizes s 0) where
         pub access-in : AccessIn w o a (first + i) points depth count
         access-in = record { accesses = p.accesses; there = (let r = accesses-end in omega arith); stored = p.stored }
+
+        pub bounds-in : Bounds o a (first + i)
+        bounds-in = bounds access-in
 
         module _ (e : accesses_violation w o a depth (rows depth count points) first i ≡ false) where
           pub next-access : false ≡ access_violates w o a depth (rows depth count points) (first + i)

@@ -15,7 +15,7 @@ use Rattle.model.specs.Answer.{Answer, accepted, refused, require, ◌>>◌, ◌
 use Rattle.model.specs.Ticket.{Access, Statement}
 use Rattle.model.specs.Bounds.{subscript_at, outside, violates, accesses_of, in_arrays}
 use Rattle.nest_flat.specs.Layout.{extents_at, arrays_of, form_at, forms_from, access_at, accesses_from, AccessesOk}
-use Rattle.nest_elements.specs.Search.{off, violates_at, access_violates}
+use Rattle.nest_elements.specs.Search.{off, violates_at}
 use Rattle.nest_elements.proofs.LayoutLaws.{array-in, extents-are, extents-length, forms-snoc, forms-length, accesses-snoc}
 
 -- ---- tests of all points
@@ -78,6 +78,9 @@ module _ (w : List ℤ) (ns : List ℕ) (n : ℕ) (ps : List (List ℤ)) (j : �
           (length-take-le d ns (omega arith) ∙ sym (length-map (forms_from w n j d) (subscript_at p) ∙ forms-length w n j d))
 
 -- ---- accesses
+
+abbrev pub access_violates : List ℤ → List ℕ → List ℕ → ℕ → List (List ℤ) → ℕ → Bool
+access_violates w o a n ps k = any (λ p. violates (arrays_of a) p (access_at w o a n k)) ps
 
 abbrev pub accesses_violation : List ℤ → List ℕ → List ℕ → ℕ → List (List ℤ) → ℕ → ℕ → Bool
 accesses_violation w o a n ps k i = any (λ p. any (violates (arrays_of a) p) (accesses_from w o a n k i)) ps

@@ -1,12 +1,12 @@
 -- The search for a subscript that leaves its extent.
-use Rattle.std.specs.Prelude.{Bool, ◌||◌, List, ℕ, ◌+◌, ◌*◌, ◌≤◌, ◌<◌, ℤ, pos, length, Option, Some, None}
+use Rattle.std.specs.Prelude.{Bool, ◌||◌, List, ℕ, ◌+◌, ◌*◌, ◌≤◌, ℤ, pos, length, Option, Some, None}
 use Rattle.std.specs.Int.Signed.{lt_z, le_z}
 use Rattle.lists.specs.Tests.{any}
 use Rattle.integers.specs.Affine.{Within}
 use Rattle.model.specs.Answer.{Answer, accepted, refused}
-use Rattle.model.specs.Bounds.{subscript_at, violates}
+use Rattle.model.specs.Bounds.{subscript_at}
 use Rattle.model.specs.Grammar.{most_extent}
-use Rattle.nest_flat.specs.Layout.{form_at, arrays_of, access_at, AccessesOk}
+use Rattle.nest_flat.specs.Layout.{form_at}
 use Rattle.nest_points.specs.Stored.{RowsIn}
 
 -- not from 0 to extent − 1
@@ -22,16 +22,6 @@ pub record ViolationIn (w : List ℤ) (j extent : ℕ) (points : List ℤ) (dept
 -- some point's subscript j leaves its extent
 unfoldable pub violates_at : List ℤ → ℕ → ℕ → ℕ → List (List ℤ) → Bool
 violates_at w depth j extent ps = any (λ p. off extent (subscript_at p (form_at w depth j))) ps
-
--- access k of all, and stored points
-pub record AccessIn (w : List ℤ) (o a : List ℕ) (k : ℕ) (points : List ℤ) (depth count : ℕ) : Type 0 where
-  pub accesses : AccessesOk w o a depth
-  pub there : k < length o
-  pub stored : RowsIn points depth count
-
--- it leaves its array at some point
-abbrev pub access_violates : List ℤ → List ℕ → List ℕ → ℕ → List (List ℤ) → ℕ → Bool
-access_violates w o a n ps k = any (λ p. violates (arrays_of a) p (access_at w o a n k)) ps
 
 -- the number of the first statement that leaves an array, if one does
 abbrev pub answer_of : Option ℕ → Answer (Unit {0})

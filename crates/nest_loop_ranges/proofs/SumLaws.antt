@@ -102,14 +102,18 @@ module _ (d : Side) (w : List ℤ) (at n : ℕ) (b : List Range) (p : SumIn w at
       end_is : (f : Side) → copy (end_of f r) ≡ end_of f r
       end_is f = let s = end-size f r (range-near n b p.ranges i h) in copied (end_of f r) (omega arith)
 
-      pub term_in : TermIn e (copy c) (copy (end_of d r)) (copy (end_of (other d) r))
-      term_in = let s = so-far-size in let g = range-near n b p.ranges i h in
+      -- whichever ends are taken
+      pub ends-in : (f g : Side) → TermIn e (copy c) (copy (end_of f r)) (copy (end_of g r))
+      ends-in f g = let s = so-far-size in let near = range-near n b p.ranges i h in
           record {
             sum = omega arith;
             coefficient = rw word-is word_small;
-            up = rw (end_is d) (end-size d r g);
-            down = rw (end_is (other d)) (end-size (other d) r g);
+            up = rw (end_is f) (end-size f r near);
+            down = rw (end_is g) (end-size g r near);
           }
+
+      pub term_in : TermIn e (copy c) (copy (end_of d r)) (copy (end_of (other d) r))
+      term_in = ends-in d (other d)
 
       in_words : i < length (drop at w)
       in_words = let l = length-drop at w in let o = p.inside in omega arith

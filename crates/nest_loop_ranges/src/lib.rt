@@ -151,32 +151,14 @@ fn has_coefficient(nest: &[i16], j: usize, n: usize, i: usize) -> bool
     false
 }
 
-// The least value of loop k.
+// The least value of loop k. Most limits have coefficients of few loops, and it goes only into these: the range of another stays 0 to 0, since its
+// coefficients are 0.
 #[cycle(loop_values)]
 pub fn least_value(nest: &[i16], counts: &[usize], k: usize) -> Whole
     requires { NestOk nest.now counts.now (suc k) }
     ensures { (result.value ≡ (range_at nest.now counts.now k).least) × (size result.value ≤ 32767) }
 {
-    extreme_value(Side::Lower, nest, counts, k)
-}
-
-// The greatest value of loop k.
-#[cycle(loop_values)]
-pub fn greatest_value(nest: &[i16], counts: &[usize], k: usize) -> Whole
-    requires { NestOk nest.now counts.now (suc k) }
-    ensures { (result.value ≡ (range_at nest.now counts.now k).greatest) × (size result.value ≤ 32767) }
-{
-    extreme_value(Side::Upper, nest, counts, k)
-}
-
-// The one or the other. Most limits have coefficients of few loops, and it goes only into these: the range of another stays 0 to 0, since its
-// coefficients are 0.
-#[cycle(loop_values)]
-fn extreme_value(side: Side, nest: &[i16], counts: &[usize], k: usize) -> Whole
-    requires { NestOk nest.now counts.now (suc k) }
-    ensures { (result.value ≡ end_of side (range_at nest.now counts.now k)) × (size result.value ≤ 32767) }
-{
-    let place = side.place(k);
+    let place = Side::Lower.place(k);
     let n = counts[place];
     let mut outer = [NO_RANGE; LOOPS];
     for i in 0..k {
@@ -189,7 +171,29 @@ fn extreme_value(side: Side, nest: &[i16], counts: &[usize], k: usize) -> Whole
             };
         }
     }
-    loop_extreme(side, nest, counts, k, outer)
+    loop_extreme(Side::Lower, nest, counts, k, outer)
+}
+
+// The greatest value of loop k.
+#[cycle(loop_values)]
+pub fn greatest_value(nest: &[i16], counts: &[usize], k: usize) -> Whole
+    requires { NestOk nest.now counts.now (suc k) }
+    ensures { (result.value ≡ (range_at nest.now counts.now k).greatest) × (size result.value ≤ 32767) }
+{
+    let place = Side::Upper.place(k);
+    let n = counts[place];
+    let mut outer = [NO_RANGE; LOOPS];
+    for i in 0..k {
+        if has_coefficient(nest, place * 16, n, i) {
+            let least = least_value(nest, counts, i);
+            let greatest = greatest_value(nest, counts, i);
+            outer[i] = Range {
+                least: least.value,
+                greatest: greatest.value,
+            };
+        }
+    }
+    loop_extreme(Side::Upper, nest, counts, k, outer)
 }
 
 // The ranges of the first n loops.
