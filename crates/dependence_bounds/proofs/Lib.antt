@@ -1,4 +1,5 @@
 -- Laws that the crate's contracts need.
+pub mod CopyLaws
 pub mod PairLaws
 pub mod FewLaws
 pub mod PartLaws

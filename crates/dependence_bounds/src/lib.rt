@@ -129,6 +129,16 @@ fn mark_if_few(nest: &FlatNest, marks: &mut [bool]) -> bool
     true
 }
 
+// Writes over one slice what another one of the same length holds. Not by `copy_from_slice`: the archive would need `memmove` from the C library.
+fn copy_words(out: &mut [i16], from: &[i16])
+    requires { length out.old ≡ length from.now }
+    ensures { out.new ≡ from.now }
+{
+    for i in 0..from.len() {
+        out[i] = from[i];
+    }
+}
+
 fn with_counts(header: Header, counts: [usize; SIDES]) -> Header
     ensures { Recounted header counts result }
 {
@@ -144,7 +154,7 @@ fn mark_part(nest: &FlatNest, ranges: [Range; LOOPS], part: Part, marks: &mut [b
     let depth = nest.header.depth;
     let mut counts = nest.header.counts;
     let mut few = [0i16; NEST_ROOM];
-    few.copy_from_slice(nest.limits);
+    copy_words(&mut few, nest.limits);
     dependence_subspace::restrict_nest(&mut few, &mut counts, depth, ranges, part);
     let header = with_counts(*nest.header, counts);
     let narrow = FlatNest {
@@ -169,7 +179,7 @@ fn mark_admitted(nest: &FlatNest, marks: &mut [bool]) -> bool
     if mark_part(nest, ranges, Part::Corner, marks) {
         return true;
     }
-    marks.fill(false);
+    dependence_marks::clear_marks(marks);
     mark_part(nest, ranges, Part::Centre, marks)
 }
 

@@ -54,7 +54,7 @@ pub fn find_many(nest: &FlatNest, marks: &mut [bool]) -> Result<(), Refusal>
     ensures { Finds (flat nest.now) result marks.new }
 {
     nest_admission::admit_many(nest)?;
-    marks.fill(false);
+    dependence_marks::clear_marks(marks);
     dependence_marks::mark_many(nest, marks);
     Ok(())
 }

@@ -1,7 +1,7 @@
 // The lines of a nest's listing, found in its flat form: a mark for each that there could be; and the set of their vectors.
 #![tactic(auto)]
 
-ghost use Rattle.std.specs.Prelude.{◌≡◌, ◌*◌, ◌≤◌, length, replicate};
+ghost use Rattle.std.specs.Prelude.{◌≡◌, false, ℕ, ◌*◌, ◌≤◌, length, get_or, replicate};
 ghost use Rattle.lists.specs.Parts.{put};
 ghost use Rattle.model.specs.Grammar.{ticket_loops, most_points, most_numbers};
 ghost use Rattle.model.specs.Directions.{vector_count};
@@ -139,6 +139,15 @@ pub fn mark_many(nest: &FlatNest, marks: &mut [bool])
         mark_in_room::<MORE_NUMBERS>(nest, &points, count, marks);
     } else {
         mark_in_room::<NUMBERS>(nest, &points, count, marks);
+    }
+}
+
+// Takes all marks away. Not by `fill`: a must-fail edit of this loop leaves every other mark.
+pub fn clear_marks(marks: &mut [bool])
+    ensures { ((j : ℕ) → get_or marks.new j false ≡ false) × (length marks.new ≡ length marks.old) }
+{
+    for j in 0..marks.len() {
+        marks[j] = false;
     }
 }
 
