@@ -1,11 +1,12 @@
 // A side that is filled limit by limit, in wide numbers. n is the number of loops outside.
 #![tactic(auto)]
 
-ghost use Rattle.std.specs.Prelude.{◌≡◌, [], ◌∷◌, ℕ, ◌+◌, ◌*◌, ◌<◌, ◌≤◌, length, is_ok};
+ghost use Rattle.std.specs.Prelude.{◌≡◌, [], ◌∷◌, ℕ, ◌+◌, ◌*◌, ◌<◌, ◌≤◌, length, take, drop, is_ok};
 ghost use Rattle.lists.specs.Parts.{put};
-ghost use Rattle.lists.specs.Tests.{any};
+ghost use Rattle.lists.specs.Tests.{any, same_by};
+ghost use Rattle.integers.specs.Sign.{eq_z};
 ghost use Rattle.model.specs.Encode.{limit_words};
-ghost use Rattle.model.specs.Grammar.{most_limits, row_room};
+ghost use Rattle.model.specs.Grammar.{most_limits, most_loops, row_room};
 ghost use Rattle.nest_flat.specs.Flat.{limit_at, limits_at};
 ghost use Rattle.step_limits.specs.Makes.{LimitIs};
 ghost use Rattle.step_exchange_sides.specs.Filling.{Adds, WideIn, SameIn, PushIn, HeldIn, PutIn, SidePut};
@@ -17,6 +18,19 @@ use nest_rows::NumberOutOfRange;
 use ticket_loops::Limit;
 
 // ---- equal limits
+
+// A row, and the numbers from place `at` on. Not by `==` of slices, which is a call: steps on nests of many limits take a third more time with it.
+fn same_row(xs: [i32; LOOPS], numbers: &[i32], at: usize, n: usize) -> bool
+    requires { (n ≤ most_loops) × (at + n ≤ length numbers.now) }
+    ensures { result ≡ same_by eq_z (take n xs) (take n (drop at numbers.now)) }
+{
+    for k in 0..n {
+        if xs[k] != numbers[at + k] {
+            return false;
+        }
+    }
+    true
+}
 
 // Limit k of a side under way.
 fn same_limit(x: Limit, filling: &[i32], k: usize, n: usize) -> bool
@@ -30,7 +44,7 @@ fn same_limit(x: Limit, filling: &[i32], k: usize, n: usize) -> bool
     if x.constant != filling[at + 1] {
         return false;
     }
-    x.coefficients[..n] == filling[at + 2..at + 2 + n]
+    same_row(x.coefficients, filling, at + 2, n)
 }
 
 fn has_limit(filling: &[i32], count: usize, x: Limit, n: usize) -> bool

@@ -1,14 +1,14 @@
 use mathlib.Core.Path.{◌≡◌, sym, ap, ◌∙◌}
-use Prim.Native.Nat.{◌+◌, ◌*◌, ◌-◌}
+use Prim.Native.Nat.{◌+◌, ◌*◌}
 use native.Mathlib.Omega.{arith}
 use lib.IntN.{pos}
-use lib.ListN.{get_or, take, drop}
+use lib.ListN.{get_or}
 use mir.Syntax.{w32}
 use mir.Val.{to_z, of_z}
 use mir.Facts.{of_z-to_z}
 use Rattle.step_limits.proofs.NumberLaws.{fits_below}
 use Rattle.step_exchange_sides.proofs.PutLaws.{read_wide}
-use Rattle.step_exchange_sides.proofs.SameLaws.{is, is-not, slices-same, multiplier-differs, constant-differs, rows-decide}
+use Rattle.step_exchange_sides.proofs.SameLaws.{is, is-not, multiplier-differs, constant-differs, rows-decide}
 use borrow.Author.Rules.{rules}
 use Rattle.step_exchange_sides.proofs.same_limit.Goals as goal
 
@@ -38,10 +38,7 @@ returns c =
     let m = c.args.x.multiplier in
     let back : to_z w32 (of_z w32 z) ≡ z = search rules in
     let back-2 : to_z w32 (of_z w32 y) ≡ y = search rules in
-    let at = c.args.k * 8 + 2 in
     let read : to_z w32 (of_z w32 c.args.x.constant) ≡ c.args.x.constant = search rules in
-    let wide : at + c.args.n - at ≡ c.args.n = omega arith in
-    rw wide at c.eq.ensures ∙ slices-same (take c.args.n c.args.x.coefficients) (take c.args.n (drop at c.args.filling.now))
-    ∙ sym (rows-decide c.args.n c.args.x c.args.filling.now c.args.k c.requires.natural
+    c.same_row.ensures ∙ sym (rows-decide c.args.n c.args.x c.args.filling.now c.args.k c.requires.natural
     (is (pos m) z (sym (read_wide m c.requires.wide.multiplier) ∙ ap (to_z w32) c.if-x-filling.false ∙ back))
     (is c.args.x.constant y (sym read ∙ ap (to_z w32) c.if-x-filling-2.false ∙ back-2)))
