@@ -57,7 +57,7 @@ module _ (s : List ℤ) (k : ℕ) (L : Loop) (words : length s ≡ nest_room) (s
   loop-front m g = let h = ranges.few-lower.high in
       high-front m (omega arith) ∙ lay-front k (omega arith) s (k * 32) L.lower m (omega arith) sized.0 (omega arith)
 
-  loop-within : Within 32767 s → Within 32767 (lay_loop s k L)
+  pub loop-within : Within 32767 s → Within 32767 (lay_loop s k L)
   unfolding lay_loop
   loop-within w = lay-within (lay_limits s (k * 32) L.lower) (k * 32 + 16) L.upper ranges.upper
       (lay-within s (k * 32) L.lower ranges.lower w)
@@ -87,7 +87,7 @@ module _ (s : List ℤ) (k : ℕ) (L : Loop) (words : length s ≡ nest_room) (s
       positive-laid k (omega arith) (lay_limits s (k * 32) L.lower) (k * 32 + 16) L.upper sized.1 ranges.upper (omega arith)
 
 module _ (c : List ℕ) (k : ℕ) (L : Loop) where
-  count-length : length (lay_count c k L) ≡ length c
+  pub count-length : length (lay_count c k L) ≡ length c
   unfolding lay_count
   count-length = simp length-set
 

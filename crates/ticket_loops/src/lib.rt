@@ -33,6 +33,7 @@ pub struct Limit {
 }
 
 // A constant and one coefficient for each of n loops.
+#[inline(always)]
 pub fn read_affine(words: &mut Words, n: usize) -> Result<Affine, Refusal>
     requires { n ≤ most_loops }
     ensures reads { Reads (affine_of n) (subscript n) words.old result words.new }
