@@ -12,7 +12,7 @@ ghost use Rattle.ticket_arrays.specs.Arrays.{shape_of, ReadsArrays};
 pub mod shapes;
 
 use model::{ARRAY_ROOM, ARRAYS, DIMENSIONS, ELEMENTS, EXTENT};
-use shapes::Shape;
+pub use shapes::Shape;
 use ticket_refusals::Refusal;
 use ticket_words::Words;
 

@@ -5,9 +5,11 @@ use mathlib.Core.List.{List, [], ◌∷◌, ◌++◌, map, flat_map, append_asso
 use Prim.Native.Nat.{ℕ, zero, suc, ◌+◌, ◌-◌, ◌/◌, ◌%◌, ◌≤◌, ◌<◌}
 use native.Mathlib.Nat.{add-zero, zero-add, add-suc, suc-add}
 use native.Mathlib.Omega.{arith}
-use lib.IntN.{ℤ, pos}
+use lib.IntN.{ℤ, pos, negsuc}
 use lib.ListN.{length, get_or, take, drop, length-append, length-map}
 use lib.Seq.{drop-cons, drop-drop, take-length}
+use mir.Syntax.{w16}
+use mir.Val.{of_z}
 use borrow.Rule.Slice.PartMut.{put_mid}
 use Rattle.std.proofs.lemmas.List.{get_or-map}
 use Rattle.lists.specs.Parts.{put}
@@ -134,6 +136,12 @@ module _ {f : ℕ → List ℤ} {o : List ℕ} {at j n : ℕ} {ws : List ℤ} (e
 
 -- ---- one word
 
+-- numbers below 0 are the upper half of the 16-bit numbers
+pub bits-same : (w : ℤ) → of_z w16 w ≡ bits w
+unfolding bits
+bits-same (pos n) = refl
+bits-same (negsuc n) = omega arith
+
 -- its two bytes in the place of those two
 pub word-written : (o : List ℕ) (at : ℕ) (w : ℤ) (v : ℕ) (ys bs : List ℕ) → v ≡ bits w → v < 65536
     → bs ≡ v % 256 ∷ (v / 256) % 256 ∷ [] → ys ≡ bs
@@ -146,7 +154,7 @@ word-written o at w v ys bs q h e f = let d : at + 2 - at ≡ 2 = omega arith in
 
 -- ---- words of a slice
 
-words-spans : (l : List ℤ) (i n : ℕ) → i + n ≤ length l → take n (drop i l) ≡ spans (λ k. get_or l k (pos 0) ∷ []) i n
+pub words-spans : (l : List ℤ) (i n : ℕ) → i + n ≤ length l → take n (drop i l) ≡ spans (λ k. get_or l k (pos 0) ∷ []) i n
 unfolding spans
 words-spans l i zero h = refl
 words-spans l i (suc n) h =

@@ -28,6 +28,14 @@ impl Word for i16 {
     }
 }
 
+impl Word for i32 {
+    ghost number = { λ w. w };
+
+    fn to_bits(self) -> u16 {
+        (self as i16).cast_unsigned()
+    }
+}
+
 impl Word for usize {
     ghost number = { pos };
 

@@ -38,7 +38,7 @@ module _ (e : List ℕ) (p : ArraysIn e) where
   array-in : (i : ℕ) → i < length e / 4 → ArrayIn e i
   array-in i h = record { few = p.few; there = h; dimensions = p.dimensions; extents = p.extents }
 
-  array-dimensions : (i : ℕ) → i < length e / 4 → get_or e (i * 4) 0 ≡ length (extents (arrays_of e) i)
+  pub array-dimensions : (i : ℕ) → i < length e / 4 → get_or e (i * 4) 0 ≡ length (extents (arrays_of e) i)
   unfolding extents_at
   array-dimensions i h =
       let d = p.dimensions i h in
@@ -105,7 +105,7 @@ access_laid k w w' o a h e = record { words = e; named = set-is-put o k a.array 
 
 -- ---- accesses one after another
 
-lay-append : (s : List ℤ) (k : ℕ) (as' bs : List Model.Access)
+pub lay-append : (s : List ℤ) (k : ℕ) (as' bs : List Model.Access)
     → lay_accesses s k (as' ++ bs) ≡ lay_accesses (lay_accesses s k as') (k + length as') bs
 unfolding lay_accesses
 lay-append s k [] bs = ap (λ n. lay_accesses s n bs) (sym (add-zero k))

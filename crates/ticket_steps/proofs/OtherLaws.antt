@@ -87,7 +87,7 @@ module _ (step : ℕ) (f g : ℤ → Bool) (whole : (w : ℤ) → f w ≡ true �
     further-fine t = let r = found in judged-word step both b k r.0 r.1 r.2 ∙ good-word step both b k r.0 r.1 (rw (r.3, r.4, t) refl)
         ∙ ap₂ (λ (x : ℤ) i. accepted (record { value = nat_abs x; next = i })) r.4 r.5
 
-between-whole : (m : ℕ) (w : ℤ) → between (pos 1) (pos m) w ≡ true → w ≡ pos (nat_abs w)
+pub between-whole : (m : ℕ) (w : ℤ) → between (pos 1) (pos m) w ≡ true → w ≡ pos (nat_abs w)
 unfolding between
 between-whole m (pos n) e = refl
 between-whole m (negsuc n) e = absurd (subst T (sym e) tt)

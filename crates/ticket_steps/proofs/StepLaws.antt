@@ -52,7 +52,7 @@ module _ (a m : ℕ) (low : 1 ≤ a) (high : a ≤ m) where
       and_intro (leb 1 x && leb x m) (eqb x (suc a)) (and_intro (leb 1 x) (leb x m) (le_t 1 x (omega arith)) (le_t x m (omega arith)))
       (true-T (eqb x (suc a)) (eq-eqb x (suc a) (omega arith)))
 
-  exchange-test : (w : ℤ) → between (pos 1) (pos m) w && eq_z w (pos (suc a)) ≡ between (pos (a + 1)) (pos (min m (a + 1))) w
+  pub exchange-test : (w : ℤ) → between (pos 1) (pos m) w && eq_z w (pos (suc a)) ≡ between (pos (a + 1)) (pos (min m (a + 1))) w
   unfolding between
   exchange-test (pos x) = T-same _ _ (exchange-into x) (exchange-from x)
   exchange-test (negsuc x) = refl

@@ -53,7 +53,7 @@ pub fn read_reversal(words: &mut Words, number: usize, depth: usize) -> Result<S
 }
 
 // The greatest factor of a skew, on either side of 0.
-pub const MOST_FACTOR: u32 = 1;
+pub const MOST_FACTOR: u16 = 1;
 
 // The factor of a skew, which is not 0.
 pub fn read_factor(words: &mut Words) -> Result<i32, Refusal>
@@ -66,7 +66,7 @@ pub fn read_factor(words: &mut Words) -> Result<i32, Refusal>
     if size == 0 {
         return Err(Refusal::WordOutOfRange(at));
     }
-    if MOST_FACTOR < size {
+    if u32::from(MOST_FACTOR) < size {
         return Err(Refusal::WordOutOfRange(at));
     }
     Ok(c)

@@ -18,8 +18,8 @@ returns-then-size-eq0-clause-reads c =
     let s = c.unsigned_abs-size.ensures.value ∙ ap nat_abs z in
     factor-zero c.in_ok-c.ensures (omega arith)
 
-pub returns-then-size-gt-MOST_FACTOR-clause-reads : goal.returns-then-size-gt-MOST_FACTOR-clause-reads
-returns-then-size-gt-MOST_FACTOR-clause-reads c =
+pub returns-then-from-size-clause-reads : goal.returns-then-from-size-clause-reads
+returns-then-from-size-clause-reads c =
     let z : to_z w32 (of_z w32 c.in_ok-c.c) ≡ c.in_ok-c.c = search rules in
     let s = c.unsigned_abs-size.ensures.value ∙ ap nat_abs z in
     factor-far c.in_ok-c.ensures (omega arith)
@@ -28,4 +28,4 @@ pub returns-clause-reads : goal.returns-clause-reads
 returns-clause-reads c =
     let z : to_z w32 (of_z w32 c.in_ok-c.c) ≡ c.in_ok-c.c = search rules in
     let s = c.unsigned_abs-size.ensures.value ∙ ap nat_abs z in
-    factor-read c.in_ok-c.ensures _ z (λ n. omega arith) (omega arith)
+    factor-read c.in_ok-c.ensures _ (cc) (λ n. omega arith) (omega arith)
