@@ -5,39 +5,63 @@
 ghost use Rattle.std.specs.Prelude.{pos, ◌<ℤ◌};
 
 use integers::{ceil_div, floor_div, sign_of};
-use std::io;
+
+const STDOUT: i32 = 1;
+
+// Writes n. Not by `println!`, which rests on more of the C library, and whose caller would have to say what becomes of an output that cannot be
+// written: here it changes nothing.
+fn print_signed(n: i64) {
+    if n < 0 {
+        io::write_all(STDOUT, b"-");
+    }
+    io::print_decimal(STDOUT, n.unsigned_abs());
+}
+
+// Writes two numbers, with a blank behind each.
+fn print_two(a: i64, b: i64) {
+    print_signed(a);
+    io::write_all(STDOUT, b" ");
+    print_signed(b);
+    io::write_all(STDOUT, b" ");
+}
 
 // Writes one line of the table.
-fn print_line(rt: &impl Print, a: i64, b: i64) -> io::Result<()>
+fn print_line(a: i64, b: i64)
     requires { pos 0 <ℤ b }
 {
-    println!(rt; "{a} {b} {} {}", floor_div(a, b), ceil_div(a, b))
+    print_two(a, b);
+    print_signed(floor_div(a, b));
+    io::write_all(STDOUT, b" ");
+    print_signed(ceil_div(a, b));
+    io::write_all(STDOUT, b"\n");
 }
 
 // Writes one line of the signs.
-fn print_sign(rt: &impl Print, a: i64, b: i64) -> io::Result<()> {
-    println!(rt; "{a} {b} {}", sign_of(a, b))
+fn print_sign(a: i64, b: i64) {
+    print_two(a, b);
+    print_signed(sign_of(a, b));
+    io::write_all(STDOUT, b"\n");
 }
 
 // At the ends of 64 bits, where the difference does not fit, and around zero.
-fn print_signs(rt: &impl Print) -> io::Result<()> {
-    print_sign(rt, i64::MIN, i64::MAX)?;
-    print_sign(rt, i64::MAX, i64::MIN)?;
-    print_sign(rt, i64::MIN, i64::MIN)?;
-    print_sign(rt, i64::MAX, i64::MAX)?;
-    print_sign(rt, 0, i64::MIN)?;
-    print_sign(rt, i64::MIN, 0)?;
-    print_sign(rt, 0, i64::MAX)?;
-    print_sign(rt, -1, 0)?;
-    print_sign(rt, 0, 0)?;
-    print_sign(rt, 1, 0)
+fn print_signs() {
+    print_sign(i64::MIN, i64::MAX);
+    print_sign(i64::MAX, i64::MIN);
+    print_sign(i64::MIN, i64::MIN);
+    print_sign(i64::MAX, i64::MAX);
+    print_sign(0, i64::MIN);
+    print_sign(i64::MIN, 0);
+    print_sign(0, i64::MAX);
+    print_sign(-1, 0);
+    print_sign(0, 0);
+    print_sign(1, 0);
 }
 
-fn main(rt: HostRuntime) -> io::Result<()> {
+fn main() {
     for a in -9..10 {
         for b in 1..5 {
-            print_line(&rt, a, b)?;
+            print_line(a, b);
         }
     }
-    print_signs(&rt)
+    print_signs();
 }
