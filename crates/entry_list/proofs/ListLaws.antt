@@ -63,6 +63,15 @@ module _ (t o e : List ℕ) (r : Option ℕ) (w : Written t o e r) where
 
 -- ---- the listing of an admitted nest
 
+-- no listing is empty: there is the line of its counts
+pub never-empty : (N : Nest) → 0 < length (listing N)
+unfolding listing head_text
+never-empty N =
+    let a = decimal (length N.loops) in
+    let b = decimal (length (iterations N.loops)) ++ (32 ∷ (decimal (length (lines_of N)) ++ (10 ∷ []))) in
+    let h = length-append (a ++ (32 ∷ b)) (flat_map line_text (lines_of N)) in
+    let g = length-append a (32 ∷ b) in omega arith
+
 module _ (P : FlatNest) (n : ℕ) (marks : List Bool) (h : Listable P n marks) (o e : List ℕ) (r : Option ℕ)
     (w : Written (text marks P.statements P.depth n) o e r) where
   whole : Written (listing (nest_of P)) o e r

@@ -56,31 +56,41 @@ plus-fits : (s k x : ℤ) → (size s ≤ 36028797018963968) × (size k ≤ 2147
 plus-fits s k x h = let p = size-mul k x h.1 h.2 in (sfits (omega arith), sfits (omega (arith, size-add s (k *ℤ x))))
 
 module _ {e : ℤ} {cs xs : List ℤ} {i : ℕ} {s : ℤ} (g : SumTo e cs xs i s) where
-  coefficient-size : size (get_or cs i (pos 0)) ≤ 2147483648
-  coefficient-size = within-at 2147483648 cs g.lent.coefficients i
+  module _ (k : ℕ) where
+    coefficient-size : size (get_or cs k (pos 0)) ≤ 2147483648
+    coefficient-size = within-at 2147483648 cs g.lent.coefficients k
 
-  index-size : size (get_or xs i (pos 0)) ≤ 1048576
-  index-size = within-at 1048576 xs g.lent.indices i
+    index-size : size (get_or xs k (pos 0)) ≤ 1048576
+    index-size = within-at 1048576 xs g.lent.indices k
 
-  -- what is read back
-  read-coefficient : to_z w64 (of_z w64 (get_or cs i (pos 0))) ≡ get_or cs i (pos 0)
-  read-coefficient = let s = coefficient-size in back (sfits (omega arith))
+    -- what is read back
+    read-coefficient : to_z w64 (of_z w64 (get_or cs k (pos 0))) ≡ get_or cs k (pos 0)
+    read-coefficient = let s = coefficient-size in back (sfits (omega arith))
 
-  read-index : to_z w64 (of_z w64 (get_or xs i (pos 0))) ≡ get_or xs i (pos 0)
-  read-index = let s = index-size in back (sfits (omega arith))
+    read-index : to_z w64 (of_z w64 (get_or xs k (pos 0))) ≡ get_or xs k (pos 0)
+    read-index = let s = index-size in back (sfits (omega arith))
 
-  plus-in : (size s ≤ 36028797018963968) × (size (to_z w64 (of_z w64 (get_or cs i (pos 0)))) ≤ 2147483648)
-      × (size (to_z w64 (of_z w64 (get_or xs i (pos 0)))) ≤ 1048576)
-  plus-in = (rw g.total (sum-size e cs xs g.lent i), rw read-coefficient coefficient-size, rw read-index index-size)
+    plus-in : (size s ≤ 36028797018963968) × (size (to_z w64 (of_z w64 (get_or cs k (pos 0)))) ≤ 2147483648)
+        × (size (to_z w64 (of_z w64 (get_or xs k (pos 0)))) ≤ 1048576)
+    plus-in = (rw g.total (sum-size e cs xs g.lent i), rw read-coefficient coefficient-size, rw read-index index-size)
 
-  -- the product fits 64 bits, and so does the sum with it
+    -- the product at any place fits 64 bits, and so does the sum with it
+    pub product-fits : SFits w64 (to_z w64 (of_z w64 (get_or cs k (pos 0))) *ℤ to_z w64 (of_z w64 (get_or xs k (pos 0))))
+        × SFits w64 (s +ℤ to_z w64 (of_z w64 (get_or cs k (pos 0))) *ℤ to_z w64 (of_z w64 (get_or xs k (pos 0))))
+    product-fits = plus-fits s (to_z w64 (of_z w64 (get_or cs k (pos 0)))) (to_z w64 (of_z w64 (get_or xs k (pos 0)))) plus-in
+
+    -- as the machine adds it
+    pub sum-fits : SFits w64 (s +ℤ to_z w64 (of_z w64 (to_z w64 (of_z w64 (get_or cs k (pos 0))) *ℤ to_z w64 (of_z w64 (get_or xs k (pos 0))))))
+    sum-fits = rw (back product-fits.0) product-fits.1
+
+  -- those of the next place
   pub term-fits : SFits w64 (to_z w64 (of_z w64 (get_or cs i (pos 0))) *ℤ to_z w64 (of_z w64 (get_or xs i (pos 0))))
       × SFits w64 (s +ℤ to_z w64 (of_z w64 (get_or cs i (pos 0))) *ℤ to_z w64 (of_z w64 (get_or xs i (pos 0))))
-  term-fits = plus-fits s (to_z w64 (of_z w64 (get_or cs i (pos 0)))) (to_z w64 (of_z w64 (get_or xs i (pos 0)))) plus-in
+  term-fits = product-fits i
 
   pub sum_more : {r : ℤ} → i < length cs → r ≡ s +ℤ to_z w64 (of_z w64 (get_or cs i (pos 0))) *ℤ to_z w64 (of_z w64 (get_or xs i (pos 0)))
       → SumTo e cs xs (i + 1) r
-  sum_more k t = record { lent = g.lent; total = t ∙ rw (read-coefficient, read-index, g.total) (next-product e cs xs g.lent i k) }
+  sum_more k t = record { lent = g.lent; total = t ∙ rw (read-coefficient i, read-index i, g.total) (next-product e cs xs g.lent i k) }
 
 -- ---- among words
 

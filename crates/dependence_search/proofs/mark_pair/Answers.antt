@@ -3,6 +3,10 @@ use Rattle.dependence_search.specs.Nests.{flat_of}
 use Rattle.dependence_search.proofs.FlatLaws.{ready, searchable, numbers-below, pair-sets, reads-set-none}
 use Rattle.dependence_search.proofs.mark_pair.Goals as goal
 
+pub returns-in_default : goal.returns-in_default
+returns-in_default c = let n = c.args.nest.now in let F = flat_of n in let m = c.args.marks.now in
+    (reads-set-none F m (ready F m n.flat_in n.rising c.requires.0) c.args.a c.args.b c.in_default.ensures, c.requires.3.clear)
+
 pub search-requires : goal.search-requires
 search-requires c = let n = c.args.nest.now in let F = flat_of n in let m = c.args.marks.now in
     let ok = ready F m n.flat_in n.rising c.requires.0 in
@@ -19,7 +23,3 @@ returns-in-Some c = let n = c.args.nest.now in let F = flat_of n in let m = c.ar
       pair-sets F m ok c.search.new.marks c.args.a c.args.b c.in-Some.k c.block.result c.requires.1 k.0 k.1 c.block.ensures.0 e,
       c.search.ensures.1,
     )
-
-pub returns-in_default : goal.returns-in_default
-returns-in_default c = let n = c.args.nest.now in let F = flat_of n in let m = c.args.marks.now in
-    (reads-set-none F m (ready F m n.flat_in n.rising c.requires.0) c.args.a c.args.b c.in_default.ensures, c.requires.3.clear)

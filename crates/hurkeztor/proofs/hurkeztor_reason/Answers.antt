@@ -1,10 +1,17 @@
-use Rattle.std.proofs.Common.{◌≡◌, refl, sym, ap, ◌∙◌, ℕ, ◌+◌, [], length, get_or, min, arith, add-one}
+use Rattle.std.proofs.Common.{◌≡◌, refl, sym, ap, ◌∙◌, ℕ, ◌+◌, ◌<◌, List, [], length, get_or, min, arith, add-one}
 use lib.ListN.{set}
+use Rattle.entry_reason.specs.declared.Pair.{Pair}
 use Rattle.entry_reason.specs.Finders.{no_pair}
 use Rattle.entry_reason.specs.Records.{packed_reason, records_in, found_in}
 use Rattle.entry_reason.proofs.RecordLaws.{reasoned-list, reasoned-answer}
 use Rattle.hurkeztor.proofs.FillLaws.{mixed, set-mixed, all_in}
 use Rattle.hurkeztor.proofs.hurkeztor_reason.Goals as goal
+
+-- one record more, at the place that is written
+written : (k j : ℕ) → j ≡ k → (rs ys zs : List Pair) (d x : Pair) → zs ≡ mixed k rs ys → k < length rs → k < length ys → x ≡ get_or rs k d
+    → set zs j x ≡ mixed (k + 1) rs ys
+written k j at rs ys zs d x e h g p =
+    ap (λ (i : ℕ). set zs i x) at ∙ ap (λ us. set us k x) e ∙ set-mixed k rs ys d x h g p ∙ ap (λ (i : ℕ). mixed i rs ys) (sym (add-one k))
 
 pub loop-k-init : goal.loop-k-init
 loop-k-init c = let e = c.begin-f.ensures in
@@ -32,9 +39,7 @@ loop-k-preserved c =
       given = e.given ∙ ap (◌+ 1) i.given;
       answer = e.answer ∙ i.answer;
       ready = e.ready;
-      list = ap (λ zs. set zs k c.next-f.result.pair) i.list
-          ∙ set-mixed k (found_in b) ys no_pair c.next-f.result.pair (omega arith) (omega arith) pair
-          ∙ ap (λ (j : ℕ). mixed j (found_in b) ys) (sym (add-one k));
+      list = written k _ (omega arith) (found_in b) ys _ no_pair c.next-f.result.pair i.list (omega arith) (omega arith) pair;
     }
 
 pub returns : goal.returns

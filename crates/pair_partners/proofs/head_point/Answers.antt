@@ -48,9 +48,9 @@ loop-k-preserved c =
           let b = c.requires.0.below l.k a.x t c.requires.1 in let d = w.number.ensures in let e = w.from.ensures in
           subst kept (sym w.heads-is) (
             omega arith,
-            length-set l.heads w.from.result a.x ∙ i,
-            heading-more n.numbers.now n.writes.now n.count a.all a.heads.now l.heads a.x l.k w.from.result a.x i
-                (omega arith) (e ∙ d) refl counts l.invariant.2,
+            length-set l.heads w.from.result _ ∙ i,
+            heading-more n.numbers.now n.writes.now n.count a.all a.heads.now l.heads a.x l.k w.from.result _ i
+                (omega arith) (e ∙ d) (omega arith) counts l.invariant.2,
           )
       | else-all+else-nest-k w ↦ subst kept (sym w.heads-is) (
         omega arith,
